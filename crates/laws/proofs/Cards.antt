@@ -1,0 +1,59 @@
+-- The twelve bench cards that document 01 marks *, jointly, over the definitions: antt computes each.
+use mathlib.Core.Path.{_≡_, refl}
+use mathlib.Core.Bool.{true, false}
+use mathlib.Core.Option.{none}
+use mathlib.Core.List.{List, [], _∷_}
+use Prim.Native.Nat.{ℕ}
+use lib.Ieee.{Float, binary32, ofBits, toBits, add, sub, mul, div, neg, lt, le, isNan}
+use Rattle.geometry.specs.declared.segment.Point.{Point}
+use Rattle.geometry.specs.declared.gap.Direction.the-variants.{Backward, Both}
+use Rattle.model.specs.Claim.{repairedTables}
+use Rattle.model.specs.Calls.{wrote, rulesTo5, laneRules, repairLengths, repairCounts, putRepaired, warningRow, repairContent, repairRules, repairRefusal, repairCall, listLengths, putLists, listContent, successionRules, successionRefusal, successionCall, gapWords, gapContent, gapRules, gapRefusal, gapCall, reversalLengths, reversalCounts, putReversed, reversalContent, tableRules, markRules, reversalRules, reversalRefusal, reversalCall}
+use Rattle.model.specs.Gaps.{gapBetween, gapRow, linkGaps}
+use Rattle.model.specs.Repair.{linked, putTarget, vacantEnd, swapped, backAt, roadOf, meets, inVirtual, withoutAlong, backEnd, missingEnd, missingLink, meetingEnd, runsBack, backOf, reversed, repairRoads, repairJunction, startRoads, repair, warnOne, warnings}
+use Rattle.model.specs.Reversal.{negated, mirror, mirrored, reverseTarget, reverseRoad, reversePair, reverseConnection, reverseJunction, reverseWarning, roadward, leadsTo, reverseLink, reverseLane, reverseMap, reverseEdged}
+use Rattle.model.specs.Rows.{table, written}
+use Rattle.model.specs.Rules.{sized, mapSized, lanesSized, edgesSized, listsSized, targetWorded, roadWorded, junctionWorded, connectionWorded, linkWorded, laneWorded, mapWorded, lanesWorded, namesOnce, sectionPartsFit, sectionsAscend, connectionPartsFit, pairPartsFit, idsOnce, listedIn, sameKey, placesOnce, edgesEven, borne, listsFit, marksFit, laneFine, pairFine, numbersFine, namesTwice, namesDirectTwice, oneEndedIn}
+use Rattle.model.specs.Sequence.{Call, answers, run, withReversed, reversedRows, after, reversedOnceBy, reversedBy, fed, withRepaired, fromRepaired, found}
+use Rattle.model.specs.Succession.{runsAway, entryId, nextSection, endSection, sectionsOf, standsAt, lookup, lookupAtEnd, throughPairs, throughJunction, junctionOf, exits, successorsOf, findsBack, backLinks, successors, predecessors, successorLists, predecessorLists}
+use Rattle.model.specs.Tables.{Tables, roadIn, roadRow, pairIn, pairRow, connectionIn, connectionRow, junctionIn, junctionRow, laneIn, laneRow, edgeRow, roadsIn, pairsIn, connectionsIn, junctionsIn, lanesIn, mapOf, edgedLanesOf, roadWords, sectionWords, allConnections, allPairs, junctionWords, connectionWords, pairWords, laneWords, edgeWords, tablesOf}
+use Rattle.model.specs.Text.{bytesOf, sameIn, placed}
+use Rattle.geometry.specs.Root.{midpointBelow, midpointAbove, rootBits, rootOf, belowZero}
+use Rattle.geometry.specs.Segment.{distanceOf, minusOf, plusOf, timesOf, dotOf, lengthOf, clampOf, freePlace, placesApart, placesOf, apartOf}
+use Rattle.geometry.specs.Gap.{minOf, leastFrom, gapOf}
+use Rattle.laws.proofs.CardMaps.{apart, bits, noLanes, straight, tablesFor, twoPairs, twoWay}
+
+-- the root of a bit pattern
+abbrev rooted : ℕ → ℕ
+rooted n = toBits binary32 (rootOf (bits n))
+
+abbrev at : ℕ → ℕ → Point
+at x y = record { x = bits x; y = bits y; z = bits 0 }
+
+-- repair accepts the tables, given room; so does succession what repair leaves; and these are the lists
+pub record Gives (t : Tables) (successorOffsets successorIds predecessorOffsets predecessorIds : List ℕ) : Type 0 where
+  pub repaired : repairRefusal t (repairLengths (repairContent t)) ≡ none
+  pub accepted : successionRefusal (repairedTables t) (listLengths (listContent (repairedTables t))) ≡ none
+  pub gives : listContent (repairedTables t) ≡ record { successorOffsets = successorOffsets; successorIds = successorIds; predecessorOffsets = predecessorOffsets; predecessorIds = predecessorIds }
+
+-- road b reversed, with outputs just long enough
+abbrev reversingB : Call
+reversingB = record { marks = 0 ∷ 1 ∷ []; outs = reversalContent (tablesFor straight) (0 ∷ 0 ∷ []) }
+
+pub bench-cards :
+    (rooted 0x4080_0000 ≡ 0x4000_0000)
+    × (rooted 0x4000_0000 ≡ 0x3fb5_04f3)
+    × (rooted 0x0000_0001 ≡ 0x1a35_04f3)
+    × (rooted 0x7f7f_ffff ≡ 0x5f7f_ffff)
+    × (gapCall (apart 0x3dcc_cccd) (0 ∷ 1 ∷ 1 ∷ []) (9 ∷ []) (5 ∷ 6 ∷ 7 ∷ 8 ∷ []) ≡ record { answer = wrote (0 ∷ []); outs = 5 ∷ 6 ∷ 7 ∷ 8 ∷ [] })
+    × (gapCall (apart 0x3dcc_ccce) (0 ∷ 1 ∷ 1 ∷ []) (9 ∷ []) (5 ∷ 6 ∷ 7 ∷ 8 ∷ []) ≡ record { answer = wrote (1 ∷ []); outs = 0 ∷ 1 ∷ 0x3dcc_ccce ∷ 8 ∷ [] })
+    × (toBits binary32 (distanceOf (at 0 0 ∷ at 0 0x4000_0000 ∷ []) (at 0x3e80_0000 0 ∷ at 0x3e80_0000 0x4000_0000 ∷ [])) ≡ 0x3e80_0000)
+    × Gives (tablesFor noLanes) (0 ∷ []) [] (0 ∷ []) []
+    × Gives (tablesFor straight) (0 ∷ 1 ∷ 2 ∷ 2 ∷ []) (3 ∷ 5 ∷ []) (0 ∷ 0 ∷ 1 ∷ 2 ∷ []) (7 ∷ 3 ∷ [])
+    × ((answers (tablesFor straight) (reversingB ∷ []) ≡ wrote (2 ∷ 3 ∷ 0 ∷ 0 ∷ 3 ∷ 3 ∷ []) ∷ [])
+    × Gives (run (tablesFor straight) (reversingB ∷ [])) (0 ∷ 1 ∷ 2 ∷ 2 ∷ []) (3 ∷ 5 ∷ []) (0 ∷ 0 ∷ 1 ∷ 2 ∷ []) (7 ∷ 3 ∷ []))
+    × Gives (tablesFor twoPairs) (0 ∷ 2 ∷ 2 ∷ []) (9 ∷ 9 ∷ []) (0 ∷ 0 ∷ 2 ∷ []) (7 ∷ 7 ∷ [])
+    × (Gives (tablesFor (twoWay Both)) (0 ∷ 1 ∷ 2 ∷ []) (2 ∷ 1 ∷ []) (0 ∷ 1 ∷ 2 ∷ []) (2 ∷ 1 ∷ [])
+    × Gives (tablesFor (twoWay Backward)) (0 ∷ 0 ∷ 0 ∷ []) [] (0 ∷ 0 ∷ 0 ∷ []) [])
+unfolding repairedTables rulesTo5 laneRules repairLengths repairCounts putRepaired warningRow repairContent repairRules repairRefusal repairCall listLengths putLists listContent successionRules successionRefusal successionCall gapWords gapContent gapRules gapRefusal gapCall reversalLengths reversalCounts putReversed reversalContent tableRules markRules reversalRules reversalRefusal reversalCall gapBetween gapRow linkGaps linked putTarget vacantEnd swapped backAt roadOf meets inVirtual withoutAlong backEnd missingEnd missingLink meetingEnd runsBack backOf reversed repairRoads repairJunction startRoads repair warnOne warnings negated mirror mirrored reverseTarget reverseRoad reversePair reverseConnection reverseJunction reverseWarning roadward leadsTo reverseLink reverseLane reverseMap reverseEdged table written sized mapSized lanesSized edgesSized listsSized targetWorded roadWorded junctionWorded connectionWorded linkWorded laneWorded mapWorded lanesWorded namesOnce sectionPartsFit sectionsAscend connectionPartsFit pairPartsFit idsOnce listedIn sameKey placesOnce edgesEven borne listsFit marksFit laneFine pairFine numbersFine namesTwice namesDirectTwice oneEndedIn withReversed reversedRows after reversedOnceBy reversedBy fed withRepaired fromRepaired found runsAway entryId nextSection endSection sectionsOf standsAt lookup lookupAtEnd throughPairs throughJunction junctionOf exits successorsOf findsBack backLinks successors predecessors successorLists predecessorLists roadIn roadRow pairIn pairRow connectionIn connectionRow junctionIn junctionRow laneIn laneRow edgeRow roadsIn pairsIn connectionsIn junctionsIn lanesIn mapOf edgedLanesOf roadWords sectionWords allConnections allPairs junctionWords connectionWords pairWords laneWords edgeWords tablesOf bytesOf sameIn placed midpointBelow midpointAbove rootBits rootOf belowZero minusOf plusOf timesOf dotOf lengthOf clampOf freePlace placesApart placesOf apartOf minOf leastFrom gapOf ofBits toBits add sub mul div neg lt le isNan
+bench-cards = (refl, refl, refl, refl, refl, refl, refl, (record { repaired = refl; accepted = refl; gives = refl }), (record { repaired = refl; accepted = refl; gives = refl }), (refl, (record { repaired = refl; accepted = refl; gives = refl })), (record { repaired = refl; accepted = refl; gives = refl }), ((record { repaired = refl; accepted = refl; gives = refl }), (record { repaired = refl; accepted = refl; gives = refl })))

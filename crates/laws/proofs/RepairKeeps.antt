@@ -1,0 +1,203 @@
+-- What repair keeps: sections, and every target of kind road that is left. 
+use mathlib.Core.Path.{_≡_, refl, sym, _∙_, ap, ap₂, subst}
+use mathlib.Core.Bool.{Bool, true, false, not, _&&_, _||_, cond, true≢false, false≢true}
+use mathlib.Core.Option.{Option, none, some}
+use mathlib.Core.List.{List, [], _∷_, _++_, map}
+use Prim.Native.Nat.{ℕ}
+use Rattle.model.specs.Lists.{amend, bindO, first, mapO, pick}
+use Rattle.model.specs.Records.{Connection, Junction, JunctionKind, Map, Road, Span, Target, common, direct, targetAt, virtual}
+use Rattle.model.specs.Repair.{dropAlong, inVirtual, linkAtEnd, linked, missingEnd, missingLink, missingLinks, putTarget, repair, repairRoads, roadOf, roadsAfter, roadsOver, startRoads, withoutAlong}
+use Rattle.model.specs.Reversal.{roadNamed, roadward}
+use Rattle.model.specs.Succession.{sectionsFrom, sectionsOf}
+use Rattle.laws.proofs.Names.{no-some}
+use Rattle.laws.proofs.RepairReversed.{bareRoad, bareTarget}
+
+-- what is seen of a road by its name
+abbrev seen : (Span → Span → Bool) → List Road → Span → Bool → Option Span
+seen same rs n e = bindO (roadOf same rs n) (λ r. bindO (targetAt e r) roadNamed)
+
+seen-roadward : (same : Span → Span → Bool) (rs : List Road) (n : Span) (e : Bool) → roadward same rs n e ≡ seen same rs n e
+unfolding roadward
+seen-roadward same rs n e = go (roadOf same rs n)
+  where
+    go : (o : Option Road) → bindO (bindO o (targetAt e)) roadNamed ≡ bindO o (λ r. bindO (targetAt e r) roadNamed)
+    go none = refl
+    go (some r) = refl
+
+-- roads that came of others: the same namesJunction and sections, and no new target of kind road
+pub record Came (same : Span → Span → Bool) (rs rs′ : List Road) : Type 0 where
+  pub sections-kept : (n : Span) → sectionsOf same rs′ n ≡ sectionsOf same rs n
+  pub seen-kept : (n x : Span) (e : Bool) → seen same rs′ n e ≡ some x → seen same rs n e ≡ some x
+  pub names-kept : map (λ r. r .name) rs′ ≡ map (λ r. r .name) rs
+  pub listed-kept : map (λ r. r .sections) rs′ ≡ map (λ r. r .sections) rs
+
+pub came-trans : (same : Span → Span → Bool) (a b c : List Road) → Came same a b → Came same b c → Came same a c
+came-trans same a b c h k = record {
+  sections-kept = λ n. k .sections-kept n ∙ h .sections-kept n;
+  seen-kept = λ n x e q. h .seen-kept n x e (k .seen-kept n x e q);
+  names-kept = k .names-kept ∙ h .names-kept;
+  listed-kept = k .listed-kept ∙ h .listed-kept;
+}
+
+came-refl : (same : Span → Span → Bool) (a : List Road) → Came same a a
+came-refl same a = record { sections-kept = λ n. refl; seen-kept = λ n x e q. q; names-kept = refl; listed-kept = refl }
+
+-- one road that came of another
+record Came1 (r r′ : Road) : Type 0 where
+  name-is : r′ .name ≡ r .name
+  sections-is : r′ .sections ≡ r .sections
+  seen-is : (e : Bool) (x : Span) → bindO (targetAt e r′) roadNamed ≡ some x → bindO (targetAt e r) roadNamed ≡ some x
+
+came1-refl : (r : Road) → Came1 r r
+came1-refl r = record { name-is = refl; sections-is = refl; seen-is = λ e x q. q }
+
+data Pointwise : List Road → List Road → Type 0 where
+  none-left : Pointwise [] []
+  one-more : {r r′ : Road} {rs rs′ : List Road} → Came1 r r′ → Pointwise rs rs′ → Pointwise (r ∷ rs) (r′ ∷ rs′)
+
+pointwise-refl : (rs : List Road) → Pointwise rs rs
+pointwise-refl [] = none-left
+pointwise-refl (r ∷ rs) = one-more (came1-refl r) (pointwise-refl rs)
+
+pointwise-map : (f : Road → Road) → ((r : Road) → Came1 r (f r)) → (rs : List Road) → Pointwise rs (map f rs)
+pointwise-map f h [] = none-left
+pointwise-map f h (r ∷ rs) = one-more (h r) (pointwise-map f h rs)
+
+pointwise-amend : (p : Road → Bool) (f : Road → Road) → ((r : Road) → Came1 r (f r)) → (rs : List Road) → Pointwise rs (amend p f rs)
+pointwise-amend p f h [] = none-left
+pointwise-amend p f h (r ∷ rs) = go (p r) (pointwise-amend p f h rs)
+  where
+    go : (b : Bool) → Pointwise rs (amend p f rs) → Pointwise (r ∷ rs) (cond b (f r ∷ rs) (r ∷ amend p f rs))
+    go true ih = one-more (h r) (pointwise-refl rs)
+    go false ih = one-more (came1-refl r) ih
+
+names-point : {rs rs′ : List Road} → Pointwise rs rs′ → map (λ r. r .name) rs′ ≡ map (λ r. r .name) rs
+names-point none-left = refl
+names-point (one-more c t) = ap₂ {C = List Span} (λ x y. x ∷ y) (c .name-is) (names-point t)
+
+listed-point : {rs rs′ : List Road} → Pointwise rs rs′ → map (λ r. r .sections) rs′ ≡ map (λ r. r .sections) rs
+listed-point none-left = refl
+listed-point (one-more c t) = ap₂ {C = List (List ℕ)} (λ x y. x ∷ y) (c .sections-is) (listed-point t)
+
+module _ (same : Span → Span → Bool) where
+  sections-point : (n : Span) {rs rs′ : List Road} → Pointwise rs rs′ → sectionsOf same rs′ n ≡ sectionsOf same rs n
+  unfolding sectionsOf roadOf
+  sections-point n none-left = refl
+  sections-point n (one-more {r = r} {r′ = r′} {rs = rs} {rs′ = rs′} c t) =
+      ap (λ m. sectionsFrom (cond (same m n) (some r′) (first (λ r. same (r .name) n) rs′))) (c .name-is) ∙ go (same (r .name) n) (sections-point n t)
+    where
+      go : (b : Bool) → sectionsFrom (first (λ r. same (r .name) n) rs′) ≡ sectionsFrom (first (λ r. same (r .name) n) rs) →
+          sectionsFrom (cond b (some r′) (first (λ r. same (r .name) n) rs′)) ≡ sectionsFrom (cond b (some r) (first (λ r. same (r .name) n) rs))
+      go true ih = c .sections-is
+      go false ih = ih
+
+  seen-point : (n x : Span) (e : Bool) {rs rs′ : List Road} → Pointwise rs rs′ → seen same rs′ n e ≡ some x → seen same rs n e ≡ some x
+  unfolding roadOf
+  seen-point n x e none-left q = q
+  seen-point n x e (one-more {r = r} {r′ = r′} {rs = rs} {rs′ = rs′} c t) q =
+      go (same (r .name) n) (seen-point n x e t) (sym (ap (λ m. bindO (cond (same m n) (some r′) (first (λ r. same (r .name) n) rs′)) (λ r. bindO (targetAt e r) roadNamed)) (c .name-is)) ∙ q)
+    where
+      obs : Option Road → Option Span
+      obs o = bindO o (λ r. bindO (targetAt e r) roadNamed)
+
+      go : (b : Bool) → (obs (first (λ r. same (r .name) n) rs′) ≡ some x → obs (first (λ r. same (r .name) n) rs) ≡ some x) →
+          obs (cond b (some r′) (first (λ r. same (r .name) n) rs′)) ≡ some x → obs (cond b (some r) (first (λ r. same (r .name) n) rs)) ≡ some x
+      go true ih w = c .seen-is e x w
+      go false ih w = ih w
+
+  came-point : {rs rs′ : List Road} → Pointwise rs rs′ → Came same rs rs′
+  came-point p = record { sections-kept = λ n. sections-point n p; seen-kept = λ n x e. seen-point n x e p; names-kept = names-point p; listed-kept = listed-point p }
+
+  came-put : (j : Span) (e : Bool) (r : Road) → Came1 r (putTarget e (linked j e) r)
+  unfolding putTarget linked
+  came-put j e r = record { name-is = refl; sections-is = refl; seen-is = go e }
+    where
+      L : Target
+      L = record { isJunction = true; name = j; contact = e; given = true; along = false }
+
+      go : (e f : Bool) (x : Span) → bindO (pick f (pick e (some L) (r .predecessor)) (pick e (r .successor) (some L))) roadNamed ≡ some x → bindO (targetAt f r) roadNamed ≡ some x
+      go false false x q = absurd (no-some x q)
+      go false true x q = q
+      go true false x q = q
+      go true true x q = absurd (no-some x q)
+
+  came-along : (js : List Junction) (r : Road) → Came1 r (withoutAlong same js r)
+  unfolding withoutAlong
+  came-along js r = go (inVirtual same js r)
+    where
+      cleared : Road
+      cleared = record { name = r .name; junction = r .junction; predecessor = dropAlong (r .predecessor); successor = dropAlong (r .successor); sections = r .sections }
+
+      less : (o : Option Target) (x : Span) → bindO (dropAlong o) roadNamed ≡ some x → bindO o roadNamed ≡ some x
+      less none x q = q
+      less (some t) x q = pickOne (t .along) q
+        where
+          pickOne : (b : Bool) → bindO (cond b none (some t)) roadNamed ≡ some x → roadNamed t ≡ some x
+          pickOne true q = absurd (no-some x q)
+          pickOne false q = q
+
+      ends : (e : Bool) (x : Span) → bindO (targetAt e cleared) roadNamed ≡ some x → bindO (targetAt e r) roadNamed ≡ some x
+      ends false x q = less (r .predecessor) x q
+      ends true x q = less (r .successor) x q
+
+      go : (b : Bool) → Came1 r (cond b cleared r)
+      go true = record { name-is = refl; sections-is = refl; seen-is = ends }
+      go false = came1-refl r
+
+  came-bare : (r : Road) → Came1 r (bareRoad r)
+  unfolding bareRoad bareTarget
+  came-bare r = record { name-is = refl; sections-is = refl; seen-is = ends }
+    where
+      less : (o : Option Target) (x : Span) → bindO (mapO bareTarget o) roadNamed ≡ some x → bindO o roadNamed ≡ some x
+      less none x q = q
+      less (some t) x q = q
+
+      ends : (e : Bool) (x : Span) → bindO (targetAt e (bareRoad r)) roadNamed ≡ some x → bindO (targetAt e r) roadNamed ≡ some x
+      ends false x q = less (r .predecessor) x q
+      ends true x q = less (r .successor) x q
+
+  came-link : (j : Span) (c : Connection) (rs : List Road) → Came same rs (missingLink same j c rs)
+  unfolding missingLink
+  came-link j c rs = go (missingEnd same rs j c)
+    where
+      go : (o : Option Bool) → Came same rs (linkAtEnd same rs j c o)
+      go none = came-refl same rs
+      go (some e) = came-point (pointwise-amend (λ r. same (r .name) (c .incoming)) (putTarget e (linked j e)) (came-put j e) rs)
+
+  came-all : (j : Span) (cs : List Connection) (rs : List Road) → Came same rs (missingLinks same j cs rs)
+  came-all j [] rs = came-refl same rs
+  came-all j (c ∷ cs) rs = came-trans same rs (missingLink same j c rs) (missingLinks same j cs (missingLink same j c rs)) (came-link j c rs) (came-all j cs (missingLink same j c rs))
+
+  came-junction : (j : Junction) (rs : List Road) → Came same rs (repairRoads same j rs)
+  unfolding repairRoads
+  came-junction j rs = go (j .kind)
+    where
+      go : (k : JunctionKind) → Came same rs (roadsAfter same k (j .name) (j .connections) rs)
+      go common = came-all (j .name) (j .connections) rs
+      go direct = came-refl same rs
+      go virtual = came-refl same rs
+
+  came-over : (js : List Junction) (rs : List Road) → Came same rs (roadsOver same js rs)
+  came-over [] rs = came-refl same rs
+  came-over (j ∷ js) rs = came-trans same rs (repairRoads same j rs) (roadsOver same js (repairRoads same j rs)) (came-junction j rs) (came-over js (repairRoads same j rs))
+
+  pub came-repair : (m : Map) → Came same (m .roads) (map bareRoad (repair same m .roads))
+  unfolding repair startRoads
+  came-repair m =
+      came-trans same (m .roads) (map (withoutAlong same (m .junctions)) (m .roads)) (map bareRoad (roadsOver same (m .junctions) (map (withoutAlong same (m .junctions)) (m .roads))))
+      (came-point (pointwise-map (withoutAlong same (m .junctions)) (came-along (m .junctions)) (m .roads)))
+      (came-trans same (map (withoutAlong same (m .junctions)) (m .roads)) (roadsOver same (m .junctions) (map (withoutAlong same (m .junctions)) (m .roads))) (map bareRoad (roadsOver same (m .junctions) (map (withoutAlong same (m .junctions)) (m .roads))))
+      (came-over (m .junctions) (map (withoutAlong same (m .junctions)) (m .roads)))
+      (came-point (pointwise-map bareRoad came-bare (roadsOver same (m .junctions) (map (withoutAlong same (m .junctions)) (m .roads))))))
+
+  pub roadward-repair : (m : Map) (n x : Span) (e : Bool) → roadward same (map bareRoad (repair same m .roads)) n e ≡ some x → roadward same (m .roads) n e ≡ some x
+  roadward-repair m n x e q = seen-roadward same (m .roads) n e ∙ came-repair m .seen-kept n x e (sym (seen-roadward same (map bareRoad (repair same m .roads)) n e) ∙ q)
+
+  pub bare-sections : (rs : List Road) (n : Span) → sectionsOf same (map bareRoad rs) n ≡ sectionsOf same rs n
+  bare-sections rs n = sections-point n (pointwise-map bareRoad came-bare rs)
+
+  pub came-whole : (m : Map) → Came same (m .roads) (repair same m .roads)
+  unfolding repair startRoads
+  came-whole m = came-trans same (m .roads) (map (withoutAlong same (m .junctions)) (m .roads)) (roadsOver same (m .junctions) (map (withoutAlong same (m .junctions)) (m .roads)))
+      (came-point (pointwise-map (withoutAlong same (m .junctions)) (came-along (m .junctions)) (m .roads)))
+      (came-over (m .junctions) (map (withoutAlong same (m .junctions)) (m .roads)))

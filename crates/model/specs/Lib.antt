@@ -1,0 +1,16 @@
+-- What a call means, in the order of document 01: the tables and the map that their words mean; repair; succession and list lookup; the gap check; reversal; how each call
+-- refuses; each call's whole outcome; sequences of reversals; and the claim about every sequence.
+pub mod Lists
+pub mod Records
+pub mod Text
+pub mod Rows
+pub mod Tables
+pub mod Repair
+pub mod Succession
+pub mod Lookup
+pub mod Gaps
+pub mod Reversal
+pub mod Rules
+pub mod Calls
+pub mod Sequence
+pub mod Claim
