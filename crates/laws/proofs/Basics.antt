@@ -1,13 +1,14 @@
--- Laws of the lists, tests and optional values of specs/Lists.antt. 
-use mathlib.Core.Path.{_≡_, refl, sym, _∙_, ap, subst}
-use mathlib.Core.Bool.{Bool, true, false, not, _&&_, _||_, cond, true≢false, false≢true}
+-- Laws of the lists and optional values of the model (its specs/Lists.antt): each function over append, reverse and map.
+use mathlib.Core.Path.{_≡_, refl, sym, ap, _∙_, ap₂}
+use mathlib.Core.Bool.{Bool, true, false, not, cond}
 use mathlib.Core.Option.{Option, none, some}
-use mathlib.Core.List.{List, [], _∷_, _++_, map, reverse, reverse-cons, reverse-reverse, map-append, append-assoc, append-nil}
-use Prim.Native.Nat.{ℕ, zero, suc, _+_, _-_, _<_, _≤_}
+use mathlib.Core.List.{List, [], _∷_, _++_, map, reverse, reverse-cons, map-append}
+use Prim.Native.Nat.{ℕ, _+_}
 use native.Mathlib.Omega.{arith}
-use lib.Dec.{eqb, leb, ltb}
-use borrow.Author.Tests.{eqb-true, eqb-false, ltb-true, ltb-false, eq-eqb, ne-eqb, lt-ltb, le-ltb}
-use Rattle.model.specs.Lists.{_⊕_, bindO, final, first, gather, headOr, isSome, keep, lastOr, listO, mapO, member, orElse, pick, some?}
+use lib.Dec.{eqb}
+use lib.ListN.{length, length-append}
+use borrow.Author.Tests.{eqb-true, eq-eqb}
+use Rattle.model.specs.Lists.{_⊕_, final, first, gather, headOr, isSome, keep, lastOr, mapO, orElse, pick, some?}
 use Rattle.laws.proofs.Valid.{Each}
 
 -- marks
@@ -28,17 +29,9 @@ pub ⊕-self : (a b : Bool) → a ⊕ (a ⊕ b) ≡ b
 ⊕-self true false = refl
 ⊕-self true true = refl
 
-pub ⊕-false : (a : Bool) → a ⊕ false ≡ a
-⊕-false false = refl
-⊕-false true = refl
-
 pub ⊕-not : (a b : Bool) → a ⊕ not b ≡ not (a ⊕ b)
 ⊕-not false b = refl
 ⊕-not true b = refl
-
-pub ⊕-true : (a : Bool) → a ⊕ true ≡ not a
-⊕-true false = refl
-⊕-true true = refl
 
 -- two tests are one where each gives the other
 pub bool-ext : (a b : Bool) → (a ≡ true → b ≡ true) → (b ≡ true → a ≡ true) → a ≡ b
@@ -47,18 +40,22 @@ bool-ext false true f g = g refl
 bool-ext true false f g = sym (f refl)
 bool-ext true true f g = refl
 
-pub or-comm : (a b : Bool) → a || b ≡ b || a
-or-comm false false = refl
-or-comm false true = refl
-or-comm true false = refl
-or-comm true true = refl
+-- nothing is not something
+pub no-some : {A : Type 0} (a : A) → Path (Option A) none (some a) → ⊥
+no-some a q = let z : _≡_ {A = ℕ} 0 1 = cc in omega arith
 
 module _ {A : Type 0} where
-  pub pick-swap : (a e : Bool) (x y : A) → pick e (pick a x y) (pick (not a) x y) ≡ pick (a ⊕ e) x y
-  pick-swap false false x y = refl
-  pick-swap false true x y = refl
-  pick-swap true false x y = refl
-  pick-swap true true x y = refl
+  pub pick-twice : (a b : Bool) (x y : A) → pick b (pick a x y) (pick a y x) ≡ pick (a ⊕ b) x y
+  pick-twice false false x y = refl
+  pick-twice false true x y = refl
+  pick-twice true false x y = refl
+  pick-twice true true x y = refl
+
+  pub pick-end : (f : Bool → A) (m e : Bool) → pick e (f m) (f (not m)) ≡ f (m ⊕ e)
+  pick-end f false false = refl
+  pick-end f false true = refl
+  pick-end f true false = refl
+  pick-end f true true = refl
 
   pub orElse-none : (o : Option A) → orElse o none ≡ o
   orElse-none none = refl
@@ -108,13 +105,13 @@ module _ {A : Type 0} where
   some?-ext p q [] h = refl
   some?-ext p q (x ∷ xs) h = rw (h .0, some?-ext p q xs (h .1))
 
-  pub each : {P : A → Type 0} → ((x : A) → P x) → (xs : List A) → Each P xs
-  each f [] = tt
-  each f (x ∷ xs) = (f x, each f xs)
-
-  pub each-map : {P Q : A → Type 0} → ((x : A) → P x → Q x) → (xs : List A) → Each P xs → Each Q xs
-  each-map f [] h = tt
-  each-map f (x ∷ xs) h = (f x (h .0), each-map f xs (h .1))
+  pub first-holds : (p : A → Bool) (xs : List A) (a : A) → first p xs ≡ some a → p a ≡ true
+  first-holds p [] a q = absurd (no-some a q)
+  first-holds p (x ∷ xs) a q = go (p x) refl q (first-holds p xs a)
+    where
+      go : (b : Bool) → p x ≡ b → cond b (some x) (first p xs) ≡ some a → (first p xs ≡ some a → p a ≡ true) → p a ≡ true
+      go true e q ih = let k : x ≡ a = cc in rw k at e
+      go false e q ih = ih q
 
   pub headOr-append : (d : A) (xs ys : List A) → headOr d (xs ++ ys) ≡ headOr (headOr d ys) xs
   headOr-append d [] ys = refl
@@ -190,27 +187,11 @@ module _ {A B : Type 0} where
   gather-ext f g [] h = refl
   gather-ext f g (x ∷ xs) h = rw (h .0, gather-ext f g xs (h .1))
 
-  pub bindO-ext : (o : Option A) (f g : A → Option B) → ((a : A) → o ≡ some a → f a ≡ g a) → bindO o f ≡ bindO o g
-  bindO-ext none f g h = refl
-  bindO-ext (some a) f g h = h a refl
+  pub length-gather : (f g : A → List B) (xs : List A) → Each (λ x. length (f x) ≡ length (g x)) xs → length (gather f xs) ≡ length (gather g xs)
+  length-gather f g [] h = refl
+  length-gather f g (x ∷ xs) h = length-append (f x) (gather f xs) ∙ ap₂ (λ a b. a + b) (h .0) (length-gather f g xs (h .1)) ∙ sym (length-append (g x) (gather g xs))
 
 module _ {A B C : Type 0} where
-  pub map-map : (f : A → B) (g : B → C) (xs : List A) → map g (map f xs) ≡ map (λ x. g (f x)) xs
-  map-map f g [] = refl
-  map-map f g (x ∷ xs) = rw (map-map f g xs)
-
-  pub mapO-mapO : (f : A → B) (g : B → C) (o : Option A) → mapO g (mapO f o) ≡ mapO (λ x. g (f x)) o
-  mapO-mapO f g none = refl
-  mapO-mapO f g (some a) = refl
-
-  pub bindO-mapO : (f : A → B) (g : B → Option C) (o : Option A) → bindO (mapO f o) g ≡ bindO o (λ a. g (f a))
-  bindO-mapO f g none = refl
-  bindO-mapO f g (some a) = refl
-
-  pub mapO-bindO : (f : A → Option B) (g : B → C) (o : Option A) → mapO g (bindO o f) ≡ bindO o (λ a. mapO g (f a))
-  mapO-bindO f g none = refl
-  mapO-bindO f g (some a) = refl
-
   pub gather-map : (f : A → B) (g : B → List C) (xs : List A) → gather g (map f xs) ≡ gather (λ x. g (f x)) xs
   gather-map f g [] = refl
   gather-map f g (x ∷ xs) = rw (gather-map f g xs)
@@ -219,26 +200,9 @@ module _ {A B C : Type 0} where
   map-gather f g [] = refl
   map-gather f g (x ∷ xs) = rw (map-append g (f x) (gather f xs), map-gather f g xs)
 
-  pub listO-mapO : (f : A → B) (g : B → List C) (o : Option A) → listO (mapO f o) g ≡ listO o (λ a. g (f a))
-  listO-mapO f g none = refl
-  listO-mapO f g (some a) = refl
-
-  pub map-listO : (f : A → List B) (g : B → C) (o : Option A) → map g (listO o f) ≡ listO o (λ a. map g (f a))
-  map-listO f g none = refl
-  map-listO f g (some a) = refl
-
 pub map-id : {A : Type 0} (f : A → A) (xs : List A) → Each (λ x. f x ≡ x) xs → map f xs ≡ xs
 map-id f [] h = refl
 map-id f (x ∷ xs) h = rw (h .0, map-id f xs (h .1))
-
--- what every member of a list has, and one of them
-pub each-member : (P : ℕ → Type 0) (n : ℕ) (xs : List ℕ) → Each P xs → member n xs ≡ true → P n
-each-member P n [] h e = absurd (false≢true e)
-each-member P n (x ∷ xs) h e = go (eqb n x) refl e (each-member P n xs (h .1))
-  where
-    go : (b : Bool) → eqb n x ≡ b → b || member n xs ≡ true → (member n xs ≡ true → P n) → P n
-    go true q e ih = rw (eqb-true n x q) (h .0)
-    go false q e ih = ih e
 
 -- the tests of two numbers on which a map is one to one
 pub eqb-ext : (a b c d : ℕ) → (a ≡ b → c ≡ d) → (c ≡ d → a ≡ b) → eqb a b ≡ eqb c d

@@ -1,14 +1,14 @@
--- How many identities succession can write: so that offsets are words. 
+-- How many identities succession can write, by lanes and pairs; the lists before hold no more than the lists onward.
 use mathlib.Core.Path.{_≡_, refl, sym, _∙_, ap, ap₂, subst}
-use mathlib.Core.Bool.{Bool, true, false, not, _&&_, _||_, cond, true≢false, false≢true}
+use mathlib.Core.Bool.{Bool, true, false, not, _||_, cond, true≢false}
 use mathlib.Core.Option.{Option, none, some}
 use mathlib.Core.List.{List, [], _∷_, _++_, map}
-use Prim.Native.Nat.{ℕ, zero, suc, _+_, _*_, _≤_, _<_}
-use native.Mathlib.Nat.{suc-mul, zero-mul, mul-le-mul-right, le-trans}
+use Prim.Native.Nat.{ℕ, suc, _+_, _*_, _≤_}
+use native.Mathlib.Nat.{suc-mul, zero-mul}
 use native.Mathlib.Omega.{arith}
 use lib.Dec.{eqb, leb}
 use lib.ListN.{length, length-append, length-map}
-use borrow.Author.Tests.{eqb-true, eq-eqb}
+use borrow.Author.Tests.{eqb-true, not-true}
 use Rattle.geometry.specs.declared.gap.Direction.{Direction}
 use Rattle.geometry.specs.declared.gap.Direction.the-variants.{Backward, Both, Forward}
 use Rattle.model.specs.Lists.{bindO, distinct, final, first, gather, insert, keep, listO, member, once, orElse, some?, sort}
@@ -16,9 +16,9 @@ use Rattle.model.specs.Records.{Connection, Junction, Lane, Map, Pair, Span, Ta
 use Rattle.model.specs.Repair.{roadOf}
 use Rattle.model.specs.Rules.{sameKey}
 use Rattle.model.specs.Succession.{Entry, backLinks, cross, endSection, entryId, exits, exitsBy, findsBack, isBoth, junctionOf, lookup, lookupAtEnd, nextSection, predecessorLists, predecessors, runsAway, sectionsOf, standsAt, successorLists, successors, successorsBy, successorsOf, throughJunction, throughPairs}
-use Rattle.laws.proofs.Basics.{each, gather-map}
+use Rattle.laws.proofs.Basics.{gather-map}
 use Rattle.laws.proofs.ByBytes.{one-lane}
-use Rattle.laws.proofs.RulesReversed.{and-left, and-right}
+use Rattle.laws.proofs.ListTests.{and-left, and-right}
 use Rattle.laws.proofs.Valid.{Alike}
 
 -- ---- lengths
@@ -76,11 +76,29 @@ final-most p g (j ∷ js) h = go (final p js) (final-most p g js h) (p j)
     go none ih true = let c = length-append (pairsOf j) (gather pairsOf js) in let d = h j in omega arith
     go none ih false = omega arith
 
+-- a lane finds at most as many successors as it has exits
+pub successorsOf-exits : (same : Span → Span → Bool) (m : Map) (l : Lane) → length (successorsOf same m l) ≤ length (exits same m l true) + length (exits same m l false)
+unfolding successorsOf
+successorsOf-exits same m l = go (l .direction)
+  where
+    side : (e : Bool) → length (sort (map entryId (exits same m l e))) ≡ length (exits same m l e)
+    side e = length-sort (map entryId (exits same m l e)) ∙ length-map (exits same m l e) entryId
+
+    go : (d : Direction) → length (successorsBy same m l d) ≤ length (exits same m l true) + length (exits same m l false)
+    go Forward = let a = side true in omega arith
+    go Backward = let a = side false in omega arith
+    go Both =
+        let a = length-once (sort (map entryId (keep runsAway (exits same m l true ++ exits same m l false)))) in
+        let b = length-sort (map entryId (keep runsAway (exits same m l true ++ exits same m l false))) in
+        let c = length-map (keep runsAway (exits same m l true ++ exits same m l false)) entryId in
+        let d = length-keep runsAway (exits same m l true ++ exits same m l false) in
+        let e = length-append (exits same m l true) (exits same m l false) in omega arith
+
 module _ (same : Span → Span → Bool) (A : Alike same) (m : Map) (keys : distinct (sameKey same) (m .lanes) ≡ true) where
-  -- a registry entry is one lane at most
-  pub enter-one : (n : Span) (s : ℕ) (e : Bool) (k : ℕ) → length (lookup same (m .lanes) n s e k) ≤ 1
+  -- a lookup finds one lane at most
+  pub lookup-one : (n : Span) (s : ℕ) (e : Bool) (k : ℕ) → length (lookup same (m .lanes) n s e k) ≤ 1
   unfolding lookup
-  enter-one n s e k = subst (λ (n : ℕ). n ≤ 1) (sym (length-map (keep (standsAt same n s k) (m .lanes)) entered)) (subst (λ (l : List Lane). length l ≤ 1) (sym (one-lane same A n s k (m .lanes) keys)) (few (first (standsAt same n s k) (m .lanes))))
+  lookup-one n s e k = subst (λ (n : ℕ). n ≤ 1) (sym (length-map (keep (standsAt same n s k) (m .lanes)) entered)) (subst (λ (l : List Lane). length l ≤ 1) (sym (one-lane same A n s k (m .lanes) keys)) (few (first (standsAt same n s k) (m .lanes))))
     where
       entered : Lane → Entry
       entered l = record { lane = l; contact = e }
@@ -96,22 +114,22 @@ module _ (same : Span → Span → Bool) (A : Alike same) (m : Map) (keys : dist
   abbrev all : ℕ
   all = length (gather pairsOf (m .junctions))
 
-  through-few : (c : Connection) (k : ℕ) → length (throughPairs same m c k) ≤ length (c .pairs)
+  throughPairs-few : (c : Connection) (k : ℕ) → length (throughPairs same m c k) ≤ length (c .pairs)
   unfolding throughPairs lookupAtEnd
-  through-few c k = let a = gather-most 1 (λ p. lookupAtEnd same m (c .connecting) (c .contact) (p .to)) (keep (λ p. eqb (p .from) k) (c .pairs)) (λ p. enter-one (c .connecting) (endSection (sectionsOf same (m .roads) (c .connecting)) (c .contact)) (c .contact) (p .to)) in
+  throughPairs-few c k = let a = gather-most 1 (λ p. lookupAtEnd same m (c .connecting) (c .contact) (p .to)) (keep (λ p. eqb (p .from) k) (c .pairs)) (λ p. lookup-one (c .connecting) (endSection (sectionsOf same (m .roads) (c .connecting)) (c .contact)) (c .contact) (p .to)) in
       let b = length-keep (λ (p : Pair). eqb (p .from) k) (c .pairs) in omega arith
 
-  junction-few : (n : Span) (k : ℕ) (j : Junction) → length (throughJunction same m n k j) ≤ length (pairsOf j)
+  throughJunction-few : (n : Span) (k : ℕ) (j : Junction) → length (throughJunction same m n k j) ≤ length (pairsOf j)
   unfolding throughJunction
-  junction-few n k j = gather-kept (λ c. same (c .incoming) n) (λ c. throughPairs same m c k) (λ c. c .pairs) (j .connections) (λ c. through-few c k)
+  throughJunction-few n k j = gather-kept (λ c. same (c .incoming) n) (λ c. throughPairs same m c k) (λ c. c .pairs) (j .connections) (λ c. throughPairs-few c k)
 
-  follow-few : (l : Lane) (o : Option ℕ) (t : Target) → length (cross same m l o t) ≤ suc all
+  cross-few : (l : Lane) (o : Option ℕ) (t : Target) → length (cross same m l o t) ≤ suc all
   unfolding junctionOf lookupAtEnd
-  follow-few l o t = go (t .isJunction)
+  cross-few l o t = go (t .isJunction)
     where
       go : (b : Bool) → length (cond b (listO (junctionOf same (m .junctions) (t .name)) (throughJunction same m (l .road) (l .number))) (listO o (lookupAtEnd same m (t .name) (t .contact)))) ≤ suc all
-      go true = let a = final-most (λ j. same (j .name) (t .name)) (throughJunction same m (l .road) (l .number)) (m .junctions) (junction-few (l .road) (l .number)) in omega arith
-      go false = let a = listO-one o (lookupAtEnd same m (t .name) (t .contact)) (λ k. enter-one (t .name) (endSection (sectionsOf same (m .roads) (t .name)) (t .contact)) (t .contact) k) in omega arith
+      go true = let a = final-most (λ j. same (j .name) (t .name)) (throughJunction same m (l .road) (l .number)) (m .junctions) (throughJunction-few (l .road) (l .number)) in omega arith
+      go false = let a = listO-one o (lookupAtEnd same m (t .name) (t .contact)) (λ k. lookup-one (t .name) (endSection (sectionsOf same (m .roads) (t .name)) (t .contact)) (t .contact) k) in omega arith
 
   exits-few : (l : Lane) (e : Bool) → length (exits same m l e) ≤ suc all
   unfolding exits
@@ -119,34 +137,18 @@ module _ (same : Span → Span → Bool) (A : Alike same) (m : Map) (keys : dist
     where
       on : (o : Option Target) → length (listO o (cross same m l (linkAt e l))) ≤ suc all
       on none = omega arith
-      on (some t) = follow-few l (linkAt e l) t
+      on (some t) = cross-few l (linkAt e l) t
 
       go : (o : Option ℕ) → length (exitsBy same m l e o) ≤ suc all
-      go (some s) = let a = listO-one (linkAt e l) (lookup same (m .lanes) (l .road) s (not e)) (λ k. enter-one (l .road) s (not e) k) in omega arith
+      go (some s) = let a = listO-one (linkAt e l) (lookup same (m .lanes) (l .road) s (not e)) (λ k. lookup-one (l .road) s (not e) k) in omega arith
       go none = on (bindO (roadOf same (m .roads) (l .road)) (targetAt e))
 
-  own-few : (l : Lane) → length (successorsOf same m l) ≤ suc all + suc all
-  unfolding successorsOf
-  own-few l = go (l .direction)
-    where
-      one : (e : Bool) → length (sort (map entryId (exits same m l e))) ≤ suc all
-      one e = let a = length-sort (map entryId (exits same m l e)) in let b = length-map (exits same m l e) entryId in let c = exits-few l e in omega arith
+  successorsOf-few : (l : Lane) → length (successorsOf same m l) ≤ suc all + suc all
+  successorsOf-few l = let a = successorsOf-exits same m l in let b = exits-few l true in let c = exits-few l false in omega arith
 
-      go : (d : Direction) → length (successorsBy same m l d) ≤ suc all + suc all
-      go Forward = let a = one true in omega arith
-      go Backward = let a = one false in omega arith
-      go Both =
-          let x : List Entry = exits same m l true ++ exits same m l false in
-          let a = length-once (sort (map entryId (keep runsAway (exits same m l true ++ exits same m l false)))) in
-          let b = length-sort (map entryId (keep runsAway (exits same m l true ++ exits same m l false))) in
-          let c = length-map (keep runsAway (exits same m l true ++ exits same m l false)) entryId in
-          let d = length-keep runsAway (exits same m l true ++ exits same m l false) in
-          let e = length-append (exits same m l true) (exits same m l false) in
-          let f = exits-few l true in let g = exits-few l false in omega arith
-
-  added-few : (l : Lane) → length (backLinks same m l) ≤ length (m .lanes)
+  backLinks-few : (l : Lane) → length (backLinks same m l) ≤ length (m .lanes)
   unfolding backLinks
-  added-few l = go (isBoth (l .direction))
+  backLinks-few l = go (isBoth (l .direction))
     where
       go : (b : Bool) → length (cond b (map (λ b. b .identity) (keep (findsBack same m l) (m .lanes))) []) ≤ length (m .lanes)
       go true = let a = length-map (keep (findsBack same m l) (m .lanes)) (λ (b : Lane). b .identity) in let b = length-keep (findsBack same m l) (m .lanes) in omega arith
@@ -155,14 +157,14 @@ module _ (same : Span → Span → Bool) (A : Alike same) (m : Map) (keys : dist
   -- a lane's list, and all of them
   pub successors-few : (l : Lane) → length (successors same m l) ≤ suc all + suc all + length (m .lanes)
   unfolding successors
-  successors-few l = let a = length-sort (successorsOf same m l ++ backLinks same m l) in let b = length-append (successorsOf same m l) (backLinks same m l) in let c = own-few l in let d = added-few l in omega arith
+  successors-few l = let a = length-sort (successorsOf same m l ++ backLinks same m l) in let b = length-append (successorsOf same m l) (backLinks same m l) in let c = successorsOf-few l in let d = backLinks-few l in omega arith
 
   pub ids-few : length (gather (λ l. l) (successorLists same m)) ≤ length (m .lanes) * (suc all + suc all + length (m .lanes))
   unfolding successorLists
   ids-few = let a = gather-map (successors same m) (λ (l : List ℕ). l) (m .lanes) in
       subst (λ (l : List ℕ). length l ≤ length (m .lanes) * (suc all + suc all + length (m .lanes))) (sym a) (gather-most (suc all + suc all + length (m .lanes)) (successors same m) (m .lanes) successors-few)
 
--- ---- the lanes predecessors are no more
+-- ---- the lists before hold no more
 unfoldable pub sumOf : {A : Type 0} → (A → ℕ) → List A → ℕ
 sumOf f [] = 0
 sumOf f (x ∷ xs) = f x + sumOf f xs
@@ -212,17 +214,13 @@ once-known n (l ∷ ls) h = go (eqb (l .identity) n) refl (once-known n ls (and-
         one true e q ih = absurd (true≢false q)
         one false e q ih = ap₂ (λ (b : Bool) (k : ℕ). cond b 1 0 + k) (borrow.Author.Tests.ne-eqb (m .identity) n (λ w. borrow.Author.Tests.eqb-false n (m .identity) e (sym w))) (ih q)
 
-    turn : (b : Bool) → not b ≡ true → b ≡ false
-    turn false q = refl
-    turn true q = sym q
-
     go : (b : Bool) → eqb (l .identity) n ≡ b → sumOf (λ m. cond (eqb (m .identity) n) 1 0) ls ≤ 1 → cond b 1 0 + sumOf (λ m. cond (eqb (m .identity) n) 1 0) ls ≤ 1
     go false e ih = omega arith
     go true e ih =
-        let q : some? (λ (b : Lane). eqb n (b .identity)) ls ≡ false = ap (λ (k : ℕ). some? (λ (b : Lane). eqb k (b .identity)) ls) (sym (eqb-true (l .identity) n e)) ∙ turn (some? (λ (b : Lane). eqb (l .identity) (b .identity)) ls) (and-left (not (some? (λ (b : Lane). eqb (l .identity) (b .identity)) ls)) (distinct (λ (a b : Lane). eqb (a .identity) (b .identity)) ls) h) in
+        let q : some? (λ (b : Lane). eqb n (b .identity)) ls ≡ false = ap (λ (k : ℕ). some? (λ (b : Lane). eqb k (b .identity)) ls) (sym (eqb-true (l .identity) n e)) ∙ not-true (some? (λ (b : Lane). eqb (l .identity) (b .identity)) ls) (and-left (not (some? (λ (b : Lane). eqb (l .identity) (b .identity)) ls)) (distinct (λ (a b : Lane). eqb (a .identity) (b .identity)) ls) h) in
         let z = no-other ls q in omega arith
 
--- so of a list at most its length is found
+-- so of a list at most as many are found as it has
 pub found-few : (ls : List Lane) → distinct (λ (a b : Lane). eqb (a .identity) (b .identity)) ls ≡ true → (xs : List ℕ) → sumOf (λ l. length (keep (eqb (l .identity)) xs)) ls ≤ length xs
 found-few ls h [] = let a = sum-zero ls in omega arith
 found-few ls h (x ∷ xs) = let a = sum-ext (λ (l : Lane). length (cond (eqb (l .identity) x) (x ∷ keep (eqb (l .identity)) xs) (keep (eqb (l .identity)) xs))) (λ l. cond (eqb (l .identity) x) 1 0 + length (keep (eqb (l .identity)) xs)) ls (λ l. step (eqb (l .identity) x) (keep (eqb (l .identity)) xs)) in
@@ -234,17 +232,17 @@ found-few ls h (x ∷ xs) = let a = sum-ext (λ (l : Lane). length (cond (eqb (l
     step true r = omega arith
     step false r = omega arith
 
-pub before-few : (same : Span → Span → Bool) (m : Map) → distinct (λ (a b : Lane). eqb (a .identity) (b .identity)) (m .lanes) ≡ true → length (gather (λ l. l) (predecessorLists same m)) ≤ length (gather (λ l. l) (successorLists same m))
+pub predecessors-few : (same : Span → Span → Bool) (m : Map) → distinct (λ (a b : Lane). eqb (a .identity) (b .identity)) (m .lanes) ≡ true → length (gather (λ l. l) (predecessorLists same m)) ≤ length (gather (λ l. l) (successorLists same m))
 unfolding predecessorLists successorLists
-before-few same m h =
+predecessors-few same m h =
     let L : List Lane = m .lanes in
-    let a = ap length (gather-map (predecessors same m) (λ (l : List ℕ). l) (m .lanes)) ∙ gather-sum (predecessors same m) (m .lanes) ∙ sum-ext (λ l. length (predecessors same m l)) (λ l. sumOf (λ a. length (keep (eqb (l .identity)) (successors same m a))) (m .lanes)) (m .lanes) each-before in
+    let a = ap length (gather-map (predecessors same m) (λ (l : List ℕ). l) (m .lanes)) ∙ gather-sum (predecessors same m) (m .lanes) ∙ sum-ext (λ l. length (predecessors same m l)) (λ l. sumOf (λ a. length (keep (eqb (l .identity)) (successors same m a))) (m .lanes)) (m .lanes) each-predecessors in
     let b = sum-swap (λ (l a : Lane). length (keep (eqb (l .identity)) (successors same m a))) (m .lanes) (m .lanes) in
     let c = sum-le (λ (a : Lane). sumOf (λ (l : Lane). length (keep (eqb (l .identity)) (successors same m a))) (m .lanes)) (λ a. length (successors same m a)) (m .lanes) (λ a. found-few (m .lanes) h (successors same m a)) in
     let d = ap length (gather-map (successors same m) (λ (l : List ℕ). l) (m .lanes)) ∙ gather-sum (successors same m) (m .lanes) in
     omega arith
   where
-    each-before : (l : Lane) → length (predecessors same m l) ≡ sumOf (λ a. length (keep (eqb (l .identity)) (successors same m a))) (m .lanes)
-    each-before l = unfold predecessors in (length-sort (gather (λ (a : Lane). map (λ (i : ℕ). a .identity) (keep (eqb (l .identity)) (successors same m a))) (m .lanes))
+    each-predecessors : (l : Lane) → length (predecessors same m l) ≡ sumOf (λ a. length (keep (eqb (l .identity)) (successors same m a))) (m .lanes)
+    each-predecessors l = unfold predecessors in (length-sort (gather (λ (a : Lane). map (λ (i : ℕ). a .identity) (keep (eqb (l .identity)) (successors same m a))) (m .lanes))
         ∙ gather-sum (λ (a : Lane). map (λ (i : ℕ). a .identity) (keep (eqb (l .identity)) (successors same m a))) (m .lanes)
         ∙ sum-ext (λ (a : Lane). length (map (λ (i : ℕ). a .identity) (keep (eqb (l .identity)) (successors same m a)))) (λ (a : Lane). length (keep (eqb (l .identity)) (successors same m a))) (m .lanes) (λ a. length-map (keep (eqb (l .identity)) (successors same m a)) (λ (i : ℕ). a .identity)))

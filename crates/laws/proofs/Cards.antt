@@ -1,27 +1,26 @@
 -- The twelve bench cards that document 01 marks *, jointly, over the definitions: antt computes each.
 use mathlib.Core.Path.{_≡_, refl}
-use mathlib.Core.Bool.{true, false}
 use mathlib.Core.Option.{none}
 use mathlib.Core.List.{List, [], _∷_}
 use Prim.Native.Nat.{ℕ}
-use lib.Ieee.{Float, binary32, ofBits, toBits, add, sub, mul, div, neg, lt, le, isNan}
+use lib.Ieee.{binary32, ofBits, toBits, add, sub, mul, div, neg, lt, le, isNan}
 use Rattle.geometry.specs.declared.segment.Point.{Point}
 use Rattle.geometry.specs.declared.gap.Direction.the-variants.{Backward, Both}
-use Rattle.model.specs.Claim.{repairedTables}
-use Rattle.model.specs.Calls.{wrote, rulesTo5, laneRules, repairLengths, repairCounts, putRepaired, warningRow, repairContent, repairRules, repairRefusal, repairCall, listLengths, putLists, listContent, successionRules, successionRefusal, successionCall, gapWords, gapContent, gapRules, gapRefusal, gapCall, reversalLengths, reversalCounts, putReversed, reversalContent, tableRules, markRules, reversalRules, reversalRefusal, reversalCall}
-use Rattle.model.specs.Gaps.{gapBetween, gapRow, linkGaps}
-use Rattle.model.specs.Repair.{linked, putTarget, vacantEnd, swapped, backAt, roadOf, meets, inVirtual, withoutAlong, backEnd, missingEnd, missingLink, meetingEnd, runsBack, backOf, reversed, repairRoads, repairJunction, startRoads, repair, warnOne, warnings}
-use Rattle.model.specs.Reversal.{negated, mirror, mirrored, reverseTarget, reverseRoad, reversePair, reverseConnection, reverseJunction, reverseWarning, roadward, leadsTo, reverseLink, reverseLane, reverseMap, reverseEdged}
-use Rattle.model.specs.Rows.{table, written}
-use Rattle.model.specs.Rules.{sized, mapSized, lanesSized, edgesSized, listsSized, targetWorded, roadWorded, junctionWorded, connectionWorded, linkWorded, laneWorded, mapWorded, lanesWorded, namesOnce, sectionPartsFit, sectionsAscend, connectionPartsFit, pairPartsFit, idsOnce, listedIn, sameKey, placesOnce, edgesEven, borne, listsFit, marksFit, laneFine, pairFine, numbersFine, namesTwice, namesDirectTwice, oneEndedIn}
-use Rattle.model.specs.Sequence.{Call, answers, run, withReversed, reversedRows, after, reversedOnceBy, reversedBy, fed, withRepaired, fromRepaired, found}
-use Rattle.model.specs.Succession.{runsAway, entryId, nextSection, endSection, sectionsOf, standsAt, lookup, lookupAtEnd, throughPairs, throughJunction, junctionOf, exits, successorsOf, findsBack, backLinks, successors, predecessors, successorLists, predecessorLists}
-use Rattle.model.specs.Tables.{Tables, roadIn, roadRow, pairIn, pairRow, connectionIn, connectionRow, junctionIn, junctionRow, laneIn, laneRow, edgeRow, roadsIn, pairsIn, connectionsIn, junctionsIn, lanesIn, mapOf, edgedLanesOf, roadWords, sectionWords, allConnections, allPairs, junctionWords, connectionWords, pairWords, laneWords, edgeWords, tablesOf}
-use Rattle.model.specs.Text.{bytesOf, sameIn, placed}
 use Rattle.geometry.specs.Root.{midpointBelow, midpointAbove, rootBits, rootOf, belowZero}
 use Rattle.geometry.specs.Segment.{distanceOf, minusOf, plusOf, timesOf, dotOf, lengthOf, clampOf, freePlace, placesApart, placesOf, apartOf}
 use Rattle.geometry.specs.Gap.{minOf, leastFrom, gapOf}
-use Rattle.laws.proofs.CardMaps.{apart, bits, noLanes, straight, tablesFor, twoPairs, twoWay}
+use Rattle.model.proofs.CardMaps.{apart, bits, noLanes, straight, tablesFor, twoPairs, twoWay}
+use Rattle.model.specs.Calls.{gapCall, gapContent, gapRefusal, gapRules, gapWords, laneRules, listContent, listLengths, markRules, putLists, putRepaired, putReversed, repairCall, repairContent, repairCounts, repairLengths, repairRefusal, repairRules, reversalCall, reversalContent, reversalCounts, reversalLengths, reversalRefusal, reversalRules, rulesTo5, successionCall, successionRefusal, successionRules, tableRules, warningRow, wrote}
+use Rattle.model.specs.Claim.{repairedTables}
+use Rattle.model.specs.Gaps.{gapBetween, gapRow, linkGaps}
+use Rattle.model.specs.Repair.{backAt, backEnd, backOf, inVirtual, linked, meetingEnd, meets, missingEnd, missingLink, putTarget, repair, repairJunction, repairRoads, reversed, roadOf, runsBack, startRoads, swapped, vacantEnd, warnOne, warnings, withoutAlong}
+use Rattle.model.specs.Reversal.{leadsTo, mirror, mirrored, negated, reverseConnection, reverseEdged, reverseJunction, reverseLane, reverseLink, reverseMap, reversePair, reverseRoad, reverseTarget, reverseWarning, roadward}
+use Rattle.model.specs.Rows.{table, written}
+use Rattle.model.specs.Rules.{borne, connectionPartsFit, connectionWorded, edgesEven, edgesSized, idsOnce, junctionWorded, laneFine, laneWorded, lanesSized, lanesWorded, linkWorded, listedIn, listsFit, listsSized, mapSized, mapWorded, marksFit, namesDirectTwice, namesOnce, namesTwice, numbersFine, oneEndedIn, pairFine, pairPartsFit, placesOnce, roadWorded, sameKey, sectionPartsFit, sectionsAscend, sized, targetWorded}
+use Rattle.model.specs.Sequence.{Call, after, answers, fed, found, fromRepaired, reversedBy, reversedOnceBy, reversedRows, run, withRepaired, withReversed}
+use Rattle.model.specs.Succession.{backLinks, endSection, entryId, exits, findsBack, junctionOf, lookup, lookupAtEnd, nextSection, predecessorLists, predecessors, runsAway, sectionsOf, standsAt, successorLists, successors, successorsOf, throughJunction, throughPairs}
+use Rattle.model.specs.Tables.{Tables, allConnections, allPairs, connectionIn, connectionRow, connectionWords, connectionsIn, edgeRow, edgeWords, edgedLanesOf, junctionIn, junctionRow, junctionWords, junctionsIn, laneIn, laneRow, laneWords, lanesIn, mapOf, pairIn, pairRow, pairWords, pairsIn, roadIn, roadRow, roadWords, roadsIn, sectionWords, tablesOf}
+use Rattle.model.specs.Text.{bytesOf, placed, sameIn}
 
 -- the root of a bit pattern
 abbrev rooted : ℕ → ℕ

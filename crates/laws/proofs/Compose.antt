@@ -1,23 +1,25 @@
--- Two reversals are one, by the roads that just one of them marks; an empty one changes nothing; a valid map stays valid. 
-use mathlib.Core.Path.{_≡_, refl, sym, _∙_, ap, ap₂, subst, fun-ext}
-use mathlib.Core.Bool.{Bool, true, false, not, _&&_, _||_, cond, true≢false, false≢true}
+-- Two reversals are one, by the roads that just one of them marks; a reversal that marks no road changes nothing; mirrored sections still ascend.
+use mathlib.Core.Path.{_≡_, refl, sym, _∙_, ap, ap₂}
+use mathlib.Core.Bool.{Bool, true, false, not, cond}
 use mathlib.Core.Option.{Option, none, some}
-use mathlib.Core.List.{List, [], _∷_, _++_, map, reverse, reverse-cons}
+use mathlib.Core.List.{List, [], _∷_, _++_, map, reverse, reverse-cons, map-map}
 use Prim.Native.Nat.{ℕ, _+_, _<_, _≤_}
 use native.Mathlib.Omega.{arith}
 use lib.Dec.{eqb}
-use Rattle.model.specs.Lists.{_⊕_, headOr, lastOr, mapO, member, some?}
+use Rattle.model.specs.Lists.{_⊕_, headOr, lastOr, mapO, member}
 use Rattle.model.specs.Records.{Connection, Junction, Lane, Map, Pair, Road, Span, Target, linkAt, targetAt}
 use Rattle.model.specs.Reversal.{leadsTo, marks, mirror, mirrored, reverseConnection, reverseJunction, reverseLane, reverseLink, reverseMap, reversePair, reverseRoad, reverseTarget, signed}
 use Rattle.model.specs.Succession.{sectionsOf}
-use Rattle.laws.proofs.Basics.{each, each-map, each-member, map-ext, map-id, map-map, some?-ext, some?-map, ⊕-assoc, ⊕-comm, ⊕-not, ⊕-self}
-use Rattle.laws.proofs.Mirror.{bounded, mirror-eqb, mirror-mirror, mirror-mirrored, mirrored-mirrored, signed-⊕, turned-⊕}
+use Rattle.laws.proofs.Basics.{map-ext, map-id, some?-ext, some?-map, ⊕-assoc, ⊕-comm, ⊕-not, ⊕-self}
+use Rattle.laws.proofs.ForEach.{each, each-append, each-both, each-map, each-member, each-of-map, each-reverse}
+use Rattle.laws.proofs.ListTests.{some?-reverse}
+use Rattle.laws.proofs.Mirror.{bounded, mirror-eqb, mirror-mirror, mirror-mirrored, mirrored-mirrored, reverseDirection-⊕, signed-⊕}
 use Rattle.laws.proofs.Names.{placed-bound}
-use Rattle.laws.proofs.Reverse.{leads-turn, linkAt-turn, sectionsOf-turn, targetAt-turn}
+use Rattle.laws.proofs.Reverse.{leadsTo-reversed, linkAt-reversed, sectionsOf-reversed, targetAt-reversed}
 use Rattle.laws.proofs.Valid.{Ascends, Each, Placed, Steady, Valid, nobody, toggled}
 
-turn-twice : (a b c : Bool) → b ⊕ (a ⊕ c) ≡ (a ⊕ b) ⊕ c
-turn-twice a b c = ⊕-assoc b a c ∙ ap (λ x. x ⊕ c) (⊕-comm b a)
+⊕-twice : (a b c : Bool) → b ⊕ (a ⊕ c) ≡ (a ⊕ b) ⊕ c
+⊕-twice a b c = ⊕-assoc b a c ∙ ap (λ x. x ⊕ c) (⊕-comm b a)
 
 module _ (s t : Span → Bool) where
   compose-target : (x : Target) → reverseTarget t (reverseTarget s x) ≡ reverseTarget (toggled s t) x
@@ -27,7 +29,7 @@ module _ (s t : Span → Bool) where
       go : (j : Bool) → cond j (cond j (x .contact) (s (x .name) ⊕ x .contact)) (t (x .name) ⊕ cond j (x .contact) (s (x .name) ⊕ x .contact))
           ≡ cond j (x .contact) ((s (x .name) ⊕ t (x .name)) ⊕ x .contact)
       go true = refl
-      go false = turn-twice (s (x .name)) (t (x .name)) (x .contact)
+      go false = ⊕-twice (s (x .name)) (t (x .name)) (x .contact)
 
   compose-targets : (o : Option Target) → mapO (reverseTarget t) (mapO (reverseTarget s) o) ≡ mapO (reverseTarget (toggled s t)) o
   compose-targets none = refl
@@ -50,7 +52,7 @@ module _ (s t : Span → Bool) where
   }
     where
       at : (e : Bool) → mapO (reverseTarget t) (targetAt e (reverseRoad s r)) ≡ mapO (reverseTarget (toggled s t)) (targetAt (s (r .name) ⊕ e) r)
-      at e = ap (mapO (reverseTarget t)) (targetAt-turn s e r) ∙ compose-targets (targetAt (s (r .name) ⊕ e) r)
+      at e = ap (mapO (reverseTarget t)) (targetAt-reversed s e r) ∙ compose-targets (targetAt (s (r .name) ⊕ e) r)
 
   compose-pair : (a b : Span) (p : Pair) → reversePair t a b (reversePair s a b p) ≡ reversePair (toggled s t) a b p
   unfolding reversePair toggled
@@ -61,8 +63,8 @@ module _ (s t : Span → Bool) where
   compose-connection c = λ i. record {
     incoming = c .incoming;
     connecting = c .connecting;
-    contact = turn-twice (s (c .connecting)) (t (c .connecting)) (c .contact) i;
-    pairs = (map-map (reversePair s (c .incoming) (c .connecting)) (reversePair t (c .incoming) (c .connecting)) (c .pairs)
+    contact = ⊕-twice (s (c .connecting)) (t (c .connecting)) (c .contact) i;
+    pairs = (map-map (reversePair t (c .incoming) (c .connecting)) (reversePair s (c .incoming) (c .connecting)) (c .pairs)
         ∙ map-ext _ _ (c .pairs) (each (compose-pair (c .incoming) (c .connecting)) (c .pairs))) i;
   }
 
@@ -71,7 +73,7 @@ module _ (s t : Span → Bool) where
   compose-junction j = λ i. record {
     name = j .name;
     kind = j .kind;
-    connections = (map-map (reverseConnection s) (reverseConnection t) (j .connections) ∙ map-ext _ _ (j .connections) (each compose-connection (j .connections))) i;
+    connections = (map-map (reverseConnection t) (reverseConnection s) (j .connections) ∙ map-ext _ _ (j .connections) (each compose-connection (j .connections))) i;
   }
 
   compose-marks : (o : Option Span) → marks s o ⊕ marks t o ≡ marks (toggled s t) o
@@ -88,8 +90,8 @@ module _ (same : Span → Span → Bool) (s t : Span → Bool) (S : Steady same 
   unfolding reverseLink
   compose-link l e p =
       ap₂ (λ n o. mapO (signed (marks t n)) o)
-      (ap (leadsTo same (map (reverseRoad s) rs) (reverseLane same s rs l)) (sym (⊕-self (s (l .road)) e)) ∙ leads-turn same s S rs asc l (s (l .road) ⊕ e) p)
-      (linkAt-turn same s S rs asc l e)
+      (ap (leadsTo same (map (reverseRoad s) rs) (reverseLane same s rs l)) (sym (⊕-self (s (l .road)) e)) ∙ leadsTo-reversed same s S rs asc l (s (l .road) ⊕ e) p)
+      (linkAt-reversed same s S rs asc l e)
       ∙ compose-number s t (marks s (leadsTo same rs l (s (l .road) ⊕ e))) (marks t (leadsTo same rs l (s (l .road) ⊕ e))) (linkAt (s (l .road) ⊕ e) l)
       ∙ ap (λ b. mapO (signed b) (linkAt (s (l .road) ⊕ e) l)) (compose-marks s t (leadsTo same rs l (s (l .road) ⊕ e)))
 
@@ -106,10 +108,10 @@ module _ (same : Span → Span → Bool) (s t : Span → Bool) (S : Steady same 
     identity = l .identity;
     road = l .road;
     section = (ap (λ ss. cond (t (l .road)) (mirror ss (cond (s (l .road)) (mirror (sectionsOf same rs (l .road)) (l .section)) (l .section))) (cond (s (l .road)) (mirror (sectionsOf same rs (l .road)) (l .section)) (l .section)))
-        (sectionsOf-turn same s S rs (l .road))
+        (sectionsOf-reversed same s S rs (l .road))
         ∙ compose-section (s (l .road)) (t (l .road)) (sectionsOf same rs (l .road)) (l .section) (placed-bound same rs l asc p)) i;
     number = signed-⊕ (t (l .road)) (s (l .road)) (l .number) i;
-    direction = turned-⊕ (t (l .road)) (s (l .road)) (l .direction) i;
+    direction = reverseDirection-⊕ (t (l .road)) (s (l .road)) (l .direction) i;
     predecessor = compose-link l (t (l .road)) p i;
     successor = (compose-link l (not (t (l .road))) p ∙ ap (reverseLink same (toggled s t) rs l) (⊕-not (s (l .road)) (t (l .road)))) i;
   }
@@ -119,9 +121,9 @@ module _ (same : Span → Span → Bool) (s t : Span → Bool) (S : Steady same 
   pub compose : (m : Map) → Valid same m → reverseMap same t (reverseMap same s m) ≡ reverseMap same (toggled s t) m
   unfolding reverseMap
   compose m v = λ i. record {
-    roads = (map-map (reverseRoad s) (reverseRoad t) (m .roads) ∙ map-ext _ _ (m .roads) (each-map (compose-road s t) (m .roads) (v .ascending))) i;
-    junctions = (map-map (reverseJunction s) (reverseJunction t) (m .junctions) ∙ map-ext _ _ (m .junctions) (each (compose-junction s t) (m .junctions))) i;
-    lanes = (map-map (reverseLane same s (m .roads)) (reverseLane same t (map (reverseRoad s) (m .roads))) (m .lanes)
+    roads = (map-map (reverseRoad t) (reverseRoad s) (m .roads) ∙ map-ext _ _ (m .roads) (each-map (compose-road s t) (m .roads) (v .ascending))) i;
+    junctions = (map-map (reverseJunction t) (reverseJunction s) (m .junctions) ∙ map-ext _ _ (m .junctions) (each (compose-junction s t) (m .junctions))) i;
+    lanes = (map-map (reverseLane same t (map (reverseRoad s) (m .roads))) (reverseLane same s (m .roads)) (m .lanes)
         ∙ map-ext _ _ (m .lanes) (each-map (compose-lane same s t S (m .roads) (v .ascending)) (m .lanes) (v .placed))) i;
   }
 
@@ -175,42 +177,7 @@ module _ (same : Span → Span → Bool) where
     lanes = map-id _ (m .lanes) (each (idle-lane (m .roads)) (m .lanes)) i;
   }
 
--- a valid map stays valid
-module _ {A : Type 0} where
-  each-append : (P : A → Type 0) (xs ys : List A) → Each P xs → Each P ys → Each P (xs ++ ys)
-  each-append P [] ys h k = k
-  each-append P (x ∷ xs) ys h k = (h .0, each-append P xs ys (h .1) k)
-
-  each-reverse : (P : A → Type 0) (xs : List A) → Each P xs → Each P (reverse xs)
-  each-reverse P [] h = tt
-  each-reverse P (x ∷ xs) h = rw (reverse-cons x xs) (each-append P (reverse xs) (x ∷ []) (each-reverse P xs (h .1)) (h .0, tt))
-
-  some?-append : (p : A → Bool) (xs ys : List A) → some? p (xs ++ ys) ≡ some? p xs || some? p ys
-  some?-append p [] ys = refl
-  some?-append p (x ∷ xs) ys = rw (some?-append p xs ys) (or-assoc (p x) (some? p xs) (some? p ys))
-    where
-      or-assoc : (a b c : Bool) → a || (b || c) ≡ (a || b) || c
-      or-assoc true b c = refl
-      or-assoc false b c = refl
-
-  some?-reverse : (p : A → Bool) (xs : List A) → some? p (reverse xs) ≡ some? p xs
-  some?-reverse p [] = refl
-  some?-reverse p (x ∷ xs) = rw (reverse-cons x xs, some?-append p (reverse xs) (x ∷ []), some?-reverse p xs) (go (p x) (some? p xs))
-    where
-      go : (a b : Bool) → b || (a || false) ≡ a || b
-      go false false = refl
-      go false true = refl
-      go true false = refl
-      go true true = refl
-
-pub each-of-map : {A B : Type 0} (f : A → B) (P : B → Type 0) (xs : List A) → Each (λ x. P (f x)) xs → Each P (map f xs)
-each-of-map f P [] h = tt
-each-of-map f P (x ∷ xs) h = (h .0, each-of-map f P xs (h .1))
-
-pub each-both : {A : Type 0} (P Q : A → Type 0) (xs : List A) → Each P xs → Each Q xs → Each (λ x. P x × Q x) xs
-each-both P Q [] h k = tt
-each-both P Q (x ∷ xs) h k = ((h .0, k .0), each-both P Q xs (h .1) (k .1))
-
+-- ---- mirrored sections ascend, and have the members mirrored
 ascends-snoc : (xs : List ℕ) (x : ℕ) → Ascends xs → Each (λ y. y < x) xs → Ascends (xs ++ (x ∷ []))
 ascends-snoc [] x h k = (tt, tt)
 ascends-snoc (y ∷ ys) x h k = (each-append (λ z. y < z) ys (x ∷ []) (h .0) (k .0, tt), ascends-snoc ys x (h .1) (k .1))

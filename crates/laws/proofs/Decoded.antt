@@ -1,26 +1,25 @@
--- The words of what admitted tables mean are those tables. 
-use mathlib.Core.Path.{_≡_, refl, sym, _∙_, ap, ap₂, subst}
-use mathlib.Core.Bool.{Bool, true, false, not, _&&_, _||_, cond, false≢true, true≢false}
-use mathlib.Core.Option.{Option, none, some}
+-- The words of what admitted tables mean are those tables (encode after decode), table by table.
+use mathlib.Core.Path.{_≡_, refl, sym, _∙_, ap, ap₂}
+use mathlib.Core.Bool.{Bool, true, false, _&&_, _||_, cond}
+use mathlib.Core.Option.{none, some}
 use mathlib.Core.List.{List, [], _∷_, _++_, map}
-use Prim.Native.Nat.{ℕ, zero, suc, _+_, _*_, _/_, _%_, _<_, _≤_}
+use Prim.Native.Nat.{ℕ, zero, suc, _%_}
 use native.Mathlib.Omega.{arith}
 use lib.Dec.{eqb, leb}
 use lib.Ieee.{Float}
-use lib.ListN.{length, take, drop, length-append, length-map, take-append-drop, length-drop}
-use lib.Seq.{take-at, drop-at, length-take-le}
-use borrow.Author.Tests.{leb-true, ne-eqb, eqb-true}
+use lib.ListN.{length, take-append-drop, length-drop}
+use lib.Seq.{length-take-le}
+use borrow.Author.Tests.{leb-true, eqb-true}
 use Rattle.model.specs.Lists.{every, gather}
 use Rattle.model.specs.Records.{Connection, Lane, Pair}
 use Rattle.model.specs.Rows.{part, partsFit, rowsFrom, table, word}
 use Rattle.model.specs.Rules.{connectionWorded, junctionWorded, laneWorded, linkWorded, roadWorded, targetWorded}
 use Rattle.model.specs.Tables.{allConnections, bit, connectionIn, connectionRow, directionOf, directionWord, edgeRow, flag, isAbsent, junctionIn, junctionRow, junctionWords, kindOf, kindWord, laneIn, laneRow, laneWords, linkOf, linkWords, nameIn, nameWords, pairIn, pairRow, roadIn, roadRow, roadWords, sectionWords, spanIn, targetOf, targetWords, withEdges}
 use Rattle.model.specs.Text.{placed}
-use Rattle.laws.proofs.Basics.{each-map}
-use Rattle.laws.proofs.Compose.{each-both}
 use Rattle.laws.proofs.Encoded.{Six}
+use Rattle.laws.proofs.ForEach.{each-both, each-map}
 use Rattle.laws.proofs.Lay.{gather-table, parts-forth, rows-forth, spelled, table-width, wordsFrom}
-use Rattle.laws.proofs.RulesReversed.{and-left, and-right, every-each}
+use Rattle.laws.proofs.ListTests.{and-left, and-right, every-each}
 use Rattle.laws.proofs.Valid.{Each}
 
 pub bit-flag : (k : ℕ) → leb k 1 ≡ true → bit (flag k) ≡ k
@@ -144,41 +143,40 @@ gather-id {B = B} f g (r ∷ rs) h = ap₂ (λ (a b : List B). a ++ b) (h .0) (g
 rows-pass : (test : List ℕ → Bool) (w : ℕ) (ws : List ℕ) → length ws % w ≡ 0 → every test (table w ws) ≡ true → Each (Worded test w) (table w ws)
 rows-pass test w ws e h = each-both (λ r. test r ≡ true) (λ r. length r ≡ w) (table w ws) (every-each test (table w ws) h) (table-width w ws e)
 
+-- a table whose rows have parts in another: its rows are given back, and so is the other
+module _ {X A : Type 0} (test : List ℕ → Bool) (w kf kc : ℕ) (row : ℕ → X → List ℕ) (f : X → List A) (from : List ℕ → X) (all : List A)
+    (reads : (r : List ℕ) → f (from r) ≡ part (word r kf) (word r kc) all)
+    (forth : (r : List ℕ) → Worded test w r → length (f (from r)) ≡ word r kc → row (word r kf) (from r) ≡ r) where
+  table-forth : (ws : List ℕ) → length ws % w ≡ 0 → every test (table w ws) ≡ true → partsFit kf kc 0 (length all) (table w ws) ≡ true →
+      (rowsFrom row f 0 (map from (table w ws)) ≡ ws) × (gather f (map from (table w ws)) ≡ all)
+  table-forth ws e h p = (
+    rows-forth kf kc row f from all (Worded test w) reads forth 0 (table w ws) (rows-pass test w ws e h) p ∙ gather-table w ws e,
+    parts-forth kf kc row f from all (Worded test w) reads forth 0 (table w ws) p,
+  )
+
 module _ (text : List ℕ) where
   pub roads-forth : (ws ss : List ℕ) → length ws % 20 ≡ 0 → every (roadWorded text) (table 20 ws) ≡ true → partsFit 18 19 0 (length ss) (table 20 ws) ≡ true →
       (roadWords (map (roadIn ss) (table 20 ws)) ≡ ws) × (sectionWords (map (roadIn ss) (table 20 ws)) ≡ ss)
   unfolding roadWords sectionWords
-  roads-forth ws ss e h p = (
-    rows-forth 18 19 roadRow (λ r. r .sections) (roadIn ss) ss (Worded (roadWorded text) 20) (λ r. unfold roadIn in refl) (λ r q c. road-forth text ss r q c) 0 (table 20 ws) (rows-pass (roadWorded text) 20 ws e h) p
-        ∙ gather-table 20 ws e,
-    parts-forth 18 19 roadRow (λ r. r .sections) (roadIn ss) ss (Worded (roadWorded text) 20) (λ r. unfold roadIn in refl) (λ r q c. road-forth text ss r q c) 0 (table 20 ws) p,
-  )
+  roads-forth ws ss = table-forth (roadWorded text) 20 18 19 roadRow (λ r. r .sections) (roadIn ss) ss (λ r. unfold roadIn in refl) (road-forth text ss) ws
 
   pub pairs-forth : (ws : List ℕ) → length ws % 2 ≡ 0 → gather pairRow (map pairIn (table 2 ws)) ≡ ws
   pairs-forth ws e = gather-id pairRow pairIn (table 2 ws) (each-map pair-forth (table 2 ws) (table-width 2 ws e)) ∙ gather-table 2 ws e
 
   pub connections-forth : (ws : List ℕ) (ps : List Pair) → length ws % 7 ≡ 0 → every (connectionWorded text) (table 7 ws) ≡ true → partsFit 5 6 0 (length ps) (table 7 ws) ≡ true →
       (rowsFrom connectionRow (λ c. c .pairs) 0 (map (connectionIn ps) (table 7 ws)) ≡ ws) × (gather (λ c. c .pairs) (map (connectionIn ps) (table 7 ws)) ≡ ps)
-  connections-forth ws ps e h p = (
-    rows-forth 5 6 connectionRow (λ c. c .pairs) (connectionIn ps) ps (Worded (connectionWorded text) 7) (λ r. unfold connectionIn in refl) (λ r q c. connection-forth text ps r q c) 0 (table 7 ws) (rows-pass (connectionWorded text) 7 ws e h) p
-        ∙ gather-table 7 ws e,
-    parts-forth 5 6 connectionRow (λ c. c .pairs) (connectionIn ps) ps (Worded (connectionWorded text) 7) (λ r. unfold connectionIn in refl) (λ r q c. connection-forth text ps r q c) 0 (table 7 ws) p,
-  )
+  connections-forth ws ps = table-forth (connectionWorded text) 7 5 6 connectionRow (λ c. c .pairs) (connectionIn ps) ps (λ r. unfold connectionIn in refl) (connection-forth text ps) ws
 
   pub junctions-forth : (ws : List ℕ) (cs : List Connection) → length ws % 5 ≡ 0 → every (junctionWorded text) (table 5 ws) ≡ true → partsFit 3 4 0 (length cs) (table 5 ws) ≡ true →
       (junctionWords (map (junctionIn cs) (table 5 ws)) ≡ ws) × (allConnections (map (junctionIn cs) (table 5 ws)) ≡ cs)
   unfolding junctionWords allConnections
-  junctions-forth ws cs e h p = (
-    rows-forth 3 4 junctionRow (λ j. j .connections) (junctionIn cs) cs (Worded (junctionWorded text) 5) (λ r. unfold junctionIn in refl) (λ r q c. junction-forth text cs r q c) 0 (table 5 ws) (rows-pass (junctionWorded text) 5 ws e h) p
-        ∙ gather-table 5 ws e,
-    parts-forth 3 4 junctionRow (λ j. j .connections) (junctionIn cs) cs (Worded (junctionWorded text) 5) (λ r. unfold junctionIn in refl) (λ r q c. junction-forth text cs r q c) 0 (table 5 ws) p,
-  )
+  junctions-forth ws cs = table-forth (junctionWorded text) 5 3 4 junctionRow (λ j. j .connections) (junctionIn cs) cs (λ r. unfold junctionIn in refl) (junction-forth text cs) ws
 
   pub lanes-forth : (ws : List ℕ) → length ws % 10 ≡ 0 → every (laneWorded text) (table 10 ws) ≡ true → laneWords (map laneIn (table 10 ws)) ≡ ws
   unfolding laneWords
   lanes-forth ws e h = gather-id laneRow laneIn (table 10 ws) (each-map (lane-forth text) (table 10 ws) (rows-pass (laneWorded text) 10 ws e h)) ∙ gather-table 10 ws e
 
--- the lanes with their ends
+-- the lanes with their edges
 pub edges-forth : (ls : List Lane) (es : List (List Float)) → length ls ≡ length es → gather edgeRow (withEdges ls es) ≡ gather (λ r. r) es
 unfolding edgeRow
 edges-forth [] [] h = refl

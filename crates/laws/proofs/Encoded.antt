@@ -1,22 +1,20 @@
--- The words of a map mean that map. 
-use mathlib.Core.Path.{_≡_, refl, sym, _∙_, ap, ap₂, subst}
-use mathlib.Core.Bool.{Bool, true, false, not, _&&_, _||_, cond}
+-- The words of a map mean that map (decode after encode).
+use mathlib.Core.Path.{_≡_, refl, sym, _∙_, ap, ap₂}
+use mathlib.Core.Bool.{Bool, true, false, cond}
 use mathlib.Core.Option.{Option, none, some}
-use mathlib.Core.List.{List, [], _∷_, _++_, map}
-use Prim.Native.Nat.{ℕ, zero, suc, _+_, _*_, _<_, _≤_}
+use mathlib.Core.List.{List, [], _∷_, map, map-map}
+use Prim.Native.Nat.{ℕ}
 use native.Mathlib.Omega.{arith}
-use lib.Dec.{eqb, leb}
-use lib.Ieee.{Float}
-use lib.ListN.{length, take, drop, length-append}
+use lib.ListN.{length, length-append}
 use lib.Seq.{take-at, drop-at}
-use borrow.Author.Tests.{leb-true, ne-eqb}
 use Rattle.geometry.specs.declared.gap.Direction.{Direction}
 use Rattle.geometry.specs.declared.gap.Direction.the-variants.{Backward, Both, Forward}
-use Rattle.model.specs.Lists.{every, gather, isSome}
+use Rattle.model.specs.Lists.{gather, isSome}
 use Rattle.model.specs.Records.{Connection, EdgedLane, Junction, JunctionKind, Lane, Map, Pair, Road, Span, Target, common, direct, virtual}
 use Rattle.model.specs.Rows.{part, table}
 use Rattle.model.specs.Tables.{allConnections, allPairs, bit, connectionIn, connectionRow, connectionWords, connectionsIn, directionOf, directionWord, edgeRow, edgeWords, edgedLanesOf, flag, isAbsent, junctionIn, junctionRow, junctionWords, junctionsIn, kindOf, kindWord, laneIn, laneRow, laneWords, lanesIn, linkFlag, linkNumber, linkOf, mapOf, nameSize, nameStart, pairIn, pairRow, pairWords, pairsIn, roadIn, roadRow, roadWords, roadsIn, sectionWords, tablesOf, targetOf, targetWord, withEdges}
-use Rattle.laws.proofs.Basics.{each, each-map, map-id, map-map}
+use Rattle.laws.proofs.Basics.{map-id}
+use Rattle.laws.proofs.ForEach.{each, each-map}
 use Rattle.laws.proofs.Lay.{parts-back, table-even, table-from}
 use Rattle.laws.proofs.Valid.{Each}
 
@@ -96,7 +94,7 @@ pub lane-width : (l : Lane) → length (laneRow l) ≡ 10
 unfolding laneRow
 lane-width l = refl
 
--- ends of six floats each
+-- six floats at each end
 abbrev pub Six : EdgedLane → Type 0
 Six x = (length (x .atStart) ≡ 6) × (length (x .atEnd) ≡ 6)
 
@@ -119,7 +117,7 @@ roads-back rs h = ap (map (roadIn (gather (λ r. r .sections) rs))) (table-from 
 pub pairs-back : (js : List Junction) → map pairIn (table 2 (pairWords js)) ≡ allPairs js
 unfolding pairWords
 pairs-back js = ap (map pairIn) (table-even 2 pairRow (allPairs js) (omega arith) (each pair-width (allPairs js)))
-    ∙ map-map pairRow pairIn (allPairs js) ∙ map-id (λ p. pairIn (pairRow p)) (allPairs js) (each pair-back (allPairs js))
+    ∙ map-map pairIn pairRow (allPairs js) ∙ map-id (λ p. pairIn (pairRow p)) (allPairs js) (each pair-back (allPairs js))
 
 pub connections-back : (js : List Junction) → map (connectionIn (allPairs js)) (table 7 (connectionWords js)) ≡ allConnections js
 unfolding connectionWords allPairs
@@ -133,7 +131,7 @@ junctions-back js = ap (map (junctionIn (gather (λ j. j .connections) js))) (ta
 
 pub lanes-back : (ls : List Lane) → map laneIn (table 10 (laneWords ls)) ≡ ls
 unfolding laneWords
-lanes-back ls = ap (map laneIn) (table-even 10 laneRow ls (omega arith) (each lane-width ls)) ∙ map-map laneRow laneIn ls ∙ map-id (λ l. laneIn (laneRow l)) ls (each lane-back ls)
+lanes-back ls = ap (map laneIn) (table-even 10 laneRow ls (omega arith) (each lane-width ls)) ∙ map-map laneIn laneRow ls ∙ map-id (λ l. laneIn (laneRow l)) ls (each lane-back ls)
 
 module _ (text : List ℕ) (m : Map) (xs : List EdgedLane) where
   -- decode after encode

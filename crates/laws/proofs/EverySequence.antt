@@ -1,11 +1,12 @@
--- DEMAND 3: the single claim about any sequence of reversal calls on any tables.
+-- DEMAND 3: the single claim about any sequence of reversal calls on any tables. (Theorems.antt states it beside the other main theorems.)
 use mathlib.Core.Path.{_≡_, refl, sym, _∙_, ap, subst}
-use mathlib.Core.Bool.{Bool, true, false, false≢true}
+use mathlib.Core.Bool.{Bool, true, false, false≢true, not}
 use mathlib.Core.Option.{Option, none, some}
 use mathlib.Core.List.{List, map}
 use Prim.Native.Nat.{ℕ}
-use Rattle.model.specs.Calls.{ListOutputs, ReversalOutputs, gapContent, listContent, putReversed, repairContent, repairRefusal, reversalCall, reversalContent, reversalCounts, reversalLengths, reversalRefusal, settled, successionCall, tableRules, wrote}
+use Rattle.model.specs.Calls.{ListOutputs, ReversalOutputs, gapContent, listContent, repairContent, repairRefusal, reversalCall, reversalContent, reversalLengths, reversalRefusal, successionCall, tableRules, wrote}
 use Rattle.model.specs.Claim.{Claim, Mutual, listRows, repairedTables, reversedWarning}
+use Rattle.model.specs.Lists.{isSome}
 use Rattle.model.specs.Records.{Span}
 use Rattle.model.specs.Reversal.{reverseEdged, reverseMap}
 use Rattle.model.specs.Rows.{table}
@@ -14,8 +15,8 @@ use Rattle.model.specs.Sequence.{Call, after, answers, answersBySet, anyAccepte
 use Rattle.model.specs.Tables.{Tables, roadsOf, tablesOf}
 use Rattle.model.specs.Text.{sameIn}
 use Rattle.laws.proofs.Packed.{mutual-lists}
-use Rattle.laws.proofs.SameFound.{found-turn, repairRefusal-turn, same-gaps, same-lists}
-use Rattle.laws.proofs.SameWarnings.{warned-empty, warned-turn}
+use Rattle.laws.proofs.SameFound.{found-reversed, repairRefusal-reversed, same-gaps, same-lists}
+use Rattle.laws.proofs.SameWarnings.{warned-empty, warned-reversed}
 use Rattle.laws.proofs.Valid.{reverseModel}
 use Rattle.laws.proofs.WordsReversed.{Fine, accepted-leaves, fine, fine-sound, fine-words, lengths-are, modelOf, modelRules, sixLengths, wordsOf}
 use Rattle.laws.proofs.Sequences as seq
@@ -54,7 +55,7 @@ module _ (t : Tables) (cs : List Call) where
     said-are : answers t cs ≡ answersBySet t (emptySet t) cs
     said-are = ap (λ u. answers u cs) (sym (seq.empty-same t f)) ∙ seq.answers-by t f cs (emptySet t) (seq.ready-empty t f)
 
-    numbers : anyAccepted (answers t cs) ≡ true → seq.Turnable13 t f
+    numbers : anyAccepted (answers t cs) ≡ true → seq.Rule13 t f
     numbers a = seq.any-numbers t f cs (emptySet t) (seq.ready-empty t f) (ap (λ u. anyAccepted (answers u cs)) (seq.empty-same t f) ∙ a)
 
     untouched : anyAccepted (answers t cs) ≡ false → run t cs ≡ t
@@ -71,17 +72,16 @@ module _ (t : Tables) (cs : List Call) where
     leaves c q = ap (λ u. after u c) (sym (fine-words t f)) ∙ accepted-leaves (t .text) (modelOf t) (fine-sound t f) c (ap (λ u. reversalRefusal u (c .marks) (reversalLengths (c .outs))) (fine-words t f) ∙ q) ∙ ap (reversedOnceBy (c .marks)) (fine-words t f)
 
     answered : (marks : List ℕ) (outs : ReversalOutputs) → reversalRefusal t marks (reversalLengths outs) ≡ none → isAccepted (reversalCall t marks outs .answer) ≡ true
-    unfolding reversalCall
-    answered marks outs q = ap (λ r. isAccepted (settled r (reversalCounts (reversalContent t marks)) (putReversed (reversalContent t marks) outs) outs .answer)) q
+    answered marks outs q = seq.accepted-is t marks outs ∙ ap (λ o. not (isSome o)) q
 
     -- the tables by the set, over the map
     abbrev s : Span → Bool
     s = seq.inSet t f (setAfter t (emptySet t) cs)
 
     over-map : run t cs ≡ tablesOf (t .text) (reverseMap (sameIn (t .text)) (seq.inSet t f (setAfter t (emptySet t) cs)) (modelOf t .map)) (map (reverseEdged (sameIn (t .text)) (seq.inSet t f (setAfter t (emptySet t) cs)) (modelOf t .map .roads)) (modelOf t .edged))
-    over-map = tables-are ∙ seq.turned-as t f S ∙ (unfold reverseModel in refl)
+    over-map = tables-are ∙ seq.reversedOnceBy-words t f S ∙ (unfold reverseModel in refl)
 
-    by-case : (P : Tables → Type 0) → P t → (seq.Turnable13 t f → P (run t cs)) → P (run t cs)
+    by-case : (P : Tables → Type 0) → P t → (seq.Rule13 t f → P (run t cs)) → P (run t cs)
     by-case P p k = go (anyAccepted (answers t cs)) refl
       where
         go : (b : Bool) → anyAccepted (answers t cs) ≡ b → P (run t cs)
@@ -91,14 +91,14 @@ module _ (t : Tables) (cs : List Call) where
     good-claim : Claim t cs
     good-claim = record {
       said = said-are;
-      tables = tables-are ∙ sym (seq.reversed-as t f S);
+      tables = tables-are ∙ sym (seq.reversedBy-is t f S);
       odd = seq.odd-by t f cs (emptySet t) (seq.ready-empty t f) ∙ ap (λ u. oddMarks (emptySet t) (answers u cs) cs) (seq.empty-same t f);
       at-once = λ a outs l. (answered S outs (once-accepted a outs l), leaves (record { marks = S; outs = outs }) (once-accepted a outs l) ∙ sym tables-are);
       repairs = λ lengths. by-case (λ u. repairRefusal u lengths ≡ repairRefusal t lengths) refl
-          (λ n. ap (λ u. repairRefusal u lengths) over-map ∙ repairRefusal-turn (t .text) (modelOf t .map) (modelOf t .edged) (fine-sound t f) s (seq.held-set t f S ready n) lengths ∙ ap (λ u. repairRefusal u lengths) (fine-words t f));
-      warned = ap (λ u. table 4 (repairContent u .warnings)) over-map ∙ warned-turn (t .text) (modelOf t .map) (modelOf t .edged) (fine-sound t f) S (ready .marks-for) ∙ ap (λ u. map (reversedWarning S) (table 4 (repairContent u .warnings))) (fine-words t f);
+          (λ n. ap (λ u. repairRefusal u lengths) over-map ∙ repairRefusal-reversed (t .text) (modelOf t .map) (modelOf t .edged) (fine-sound t f) s (seq.held-set t f S ready n) lengths ∙ ap (λ u. repairRefusal u lengths) (fine-words t f));
+      warned = ap (λ u. table 4 (repairContent u .warnings)) over-map ∙ warned-reversed (t .text) (modelOf t .map) (modelOf t .edged) (fine-sound t f) S (ready .marks-for) ∙ ap (λ u. map (reversedWarning S) (table 4 (repairContent u .warnings))) (fine-words t f);
       alike = λ q. by-case (λ u. found q u ≡ found q t) refl
-          (λ n. ap (found q) over-map ∙ found-turn (t .text) (modelOf t .map) (modelOf t .edged) (fine-sound t f) s (seq.held-set t f S ready n) q ∙ ap (found q) (fine-words t f));
+          (λ n. ap (found q) over-map ∙ found-reversed (t .text) (modelOf t .map) (modelOf t .edged) (fine-sound t f) s (seq.held-set t f S ready n) q ∙ ap (found q) (fine-words t f));
       same-lists = by-case (λ u. listContent (repairedTables u) ≡ listContent (repairedTables t)) refl
           (λ n. ap (λ u. listContent (repairedTables u)) over-map ∙ same-lists (t .text) (modelOf t .map) (modelOf t .edged) (fine-sound t f) s (seq.held-set t f S ready n) ∙ ap (λ u. listContent (repairedTables u)) (fine-words t f));
       same-gaps = λ offsets ids. by-case (λ u. gapContent (repairedTables u) offsets ids ≡ gapContent (repairedTables t) offsets ids) refl

@@ -1,4 +1,4 @@
--- What repair adds is at most as many connections and pairs again, so what it writes passes 1 to 5 at the limits of the later calls.
+-- Repair at most doubles the connections and the pairs, so what it writes passes rules 1 to 5 at the limits of the later calls.
 use mathlib.Core.Path.{_≡_, refl, sym, _∙_, ap, subst}
 use mathlib.Core.Bool.{Bool, true, false, not, _&&_, cond}
 use mathlib.Core.Option.{Option, none, some}
@@ -8,7 +8,7 @@ use native.Mathlib.Nat.{mul-mod-left}
 use native.Mathlib.Omega.{arith}
 use lib.Dec.{eqb, leb}
 use lib.ListN.{length, length-append, length-map}
-use borrow.Author.Tests.{leb-true, le-leb, eq-eqb}
+use borrow.Author.Tests.{le-leb, eq-eqb}
 use Rattle.model.specs.Calls.{repairContent, repairRules, rulesTo5}
 use Rattle.model.specs.Claim.{repairedTables}
 use Rattle.model.specs.Lists.{bindO, gather, keep, listO, some?}
@@ -16,13 +16,14 @@ use Rattle.model.specs.Records.{Connection, Junction, JunctionKind, Map, Road, 
 use Rattle.model.specs.Repair.{backAt, backOf, connectionsAfter, junctionsOver, meetingEnd, repair, repairJunction, repairRoads, reversed, roadOf, runsBack, startRoads, swapped}
 use Rattle.model.specs.Rows.{table}
 use Rattle.model.specs.Rules.{connectionPartsFit, connectionsFit, edgesEven, edgesSized, firstBroken, idsOnce, lanesSized, lanesWorded, listedIn, mapSized, mapWorded, namesOnce, pairPartsFit, placesOnce, roadsOnce, sectionPartsFit, sectionsAscend, sectionsFit, sized}
-use Rattle.model.specs.Tables.{Tables, allConnections, allPairs, connectionWords, connectionsIn, edgedLanesOf, junctionWords, junctionsIn, lanesIn, mapOf, pairWords, pairsIn, roadWords, roadsIn, sectionWords, tablesOf}
+use Rattle.model.specs.Tables.{Tables, allConnections, allPairs, connectionWords, connectionsIn, edgedLanesOf, junctionWords, junctionsIn, lanesIn, mapOf, mapTables, pairWords, pairsIn, roadWords, roadsIn, sectionWords, tablesOf}
 use Rattle.model.specs.Text.{sameIn}
-use Rattle.laws.proofs.Admitted.{Passed, Sound, Whole, forth, is-sound, passed, whole}
-use Rattle.laws.proofs.Decoded.{and6}
+use Rattle.laws.proofs.Admitted.{Whole, forth, is-sound, sized-most, sizes-of, whole}
+use Rattle.laws.proofs.ListTests.{and-both, and-left}
 use Rattle.laws.proofs.RepairKeeps.{came-whole}
-use Rattle.laws.proofs.RulesReversed.{all-pass, and-both, and-left, and-right, pass-all}
+use Rattle.laws.proofs.RulesReversed.{all-pass, pass-all}
 use Rattle.laws.proofs.SameFound.{repaired-tables}
+use Rattle.laws.proofs.SoundMaps.{Passed, Sound, passed}
 use Rattle.laws.proofs.StaySound.{sound-repair}
 use Rattle.laws.proofs.WordsReversed.{length-connections, length-junctions, length-pairs, length-roads}
 
@@ -118,7 +119,7 @@ module _ (same : Span → Span → Bool) where
 -- ---- the tables that repair writes, at the limits of the later calls
 -- repair reads no lanes: the tables without them
 unfoldable bare : Tables → Tables
-bare t = record { text = t .text; roads = t .roads; sections = t .sections; junctions = t .junctions; connections = t .connections; pairs = t .pairs; lanes = []; edges = [] }
+bare t = mapTables (t .text) (t .roads) (t .sections) (t .junctions) (t .connections) (t .pairs)
 
 module _ (t : Tables) (h : firstBroken (repairRules t) ≡ none) where
   rules : (mapSized 8192 t ≡ true) × (mapWorded t ≡ true) × (roadsOnce t ≡ true) × (sectionsFit t ≡ true) × (connectionsFit t ≡ true)
@@ -164,13 +165,8 @@ module _ (t : Tables) (h : firstBroken (repairRules t) ≡ none) where
   unfolding sized
   sized-of w k n most e l = and-both (eqb (n % w) 0) (leb n (most * w)) (eq-eqb (n % w) 0 (ap (λ (a : ℕ). a % w) e ∙ mul-mod-left k w)) (le-leb n (most * w) (subst (λ (a : ℕ). a ≤ most * w) (sym e) (native.Mathlib.Nat.mul-le-mul-right w l)))
 
-  at-most : (w most n : ℕ) → sized w most n ≡ true → n ≤ most * w
-  unfolding sized
-  at-most w most n q = leb-true n (most * w) (and-right (eqb (n % w) 0) (leb n (most * w)) q)
-
   limits : (leb (length (t .text)) 1048576 ≡ true) × (sized 20 16384 (length (t .roads)) ≡ true) × (sized 1 16384 (length (t .sections)) ≡ true) × (sized 5 16384 (length (t .junctions)) ≡ true) × (sized 7 8192 (length (t .connections)) ≡ true) × (sized 2 8192 (length (t .pairs)) ≡ true)
-  unfolding mapSized
-  limits = and6 (leb (length (t .text)) 1048576) (sized 20 16384 (length (t .roads))) (sized 1 16384 (length (t .sections))) (sized 5 16384 (length (t .junctions))) (sized 7 8192 (length (t .connections))) (sized 2 8192 (length (t .pairs))) (rules .0)
+  limits = sizes-of 8192 t (rules .0)
 
   roads-words : length (t .roads) ≡ length (mapOf (bare t) .roads) * 20
   unfolding tablesOf bare
@@ -202,16 +198,16 @@ module _ (t : Tables) (h : firstBroken (repairRules t) ≡ none) where
       n = repair (sameIn (t .text)) (mapOf (bare t))
 
       roads-few : length (repair (sameIn (t .text)) (mapOf (bare t)) .roads) ≤ 16384
-      roads-few = let a = at-most 20 16384 (length (t .roads)) (limits .1) in let b = roads-words in let c = roads-same in omega arith
+      roads-few = let a = sized-most 20 16384 (length (t .roads)) (limits .1) in let b = roads-words in let c = roads-same in omega arith
 
       junctions-few : length (repair (sameIn (t .text)) (mapOf (bare t)) .junctions) ≤ 16384
-      junctions-few = let a = at-most 5 16384 (length (t .junctions)) (limits .3) in let b = junctions-words in let c = junctions-count (sameIn (t .text)) (mapOf (bare t)) in omega arith
+      junctions-few = let a = sized-most 5 16384 (length (t .junctions)) (limits .3) in let b = junctions-words in let c = junctions-count (sameIn (t .text)) (mapOf (bare t)) in omega arith
 
       connections-few : length (allConnections (repair (sameIn (t .text)) (mapOf (bare t)) .junctions)) ≤ 16384
-      connections-few = let a = at-most 7 8192 (length (t .connections)) (limits .4) in let b = connections-words in let c = repair-small (sameIn (t .text)) (mapOf (bare t)) .0 in omega arith
+      connections-few = let a = sized-most 7 8192 (length (t .connections)) (limits .4) in let b = connections-words in let c = repair-small (sameIn (t .text)) (mapOf (bare t)) .0 in omega arith
 
       pairs-few : length (allPairs (repair (sameIn (t .text)) (mapOf (bare t)) .junctions)) ≤ 16384
-      pairs-few = let a = at-most 2 8192 (length (t .pairs)) (limits .5) in let b = pairs-words in let c = repair-small (sameIn (t .text)) (mapOf (bare t)) .1 in omega arith
+      pairs-few = let a = sized-most 2 8192 (length (t .pairs)) (limits .5) in let b = pairs-words in let c = repair-small (sameIn (t .text)) (mapOf (bare t)) .1 in omega arith
 
       sections-few : sized 1 16384 (length (sectionWords (repair (sameIn (t .text)) (mapOf (bare t)) .roads))) ≡ true
       sections-few = kept-sections
@@ -223,7 +219,7 @@ module _ (t : Tables) (h : firstBroken (repairRules t) ≡ none) where
           && sized-of 7 (length (allConnections (n .junctions))) (length (connectionWords (n .junctions))) 16384 (length-connections (n .junctions)) connections-few i
           && sized-of 2 (length (allPairs (n .junctions))) (length (pairWords (n .junctions))) 16384 (length-pairs (n .junctions)) pairs-few i
 
-  -- what repair writes passes 1 to 5 at the limits of the later calls
+  -- what repair writes passes rules 1 to 5 at the limits of the later calls
   pub repair-admitted : firstBroken (rulesTo5 (mapSized 16384 (repairedTables t)) (mapWorded (repairedTables t)) (repairedTables t)) ≡ none
   unfolding rulesTo5
   repair-admitted = pass-all (rulesTo5 (mapSized 16384 (repairedTables t)) (mapWorded (repairedTables t)) (repairedTables t)) (sizes, (and-left (mapWorded (repairedTables t)) (lanesWorded (repairedTables (bare t))) worded-both, (once, (sections, (connections, tt)))))

@@ -1,60 +1,52 @@
--- Reversal of a map with its edges composes; what every set of roads that accepted calls have made has; what repair and the lists come to on the map reversed by it.
+-- Reversal of a map with its edges composes; what holds of every set of roads that accepted calls have made; what repair and the lists come to on the map reversed by such a set.
 use mathlib.Core.Path.{_≡_, refl, sym, _∙_, ap, subst}
-use mathlib.Core.Bool.{Bool, true, false, not, _&&_, _||_, cond}
+use mathlib.Core.Bool.{Bool, true, false, not, _&&_, cond}
 use mathlib.Core.Option.{none, some}
-use mathlib.Core.List.{List, [], _∷_, map}
+use mathlib.Core.List.{List, [], _∷_, map, map-map}
 use Prim.Native.Nat.{ℕ}
 use lib.Dec.{eqb}
 use lib.ListN.{length, length-map}
-use Rattle.model.specs.Lists.{_⊕_, ascends, distinct, every, first, gather, member, pick}
+use Rattle.model.specs.Lists.{ascends, distinct, every, first, gather, member}
 use Rattle.model.specs.Records.{Connection, EdgedLane, Junction, Map, Road, Span}
 use Rattle.model.specs.Repair.{repair, roadOf, warnings}
 use Rattle.model.specs.Reversal.{marked, reverseEdged, reverseJunction, reverseLane, reverseMap, reverseRoad, reverseWarning}
 use Rattle.model.specs.Rules.{isDirect, laneFine}
 use Rattle.model.specs.Succession.{predecessorLists, sectionsOf, successorLists}
-use Rattle.laws.proofs.Basics.{each, each-map, map-ext, map-id, map-map}
+use Rattle.laws.proofs.Basics.{gather-map, length-gather, map-ext, map-id, no-some, pick-twice}
 use Rattle.laws.proofs.Compose.{compose, compose-lane, idle, idle-lane}
-use Rattle.laws.proofs.Names.{no-some}
+use Rattle.laws.proofs.ForEach.{each, each-map, each-of}
+use Rattle.laws.proofs.JunctionsReversed.{repair-junctions}
+use Rattle.laws.proofs.ListTests.{distinct-map, each-every, either-right, every-ext, every-map}
 use Rattle.laws.proofs.RepairKeeps.{came-whole}
-use Rattle.laws.proofs.RepairReversed.{bareRoad, repair-junctions, repair-roads}
-use Rattle.laws.proofs.RulesReversed.{Good, connections-length, distinct-map, each-every, every-ext, every-map, gather-over, good-valid, length-gather, pairs-length, turnable}
+use Rattle.laws.proofs.RepairReversed.{bareRoad, repair-roads}
+use Rattle.laws.proofs.RulesReversed.{Good, connections-length, good-valid, pairs-length, reversible}
 use Rattle.laws.proofs.SameGaps.{predecessorLists-reversed, successorLists-reversed}
 use Rattle.laws.proofs.Valid.{Alike, Each, Model, Placed, Steady, Valid, junctionFine, nobody, noneTwice, reverseModel, toggled}
 use Rattle.laws.proofs.WarningsReversed.{warnings-reversed}
 
-pub each-of : {A B : Type 0} (f : A → B) (P : B → Type 0) (xs : List A) → Each P (map f xs) → Each (λ x. P (f x)) xs
-each-of f P [] h = tt
-each-of f P (x ∷ xs) h = (h .0, each-of f P xs (h .1))
-
 module _ (same : Span → Span → Bool) where
-  pub twice-picked : {E : Type 0} (a b : Bool) (x y : E) → pick b (pick a x y) (pick a y x) ≡ pick (a ⊕ b) x y
-  twice-picked false false x y = refl
-  twice-picked false true x y = refl
-  twice-picked true false x y = refl
-  twice-picked true true x y = refl
-
-  pub compose-tables : (s t : Span → Bool) → Steady same s → (x : Model) → Valid same (x .map) → Each (λ y. Placed same (x .map .roads) (y .lane)) (x .edged) →
+  pub compose-model : (s t : Span → Bool) → Steady same s → (x : Model) → Valid same (x .map) → Each (λ y. Placed same (x .map .roads) (y .lane)) (x .edged) →
       reverseModel same t (reverseModel same s x) ≡ reverseModel same (toggled s t) x
   unfolding reverseModel
-  compose-tables s t S x v p = λ i. record {
+  compose-model s t S x v p = λ i. record {
     map = compose same s t S (x .map) v i;
-    edged = laidSame i;
+    edged = edged-same i;
   }
     where
       one : (y : EdgedLane) → Placed same (x .map .roads) (y .lane) → reverseEdged same t (map (reverseRoad s) (x .map .roads)) (reverseEdged same s (x .map .roads) y) ≡ reverseEdged same (toggled s t) (x .map .roads) y
       one y q = unfold reverseEdged toggled reverseLane in λ i. record {
         lane = compose-lane same s t S (x .map .roads) (v .ascending) (y .lane) q i;
-        atStart = twice-picked (s (y .lane .road)) (t (y .lane .road)) (y .atStart) (y .atEnd) i;
-        atEnd = twice-picked (s (y .lane .road)) (t (y .lane .road)) (y .atEnd) (y .atStart) i;
+        atStart = pick-twice (s (y .lane .road)) (t (y .lane .road)) (y .atStart) (y .atEnd) i;
+        atEnd = pick-twice (s (y .lane .road)) (t (y .lane .road)) (y .atEnd) (y .atStart) i;
       }
 
-      laidSame : map (reverseEdged same t (reverseMap same s (x .map) .roads)) (map (reverseEdged same s (x .map .roads)) (x .edged)) ≡ map (reverseEdged same (toggled s t) (x .map .roads)) (x .edged)
-      laidSame = unfold reverseMap in (map-map (reverseEdged same s (x .map .roads)) (reverseEdged same t (map (reverseRoad s) (x .map .roads))) (x .edged)
+      edged-same : map (reverseEdged same t (reverseMap same s (x .map) .roads)) (map (reverseEdged same s (x .map .roads)) (x .edged)) ≡ map (reverseEdged same (toggled s t) (x .map .roads)) (x .edged)
+      edged-same = unfold reverseMap in (map-map (reverseEdged same t (map (reverseRoad s) (x .map .roads))) (reverseEdged same s (x .map .roads)) (x .edged)
           ∙ map-ext (λ y. reverseEdged same t (map (reverseRoad s) (x .map .roads)) (reverseEdged same s (x .map .roads) y)) (reverseEdged same (toggled s t) (x .map .roads)) (x .edged) (each-map one (x .edged) p))
 
-  pub idle-tables : (x : Model) → reverseModel same nobody x ≡ x
+  pub idle-model : (x : Model) → reverseModel same nobody x ≡ x
   unfolding reverseModel
-  idle-tables x = λ i. record { map = idle same (x .map) i; edged = map-id (reverseEdged same nobody (x .map .roads)) (x .edged) (each one (x .edged)) i }
+  idle-model x = λ i. record { map = idle same (x .map) i; edged = map-id (reverseEdged same nobody (x .map .roads)) (x .edged) (each one (x .edged)) i }
     where
       one : (y : EdgedLane) → reverseEdged same nobody (x .map .roads) y ≡ y
       one y = unfold reverseEdged nobody in λ i. record { lane = idle-lane same (x .map .roads) (y .lane) i; atStart = y .atStart; atEnd = y .atEnd }
@@ -62,7 +54,7 @@ module _ (same : Span → Span → Bool) where
 -- a set of roads that accepted calls have made
 pub record Held (same : Span → Span → Bool) (m : Map) (s : Span → Bool) : Type 0 where
   pub is-good : Good same m
-  pub is-sound : Steady same s
+  pub is-steady : Steady same s
   pub is-fine : every laneFine (m .lanes) && every junctionFine (m .junctions) ≡ true
   pub is-once : noneTwice same s m ≡ true
   pub is-known : (n : Span) → roadOf same (m .roads) n ≡ none → s n ≡ false
@@ -103,28 +95,28 @@ good-repair same m g = record {
 
 module _ (same : Span → Span → Bool) (A : Alike same) (m : Map) (s : Span → Bool) (h : Held same m s) where
   pub roads-count : length (repair same (reverseMap same s m) .roads) ≡ length (repair same m .roads)
-  roads-count = sym (length-map (repair same (reverseMap same s m) .roads) bareRoad) ∙ ap length (repair-roads same A s (h .is-sound) m) ∙ length-map (map bareRoad (repair same m .roads)) (reverseRoad s) ∙ length-map (repair same m .roads) bareRoad
+  roads-count = sym (length-map (repair same (reverseMap same s m) .roads) bareRoad) ∙ ap length (repair-roads same A s (h .is-steady) m) ∙ length-map (map bareRoad (repair same m .roads)) (reverseRoad s) ∙ length-map (repair same m .roads) bareRoad
 
   pub repaired-junctions : repair same (reverseMap same s m) .junctions ≡ map (reverseJunction s) (repair same m .junctions)
-  repaired-junctions = repair-junctions same A s (h .is-sound) m (turnable same s m (h .is-once))
+  repaired-junctions = repair-junctions same A s (h .is-steady) m (reversible same s m (h .is-once))
 
   -- how much repair writes
-  pub repairSizes-turn : repairSizes same (reverseMap same s m) ≡ repairSizes same m
+  pub repairSizes-reversed : repairSizes same (reverseMap same s m) ≡ repairSizes same m
   unfolding repairSizes
-  repairSizes-turn = λ i. roads-count i
+  repairSizes-reversed = λ i. roads-count i
       ∷ (ap length repaired-junctions ∙ length-map (repair same m .junctions) (reverseJunction s)) i
-      ∷ (ap (λ js. length (gather (λ (j : Junction). j .connections) js)) repaired-junctions ∙ ap length (gather-over (reverseJunction s) (λ (j : Junction). j .connections) (repair same m .junctions))
+      ∷ (ap (λ js. length (gather (λ (j : Junction). j .connections) js)) repaired-junctions ∙ ap length (gather-map (reverseJunction s) (λ (j : Junction). j .connections) (repair same m .junctions))
       ∙ length-gather (λ j. reverseJunction s j .connections) (λ j. j .connections) (repair same m .junctions) (each (connections-length same s) (repair same m .junctions))) i
-      ∷ (ap (λ js. length (gather (λ (j : Junction). gather (λ (c : Connection). c .pairs) (j .connections)) js)) repaired-junctions ∙ ap length (gather-over (reverseJunction s) (λ (j : Junction). gather (λ (c : Connection). c .pairs) (j .connections)) (repair same m .junctions))
+      ∷ (ap (λ js. length (gather (λ (j : Junction). gather (λ (c : Connection). c .pairs) (j .connections)) js)) repaired-junctions ∙ ap length (gather-map (reverseJunction s) (λ (j : Junction). gather (λ (c : Connection). c .pairs) (j .connections)) (repair same m .junctions))
       ∙ length-gather (λ j. gather (λ c. c .pairs) (reverseJunction s j .connections)) (λ j. gather (λ c. c .pairs) (j .connections)) (repair same m .junctions) (each (pairs-length same s) (repair same m .junctions))) i
-      ∷ (ap length (warnings-reversed same A s (h .is-sound) m) ∙ length-map (warnings same m) (reverseWarning s)) i
+      ∷ (ap length (warnings-reversed same A s (h .is-steady) m) ∙ length-map (warnings same m) (reverseWarning s)) i
       ∷ []
 
   pub successors-held : successorLists same (repair same (reverseMap same s m)) ≡ successorLists same (repair same m)
-  successors-held = successorLists-reversed same A s (h .is-sound) m (good-valid same m (h .is-good)) (turnable same s m (h .is-once))
+  successors-held = successorLists-reversed same A s (h .is-steady) m (good-valid same m (h .is-good)) (reversible same s m (h .is-once))
 
-  pub before-held : predecessorLists same (repair same (reverseMap same s m)) ≡ predecessorLists same (repair same m)
-  before-held = predecessorLists-reversed same A s (h .is-sound) m (good-valid same m (h .is-good)) (turnable same s m (h .is-once))
+  pub predecessors-held : predecessorLists same (repair same (reverseMap same s m)) ≡ predecessorLists same (repair same m)
+  predecessors-held = predecessorLists-reversed same A s (h .is-steady) m (good-valid same m (h .is-good)) (reversible same s m (h .is-once))
 
   pub lanes-count : length (repair same (reverseMap same s m) .lanes) ≡ length (repair same m .lanes)
   unfolding repair reverseMap
@@ -132,8 +124,4 @@ module _ (same : Span → Span → Bool) (A : Alike same) (m : Map) (s : Span �
 
 pub nobody-once : (same : Span → Span → Bool) (m : Map) → noneTwice same nobody m ≡ true
 unfolding noneTwice nobody
-nobody-once same m = each-every _ (m .junctions) (each (λ j. orTrue (not (isDirect (j .kind))) _ (each-every _ (m .roads) (each (λ r. refl) (m .roads)))) (m .junctions))
-  where
-    orTrue : (a b : Bool) → b ≡ true → a || b ≡ true
-    orTrue true b h = refl
-    orTrue false b h = h
+nobody-once same m = each-every _ (m .junctions) (each (λ j. either-right (not (isDirect (j .kind))) _ (each-every _ (m .roads) (each (λ r. refl) (m .roads)))) (m .junctions))

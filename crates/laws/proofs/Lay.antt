@@ -1,17 +1,17 @@
--- Laws of rows and parts: a table is known by its rows, and parts edged one after the other are read back. 
-use mathlib.Core.Path.{_≡_, refl, sym, _∙_, ap, ap₂, subst}
-use mathlib.Core.Bool.{Bool, true, false, not, _&&_, cond, false≢true}
-use mathlib.Core.List.{List, [], _∷_, _++_, map, append-assoc, append-nil}
-use Prim.Native.Nat.{ℕ, zero, suc, _+_, _*_, _-_, _/_, _%_, _<_, _≤_}
-use native.Mathlib.Nat.{mul-div-cancel, suc-mul, zero-mul, add-zero, zero-add, div-add-mod'}
+-- Laws of rows and parts: a table is known by its rows, and parts put one after the other are read back.
+use mathlib.Core.Path.{_≡_, refl, sym, _∙_, ap, ap₂}
+use mathlib.Core.Bool.{true}
+use mathlib.Core.List.{List, [], _∷_, _++_, map, append-assoc}
+use Prim.Native.Nat.{ℕ, zero, suc, _+_, _*_, _/_, _%_, _<_, _≤_}
+use native.Mathlib.Nat.{mul-div-cancel, suc-mul, zero-mul, div-add-mod'}
 use native.Mathlib.Omega.{arith}
 use lib.Dec.{eqb}
-use lib.ListN.{length, take, drop, getD, length-append, length-take, length-drop, length-map, take-append-drop}
-use lib.Seq.{take-at, drop-at, take-add, take-all, drop-append-add, take-append-seam, length-take-le, drop-drop, drop-length}
+use lib.ListN.{length, take, drop, length-append, length-drop, take-append-drop}
+use lib.Seq.{take-at, drop-at, take-add, take-all, take-append-seam, length-take-le, drop-drop, drop-length}
 use borrow.Author.Tests.{eqb-true, eq-eqb}
 use Rattle.model.specs.Lists.{gather}
 use Rattle.model.specs.Rows.{part, partsFit, rows, rowsFrom, table, word, written}
-use Rattle.laws.proofs.RulesReversed.{and-both, and-left, and-right}
+use Rattle.laws.proofs.ListTests.{and-both, and-left, and-right}
 use Rattle.laws.proofs.Valid.{Each}
 
 pub whole-rows : (w n : ℕ) → n % w ≡ 0 → n / w * w ≡ n
@@ -82,7 +82,7 @@ module _ {X A : Type 0} (w : ℕ) (row : ℕ → X → List ℕ) (f : X → List
   unfolding table
   table-from p i xs = ap (λ (k : ℕ). rows w k (rowsFrom row f i xs)) (ap (λ (k : ℕ). k / w) (length-rowsFrom i xs) ∙ mul-div-cancel (length xs) p) ∙ rows-from i xs
 
--- ---- parts that are edged out and read back
+-- ---- parts put one after the other are read back
 module _ {X A : Type 0} (row : ℕ → X → List ℕ) (f : X → List A) (from : List A → List ℕ → X) (P : X → Type 0)
     (back : (all : List A) (i : ℕ) (x : X) → P x → part i (length (f x)) all ≡ f x → from all (row i x) ≡ x) where
   parts-back-at : (pre : List A) (xs : List X) → Each P xs → map (from (pre ++ gather f xs)) (rowList row f (length pre) xs) ≡ xs
@@ -97,18 +97,25 @@ module _ {X A : Type 0} (row : ℕ → X → List ℕ) (f : X → List A) (from 
   pub parts-back : (xs : List X) → Each P xs → map (from (gather f xs)) (rowList row f 0 xs) ≡ xs
   parts-back xs h = parts-back-at [] xs h
 
--- parts edged out fit
-pub parts-edged : {X A : Type 0} (kf kc : ℕ) (row : ℕ → X → List ℕ) (f : X → List A) → ((i : ℕ) (x : X) → word (row i x) kf ≡ i) → ((i : ℕ) (x : X) → word (row i x) kc ≡ length (f x)) →
+-- and they fit
+pub parts-fit : {X A : Type 0} (kf kc : ℕ) (row : ℕ → X → List ℕ) (f : X → List A) → ((i : ℕ) (x : X) → word (row i x) kf ≡ i) → ((i : ℕ) (x : X) → word (row i x) kc ≡ length (f x)) →
     (i : ℕ) (xs : List X) → partsFit kf kc i (i + length (gather f xs)) (rowList row f i xs) ≡ true
-parts-edged kf kc row f p q i [] = eq-eqb i (i + 0) (omega arith)
-parts-edged kf kc row f p q i (x ∷ xs) = and-both (eqb (word (row i x) kf) i) (partsFit kf kc (i + word (row i x) kc) (i + length (f x ++ gather f xs)) (rowList row f (i + length (f x)) xs))
+parts-fit kf kc row f p q i [] = eq-eqb i (i + 0) (omega arith)
+parts-fit kf kc row f p q i (x ∷ xs) = and-both (eqb (word (row i x) kf) i) (partsFit kf kc (i + word (row i x) kc) (i + length (f x ++ gather f xs)) (rowList row f (i + length (f x)) xs))
     (eq-eqb (word (row i x) kf) i (p i x))
-    (ap₂ (λ (a b : ℕ). partsFit kf kc a b (rowList row f (i + length (f x)) xs)) (ap (λ (k : ℕ). i + k) (q i x)) (let e = length-append (f x) (gather f xs) in omega arith) ∙ parts-edged kf kc row f p q (i + length (f x)) xs)
+    (ap₂ (λ (a b : ℕ). partsFit kf kc a b (rowList row f (i + length (f x)) xs)) (ap (λ (k : ℕ). i + k) (q i x)) (let e = length-append (f x) (gather f xs) in omega arith) ∙ parts-fit kf kc row f p q (i + length (f x)) xs)
 
--- parts that fit are edged out again
+-- parts that fit: the first begins at i, and the rest fit after it
+pub fit-first : (kf kc i n : ℕ) (r : List ℕ) (rs : List (List ℕ)) → partsFit kf kc i n (r ∷ rs) ≡ true → word r kf ≡ i
+fit-first kf kc i n r rs h = eqb-true (word r kf) i (and-left (eqb (word r kf) i) (partsFit kf kc (i + word r kc) n rs) h)
+
+pub fit-rest : (kf kc i n : ℕ) (r : List ℕ) (rs : List (List ℕ)) → partsFit kf kc i n (r ∷ rs) ≡ true → partsFit kf kc (i + word r kc) n rs ≡ true
+fit-rest kf kc i n r rs h = and-right (eqb (word r kf) i) (partsFit kf kc (i + word r kc) n rs) h
+
+-- parts that fit are given back
 pub fit-le : (kf kc i n : ℕ) (rs : List (List ℕ)) → partsFit kf kc i n rs ≡ true → i ≤ n
 fit-le kf kc i n [] h = let e = eqb-true i n h in omega arith
-fit-le kf kc i n (r ∷ rs) h = let k = fit-le kf kc (i + word r kc) n rs (and-right (eqb (word r kf) i) (partsFit kf kc (i + word r kc) n rs) h) in omega arith
+fit-le kf kc i n (r ∷ rs) h = let k = fit-le kf kc (i + word r kc) n rs (fit-rest kf kc i n r rs h) in omega arith
 
 module _ {X A : Type 0} (kf kc : ℕ) (row : ℕ → X → List ℕ) (f : X → List A) (from : List ℕ → X) (all : List A) (P : List ℕ → Type 0)
     (reads : (r : List ℕ) → f (from r) ≡ part (word r kf) (word r kc) all)
@@ -118,28 +125,16 @@ module _ {X A : Type 0} (kf kc : ℕ) (row : ℕ → X → List ℕ) (f : X → 
 
   pub rows-forth : (i : ℕ) (rs : List (List ℕ)) → Each P rs → partsFit kf kc i (length all) rs ≡ true → rowsFrom row f i (map from rs) ≡ gather (λ r. r) rs
   rows-forth i [] h p = refl
-  rows-forth i (r ∷ rs) h p = ap₂ (λ (a b : List ℕ). a ++ b) (ap (λ (k : ℕ). row k (from r)) (sym first) ∙ forth r (h .0) count)
-      (ap (λ (k : ℕ). rowsFrom row f (i + k) (map from rs)) count ∙ rows-forth (i + word r kc) rs (h .1) rest)
+  rows-forth i (r ∷ rs) h p = ap₂ (λ (a b : List ℕ). a ++ b) (ap (λ (k : ℕ). row k (from r)) (sym (fit-first kf kc i (length all) r rs p)) ∙ forth r (h .0) count)
+      (ap (λ (k : ℕ). rowsFrom row f (i + k) (map from rs)) count ∙ rows-forth (i + word r kc) rs (h .1) (fit-rest kf kc i (length all) r rs p))
     where
-      first : word r kf ≡ i
-      first = eqb-true (word r kf) i (and-left (eqb (word r kf) i) (partsFit kf kc (i + word r kc) (length all) rs) p)
-
-      rest : partsFit kf kc (i + word r kc) (length all) rs ≡ true
-      rest = and-right (eqb (word r kf) i) (partsFit kf kc (i + word r kc) (length all) rs) p
-
       count : length (f (from r)) ≡ word r kc
-      count = part-count i r first (fit-le kf kc (i + word r kc) (length all) rs rest)
+      count = part-count i r (fit-first kf kc i (length all) r rs p) (fit-le kf kc (i + word r kc) (length all) rs (fit-rest kf kc i (length all) r rs p))
 
   pub parts-forth : (i : ℕ) (rs : List (List ℕ)) → partsFit kf kc i (length all) rs ≡ true → gather f (map from rs) ≡ drop i all
   parts-forth i [] p = sym (drop-length all) ∙ ap (λ (k : ℕ). drop k all) (sym (eqb-true i (length all) p))
-  parts-forth i (r ∷ rs) p = ap₂ (λ (a b : List A). a ++ b) (reads r ∙ ap (λ (k : ℕ). part k (word r kc) all) first) (parts-forth (i + word r kc) rs rest ∙ sym (drop-drop (word r kc) i all))
+  parts-forth i (r ∷ rs) p = ap₂ (λ (a b : List A). a ++ b) (reads r ∙ ap (λ (k : ℕ). part k (word r kc) all) (fit-first kf kc i (length all) r rs p)) (parts-forth (i + word r kc) rs (fit-rest kf kc i (length all) r rs p) ∙ sym (drop-drop (word r kc) i all))
       ∙ take-append-drop (word r kc) (drop i all)
-    where
-      first : word r kf ≡ i
-      first = eqb-true (word r kf) i (and-left (eqb (word r kf) i) (partsFit kf kc (i + word r kc) (length all) rs) p)
-
-      rest : partsFit kf kc (i + word r kc) (length all) rs ≡ true
-      rest = and-right (eqb (word r kf) i) (partsFit kf kc (i + word r kc) (length all) rs) p
 
 -- a row is its words
 abbrev pub wordsFrom : ℕ → ℕ → List ℕ → List ℕ

@@ -1,7 +1,7 @@
 -- Rules 12, 13 and 14 over the tables are those over the map: by road, by junction.
 use mathlib.Core.Path.{_≡_, refl, sym, _∙_, ap, ap₂}
 use mathlib.Core.Bool.{Bool, true, false, not, _&&_, _||_}
-use mathlib.Core.List.{List, [], _∷_, _++_}
+use mathlib.Core.List.{List, [], _∷_}
 use Prim.Native.Nat.{ℕ, suc, _*_, _/_}
 use native.Mathlib.Nat.{mul-div-cancel}
 use native.Mathlib.Omega.{arith}
@@ -12,6 +12,8 @@ use Rattle.model.specs.Lists.{every, gather, some?}
 use Rattle.model.specs.Records.{Connection, Junction, Map, Road, Span}
 use Rattle.model.specs.Rules.{isDirect, marksFit, namesDirectTwice, namesTwice, oneEndedIn, pairFine}
 use Rattle.model.specs.Tables.{allConnections, allPairs, roadWords}
+use Rattle.laws.proofs.ForEach.{each}
+use Rattle.laws.proofs.ListTests.{every-ext, every-gather}
 use Rattle.laws.proofs.Valid.{junctionFine, markFor, noneTwice}
 
 -- ---- 12
@@ -40,18 +42,6 @@ marks-form rs ks e = ap (λ (n : ℕ). eqb (n / 20) (length ks) && every (λ k. 
     ∙ ap (λ (n : ℕ). eqb n (length ks) && every (λ k. leb k 1) ks) (mul-div-cancel (length rs) (omega arith)) ∙ sym (mark-form rs ks)
 
 -- ---- 13
-every-append : {A : Type 0} (p : A → Bool) (xs ys : List A) → every p (xs ++ ys) ≡ (every p xs && every p ys)
-every-append p [] ys = refl
-every-append p (x ∷ xs) ys = ap (λ b. p x && b) (every-append p xs ys) ∙ go (p x) (every p xs) (every p ys)
-  where
-    go : (a b c : Bool) → (a && (b && c)) ≡ ((a && b) && c)
-    go true b c = refl
-    go false b c = refl
-
-every-gather : {A B : Type 0} (p : B → Bool) (f : A → List B) (xs : List A) → every p (gather f xs) ≡ every (λ x. every p (f x)) xs
-every-gather p f [] = refl
-every-gather p f (x ∷ xs) = every-append p (f x) (gather f xs) ∙ ap (λ b. every p (f x) && b) (every-gather p f xs)
-
 pub pairs-form : (js : List Junction) → every pairFine (allPairs js) ≡ every junctionFine js
 unfolding allPairs allConnections junctionFine
 pairs-form js = every-gather pairFine (λ (c : Connection). c .pairs) (gather (λ (j : Junction). j .connections) js)
@@ -68,10 +58,6 @@ module _ {J R : Type 0} (d : J → Bool) (mk : R → Bool) (nt : J → R → Boo
       go true false true v = refl
       go true false false v = refl
       go false y u v = refl
-
-  every-same : (a b : R → Bool) (rs : List R) → ((r : R) → a r ≡ b r) → every a rs ≡ every b rs
-  every-same a b [] h = refl
-  every-same a b (r ∷ rs) h = ap₂ _&&_ (h r) (every-same a b rs h)
 
   every-true : (rs : List R) → every (λ r. not (mk r && false)) rs ≡ true
   every-true [] = refl
@@ -90,8 +76,8 @@ module _ {J R : Type 0} (d : J → Bool) (mk : R → Bool) (nt : J → R → Boo
   roads-outside (j ∷ js) rs =
       ap₂ _&&_ (guarded (d j) j rs) (roads-outside js rs)
       ∙ sym (every-and (λ r. not (mk r && (d j && nt j r))) (λ r. not (mk r && some? (λ j. d j && nt j r) js)) rs)
-      ∙ every-same (λ r. not (mk r && (d j && nt j r)) && not (mk r && some? (λ j. d j && nt j r) js)) (λ r. not (mk r && ((d j && nt j r) || some? (λ j. d j && nt j r) js))) rs
-      (λ r. go (mk r) (d j && nt j r) (some? (λ j. d j && nt j r) js))
+      ∙ every-ext (λ r. not (mk r && (d j && nt j r)) && not (mk r && some? (λ j. d j && nt j r) js)) (λ r. not (mk r && ((d j && nt j r) || some? (λ j. d j && nt j r) js))) rs
+      (each (λ r. go (mk r) (d j && nt j r) (some? (λ j. d j && nt j r) js)) rs)
     where
       go : (m x y : Bool) → (not (m && x) && not (m && y)) ≡ not (m && (x || y))
       go true true y = refl

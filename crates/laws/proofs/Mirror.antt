@@ -1,18 +1,19 @@
--- Lane numbers with their sign changed, and section numbers mirrored. 
-use mathlib.Core.Path.{_≡_, refl, sym, _∙_, ap, subst}
-use mathlib.Core.Bool.{Bool, true, false, not, _&&_, _||_, cond, true≢false, false≢true}
-use mathlib.Core.Option.{Option, none, some}
-use mathlib.Core.List.{List, [], _∷_, _++_, map, reverse, reverse-cons, reverse-reverse}
-use Prim.Native.Nat.{ℕ, zero, suc, _+_, _-_, _%_, _<_, _≤_}
+-- Lane numbers with their sign changed, directions swapped, and section numbers mirrored: done twice they are as before, and they keep order and equality.
+use mathlib.Core.Path.{_≡_, refl, sym, _∙_, ap}
+use mathlib.Core.Bool.{Bool, true, false, not, false≢true}
+use mathlib.Core.Option.{some}
+use mathlib.Core.List.{List, [], _∷_, map, reverse, reverse-reverse, map-map}
+use Prim.Native.Nat.{ℕ, _+_, _-_, _%_, _<_, _≤_}
 use native.Mathlib.Omega.{arith}
-use lib.Dec.{eqb, leb, ltb}
-use borrow.Author.Tests.{eqb-true, eqb-false, ltb-true, ltb-false, eq-eqb, ne-eqb, lt-ltb, le-ltb}
+use lib.Dec.{eqb, ltb}
+use borrow.Author.Tests.{ltb-true, ltb-false, lt-ltb, le-ltb}
 use Rattle.geometry.specs.declared.gap.Direction.{Direction}
 use Rattle.geometry.specs.declared.gap.Direction.the-variants.{Backward, Both, Forward}
-use Rattle.model.specs.Lists.{_⊕_, final, first, headOr, lastOr, mapO, member, orElse}
+use Rattle.model.specs.Lists.{_⊕_, headOr, lastOr, mapO, member}
 use Rattle.model.specs.Reversal.{mirror, mirrored, negated, reverseDirection, signed}
 use Rattle.model.specs.Succession.{away, endSection, isBoth, nextSection}
-use Rattle.laws.proofs.Basics.{bool-ext, each-map, eqb-ext, final-ext, final-map, final-reverse, first-ext, first-map, first-reverse, headOr-reverse, lastOr-map, lastOr-reverse, map-id, map-map, reverse-map}
+use Rattle.laws.proofs.Basics.{bool-ext, eqb-ext, final-ext, final-map, final-reverse, first-ext, first-map, first-reverse, headOr-reverse, lastOr-map, lastOr-reverse, map-id, reverse-map}
+use Rattle.laws.proofs.ForEach.{each-map, final-each, first-each}
 use Rattle.laws.proofs.Valid.{Ascends, Each}
 
 -- signs
@@ -49,26 +50,26 @@ signed-eqb true m n = eqb-ext (negated m) (negated n) m n
     (λ e. ap negated e)
 
 -- directions
-pub turned-⊕ : (a b : Bool) (d : Direction) → reverseDirection a (reverseDirection b d) ≡ reverseDirection (b ⊕ a) d
-turned-⊕ false false d = refl
-turned-⊕ true false d = refl
-turned-⊕ false true d = refl
-turned-⊕ true true Forward = refl
-turned-⊕ true true Backward = refl
-turned-⊕ true true Both = refl
+pub reverseDirection-⊕ : (a b : Bool) (d : Direction) → reverseDirection a (reverseDirection b d) ≡ reverseDirection (b ⊕ a) d
+reverseDirection-⊕ false false d = refl
+reverseDirection-⊕ true false d = refl
+reverseDirection-⊕ false true d = refl
+reverseDirection-⊕ true true Forward = refl
+reverseDirection-⊕ true true Backward = refl
+reverseDirection-⊕ true true Both = refl
 
-pub turned-both : (b : Bool) (d : Direction) → isBoth (reverseDirection b d) ≡ isBoth d
-turned-both false d = refl
-turned-both true Forward = refl
-turned-both true Backward = refl
-turned-both true Both = refl
+pub reverseDirection-both : (b : Bool) (d : Direction) → isBoth (reverseDirection b d) ≡ isBoth d
+reverseDirection-both false d = refl
+reverseDirection-both true Forward = refl
+reverseDirection-both true Backward = refl
+reverseDirection-both true Both = refl
 
-pub turned-away : (b : Bool) (d : Direction) (e : Bool) → away (reverseDirection b d) (b ⊕ e) ≡ away d e
-turned-away false d e = refl
-turned-away true Forward e = refl
-turned-away true Backward false = refl
-turned-away true Backward true = refl
-turned-away true Both e = refl
+pub reverseDirection-away : (b : Bool) (d : Direction) (e : Bool) → away (reverseDirection b d) (b ⊕ e) ≡ away d e
+reverseDirection-away false d e = refl
+reverseDirection-away true Forward e = refl
+reverseDirection-away true Backward false = refl
+reverseDirection-away true Backward true = refl
+reverseDirection-away true Both e = refl
 
 -- sections
 abbrev pub Bounded : List ℕ → Type 0
@@ -134,18 +135,15 @@ mirror-ltb ss a b h k = bool-ext (ltb (mirror ss a) (mirror ss b)) (ltb b a)
     (λ e. lt-ltb b a (omega (arith, ltb-true (mirror ss a) (mirror ss b) e)))
     (λ e. lt-ltb (mirror ss a) (mirror ss b) (omega (arith, ltb-true b a e)))
 
-never : (n : ℕ) → Path (Option ℕ) none (some n) → ⊥
-never n q = let z : _≡_ {A = ℕ} 0 1 = cc in omega arith
-
 -- the next section
-pub beyond-mirrored : (ss : List ℕ) (s : ℕ) (e : Bool) → Bounded ss → s ≤ headOr 0 ss + lastOr 0 ss →
+pub nextSection-mirrored : (ss : List ℕ) (s : ℕ) (e : Bool) → Bounded ss → s ≤ headOr 0 ss + lastOr 0 ss →
     nextSection (mirrored ss) (mirror ss s) (not e) ≡ mapO (mirror ss) (nextSection ss s e)
 unfolding nextSection mirrored
-beyond-mirrored ss s false h k =
+nextSection-mirrored ss s false h k =
     first-reverse (λ i. ltb (mirror ss s) i) (map (mirror ss) ss)
     ∙ final-map (mirror ss) (λ i. ltb (mirror ss s) i) ss
     ∙ ap (mapO (mirror ss)) (final-ext (λ i. ltb (mirror ss s) (mirror ss i)) (λ i. ltb i s) ss (each-map (λ i b. mirror-ltb ss s i k b) ss h))
-beyond-mirrored ss s true h k =
+nextSection-mirrored ss s true h k =
     final-reverse (λ i. ltb i (mirror ss s)) (map (mirror ss) ss)
     ∙ first-map (mirror ss) (λ i. ltb i (mirror ss s)) ss
     ∙ ap (mapO (mirror ss)) (first-ext (λ i. ltb (mirror ss i) (mirror ss s)) (λ i. ltb s i) ss (each-map (λ i b. mirror-ltb ss i s b k) ss h))
@@ -163,25 +161,7 @@ unfolding endSection
 endSection-bound ss false = omega arith
 endSection-bound ss true = omega arith
 
-pub beyond-bound : (ss : List ℕ) (s : ℕ) (e : Bool) (n : ℕ) → Bounded ss → nextSection ss s e ≡ some n → n ≤ headOr 0 ss + lastOr 0 ss
+pub nextSection-bound : (ss : List ℕ) (s : ℕ) (e : Bool) (n : ℕ) → Bounded ss → nextSection ss s e ≡ some n → n ≤ headOr 0 ss + lastOr 0 ss
 unfolding nextSection
-beyond-bound ss s false n h q = final-each (λ i. i ≤ headOr 0 ss + lastOr 0 ss) (λ i. ltb i s) ss h n q
-  where
-    pick-some : (P : ℕ → Type 0) (o : Option ℕ) (b : Bool) (x n : ℕ) → ((n : ℕ) → o ≡ some n → P n) → P x →
-        orElse o (cond b (some x) none) ≡ some n → P n
-    pick-some P (some a) b x n f px q = f n q
-    pick-some P none true x n f px q = let e : x ≡ n = cc in rw e at px
-    pick-some P none false x n f px q = absurd (never n q)
-
-    final-each : (P : ℕ → Type 0) (p : ℕ → Bool) (xs : List ℕ) → Each P xs → (n : ℕ) → final p xs ≡ some n → P n
-    final-each P p [] h n q = absurd (never n q)
-    final-each P p (x ∷ xs) h n q = pick-some P (final p xs) (p x) x n (final-each P p xs (h .1)) (h .0) q
-beyond-bound ss s true n h q = first-each (λ i. i ≤ headOr 0 ss + lastOr 0 ss) (λ i. ltb s i) ss h n q
-  where
-    pick-some : (P : ℕ → Type 0) (o : Option ℕ) (b : Bool) (x n : ℕ) → ((n : ℕ) → o ≡ some n → P n) → P x → cond b (some x) o ≡ some n → P n
-    pick-some P o true x n f px q = let e : x ≡ n = cc in rw e at px
-    pick-some P o false x n f px q = f n q
-
-    first-each : (P : ℕ → Type 0) (p : ℕ → Bool) (xs : List ℕ) → Each P xs → (n : ℕ) → first p xs ≡ some n → P n
-    first-each P p [] h n q = absurd (never n q)
-    first-each P p (x ∷ xs) h n q = pick-some P (first p xs) (p x) x n (first-each P p xs (h .1)) (h .0) q
+nextSection-bound ss s false n h q = final-each (λ i. i ≤ headOr 0 ss + lastOr 0 ss) (λ i. ltb i s) ss n h q
+nextSection-bound ss s true n h q = first-each (λ i. i ≤ headOr 0 ss + lastOr 0 ss) (λ i. ltb s i) ss n h q

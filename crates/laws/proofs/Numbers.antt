@@ -1,15 +1,14 @@
--- Reversal writes words: all that it makes anew is below 2^32 where what it reads is. 
-use mathlib.Core.Path.{_≡_, refl, sym, _∙_, ap, ap₂, subst}
+-- Changing a sign and mirroring a section give words, numbers below 2^32, from words.
+use mathlib.Core.Path.{_≡_}
 use mathlib.Core.Bool.{Bool, true, false, cond}
-use mathlib.Core.List.{List, [], _∷_, _++_, map, reverse, reverse-cons}
-use Prim.Native.Nat.{ℕ, zero, suc, _+_, _-_, _*_, _%_, _<_, _≤_}
+use mathlib.Core.List.{List, [], _∷_, map}
+use Prim.Native.Nat.{ℕ, _-_, _%_, _<_, _≤_}
 use native.Mathlib.Nat.{mod-lt}
 use native.Mathlib.Omega.{arith}
-use lib.Dec.{eqb, ltb}
+use lib.Dec.{ltb}
 use Rattle.model.specs.Lists.{lastOr, member}
 use Rattle.model.specs.Reversal.{mirror, mirrored, negated, signed}
-use Rattle.laws.proofs.Basics.{each-map, each-member}
-use Rattle.laws.proofs.Compose.{each-of-map}
+use Rattle.laws.proofs.ForEach.{each-map, each-member, each-of-map, each-reverse}
 use Rattle.laws.proofs.Valid.{Ascends, Each}
 
 abbrev pub Word : ℕ → Type 0
@@ -46,14 +45,6 @@ mirror-word (x ∷ xs) i a w k =
     let m = mirror-low x xs i low in
     let l = last-of x xs w in
     omega arith
-
-each-reverse : (P : ℕ → Type 0) (xs : List ℕ) → Each P xs → Each P (reverse xs)
-each-reverse P [] h = tt
-each-reverse P (x ∷ xs) h = subst (Each P) (sym (reverse-cons x xs)) (each-append (reverse xs) (each-reverse P xs (h .1)))
-  where
-    each-append : (ys : List ℕ) → Each P ys → Each P (ys ++ (x ∷ []))
-    each-append [] k = (h .0, tt)
-    each-append (y ∷ ys) k = (k .0, each-append ys (k .1))
 
 pub mirrored-words : (ss : List ℕ) → Ascends ss → Each Word ss → Each Word (mirrored ss)
 unfolding mirrored

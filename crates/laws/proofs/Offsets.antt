@@ -1,36 +1,33 @@
--- The offsets that succession writes are words. 
-use mathlib.Core.Path.{_≡_, refl, sym, _∙_, ap, ap₂, subst}
-use mathlib.Core.Bool.{Bool, true, false, not, _&&_, _||_, cond}
-use mathlib.Core.Option.{Option, none, some}
-use mathlib.Core.List.{List, [], _∷_, _++_, map}
-use Prim.Native.Nat.{ℕ, zero, suc, _+_, _*_, _/_, _%_, _≤_, _<_}
+-- The offsets that succession writes are words, and its identities keep within the limit; after it the gap check can refuse by 9 alone.
+use mathlib.Core.Path.{_≡_, sym, _∙_, ap}
+use mathlib.Core.Bool.{true, _&&_}
+use mathlib.Core.Option.{none}
+use mathlib.Core.List.{map}
+use Prim.Native.Nat.{ℕ, suc, _+_, _*_, _/_, _%_, _≤_, _<_}
 use native.Mathlib.Nat.{mul-le-mul, div-le-of-le-mul, mul-comm, mod-one, mul-mod-right}
 use native.Mathlib.Omega.{arith}
-use lib.Dec.{eqb, leb, ltb}
+use lib.Dec.{eqb, leb}
 use lib.ListN.{length, length-map}
-use borrow.Author.Tests.{leb-true, eqb-true, eq-eqb, le-leb}
+use borrow.Author.Tests.{eqb-true, eq-eqb, le-leb}
 use Rattle.model.specs.Calls.{gapRules, laneRules, listContent, rulesTo5, successionRules}
 use Rattle.model.specs.Lists.{ascends, every, gather, member}
-use Rattle.model.specs.Lookup.{packed}
 use Rattle.model.specs.Records.{Connection, Junction, Lane, Road}
 use Rattle.model.specs.Rows.{partsFit, table}
 use Rattle.model.specs.Rules.{connectionPartsFit, connectionWorded, edgesEven, edgesFit, edgesSized, firstBroken, idsOnce, junctionWorded, lanesSized, lanesWorded, listedIn, listsSized, mapSized, mapWorded, pairPartsFit, placesOnce, roadWorded, same, sectionPartsFit, sectionsAscend, sized}
 use Rattle.model.specs.Succession.{sectionsOf, successorLists, successors}
 use Rattle.model.specs.Tables.{Tables, allConnections, allPairs, connectionIn, connectionsIn, connectionsOf, junctionsIn, junctionsOf, laneIn, lanesIn, lanesOf, mapOf, pairIn, pairsIn, pairsOf, roadsOf}
-use Rattle.laws.proofs.Basics.{each-map}
-use Rattle.laws.proofs.Bound.{before-few, ids-few}
+use Rattle.laws.proofs.Admitted.{sized-most, sized-whole, sizes-of, worded-of}
+use Rattle.laws.proofs.Bound.{ids-few, predecessors-few}
 use Rattle.laws.proofs.ByBytes.{alike-in}
-use Rattle.laws.proofs.Decoded.{and3, and6, connections-forth, junctions-forth}
+use Rattle.laws.proofs.Decoded.{connections-forth, junctions-forth}
 use Rattle.laws.proofs.Eleven.{eleven, offsets-count}
+use Rattle.laws.proofs.ForEach.{each-map}
 use Rattle.laws.proofs.Lay.{length-table}
-use Rattle.laws.proofs.RulesReversed.{Passes, all-pass, and-both, and-left, and-right, ascends-fact, every-each, pass-all}
+use Rattle.laws.proofs.ListTests.{and-both, and-left, and-right, every-each}
+use Rattle.laws.proofs.RulesReversed.{Passes, all-pass, ascends-fact, pass-all}
 use Rattle.laws.proofs.Tight.{ids-tight}
 use Rattle.laws.proofs.Valid.{Valid}
 use Rattle.laws.proofs.WordsReversed.{allPairs-nested}
-
-sized-whole : (w most n : ℕ) → sized w most n ≡ true → (n % w ≡ 0) × (n ≤ most * w)
-unfolding sized
-sized-whole w most n h = (eqb-true (n % w) 0 (and-left (eqb (n % w) 0) (leb n (most * w)) h), leb-true n (most * w) (and-right (eqb (n % w) 0) (leb n (most * w)) h))
 
 module _ (t : Tables) (h : firstBroken (successionRules t) ≡ none) where
   rules : Passes (successionRules t)
@@ -41,12 +38,11 @@ module _ (t : Tables) (h : firstBroken (successionRules t) ≡ none) where
   sizes = (and-left (mapSized 16384 t) (lanesSized t) (rules .0), and-right (mapSized 16384 t) (lanesSized t) (rules .0))
 
   limits : (leb (length (t .text)) 1048576 ≡ true) × (sized 20 16384 (length (t .roads)) ≡ true) × (sized 1 16384 (length (t .sections)) ≡ true) × (sized 5 16384 (length (t .junctions)) ≡ true) × (sized 7 16384 (length (t .connections)) ≡ true) × (sized 2 16384 (length (t .pairs)) ≡ true)
-  unfolding mapSized
-  limits = and6 (leb (length (t .text)) 1048576) (sized 20 16384 (length (t .roads))) (sized 1 16384 (length (t .sections))) (sized 5 16384 (length (t .junctions))) (sized 7 16384 (length (t .connections))) (sized 2 16384 (length (t .pairs))) (sizes .0)
+  limits = sizes-of 16384 t (sizes .0)
 
   worded : (every (roadWorded (t .text)) (table 20 (t .roads)) ≡ true) × (every (junctionWorded (t .text)) (table 5 (t .junctions)) ≡ true) × (every (connectionWorded (t .text)) (table 7 (t .connections)) ≡ true)
-  unfolding successionRules rulesTo5 laneRules mapWorded
-  worded = and3 (every (roadWorded (t .text)) (table 20 (t .roads))) (every (junctionWorded (t .text)) (table 5 (t .junctions))) (every (connectionWorded (t .text)) (table 7 (t .connections))) (and-left (mapWorded t) (lanesWorded t) (rules .1 .0))
+  unfolding successionRules rulesTo5 laneRules
+  worded = worded-of t (and-left (mapWorded t) (lanesWorded t) (rules .1 .0))
 
   parts : (partsFit 3 4 0 (length (t .connections) / 7) (table 5 (t .junctions)) ≡ true) × (partsFit 5 6 0 (length (t .pairs) / 2) (table 7 (t .connections)) ≡ true)
   unfolding successionRules rulesTo5 laneRules connectionPartsFit pairPartsFit
@@ -65,20 +61,20 @@ module _ (t : Tables) (h : firstBroken (successionRules t) ≡ none) where
 
   all-connections : allConnections (junctionsOf t) ≡ connectionsOf t
   unfolding junctionsIn
-  all-connections = junctions-forth (t .text) (t .junctions) (connectionsOf t) (sized-whole 5 16384 (length (t .junctions)) (limits .3) .0) (worded .1) (ap (λ (k : ℕ). partsFit 3 4 0 k (table 5 (t .junctions))) (sym count7) ∙ parts .0) .1
+  all-connections = junctions-forth (t .text) (t .junctions) (connectionsOf t) (sized-whole 5 16384 (length (t .junctions)) (limits .3)) (worded .1) (ap (λ (k : ℕ). partsFit 3 4 0 k (table 5 (t .junctions))) (sym count7) ∙ parts .0) .1
 
   all-pairs : allPairs (junctionsOf t) ≡ pairsOf t
   unfolding allPairs
-  all-pairs = ap (gather (λ (c : Connection). c .pairs)) all-connections ∙ (unfold connectionsIn in (connections-forth (t .text) (t .connections) (pairsOf t) (sized-whole 7 16384 (length (t .connections)) (limits .4) .0) (worded .2) (ap (λ (k : ℕ). partsFit 5 6 0 k (table 7 (t .connections))) (sym count2) ∙ parts .1) .1))
+  all-pairs = ap (gather (λ (c : Connection). c .pairs)) all-connections ∙ (unfold connectionsIn in (connections-forth (t .text) (t .connections) (pairsOf t) (sized-whole 7 16384 (length (t .connections)) (limits .4)) (worded .2) (ap (λ (k : ℕ). partsFit 5 6 0 k (table 7 (t .connections))) (sym count2) ∙ parts .1) .1))
 
   pairs-few : length (gather (λ (j : Junction). gather (λ (c : Connection). c .pairs) (j .connections)) (junctionsOf t)) ≤ 16384
-  pairs-few = let a = ap length (sym (allPairs-nested (junctionsOf t)) ∙ all-pairs) in let b = count2 in let c = sized-whole 2 16384 (length (t .pairs)) (limits .5) .1 in
+  pairs-few = let a = ap length (sym (allPairs-nested (junctionsOf t)) ∙ all-pairs) in let b = count2 in let c = sized-most 2 16384 (length (t .pairs)) (limits .5) in
       let d : length (t .pairs) / 2 ≤ 16384 = div-le-of-le-mul 2 (let e = mul-comm 16384 2 in omega arith) in omega arith
 
   lanes-few : length (lanesOf t) ≤ 16384
   unfolding lanesIn
   lanes-few = let a = length-map (table 10 (t .lanes)) laneIn in let b = length-table 10 (t .lanes) in
-      let c = sized-whole 10 16384 (length (t .lanes)) (unfold lanesSized in sizes .1) .1 in
+      let c = sized-most 10 16384 (length (t .lanes)) (unfold lanesSized in sizes .1) in
       let d : length (t .lanes) / 10 ≤ 16384 = div-le-of-le-mul 10 (omega arith) in omega arith
 
   -- at most 805,322,752 of them
@@ -91,9 +87,9 @@ module _ (t : Tables) (h : firstBroken (successionRules t) ≡ none) where
       factor : suc (length (gather (λ (j : Junction). gather (λ (c : Connection). c .pairs) (j .connections)) (junctionsOf t))) + suc (length (gather (λ (j : Junction). gather (λ (c : Connection). c .pairs) (j .connections)) (junctionsOf t))) + length (lanesOf t) ≤ 49154
       factor = let b = pairs-few in let c = lanes-few in omega arith
 
-  pub before-words : length (listContent t .predecessorIds) < 4294967296
+  pub predecessors-words : length (listContent t .predecessorIds) < 4294967296
   unfolding listContent mapOf successionRules rulesTo5 laneRules idsOnce
-  before-words = let a = before-few (same t) (mapOf t) (rules .1 .1 .1 .1 .1 .0) in let b = successors-words in omega arith
+  predecessors-words = let a = predecessors-few (same t) (mapOf t) (rules .1 .1 .1 .1 .1 .0) in let b = successors-words in omega arith
 
   -- ---- 01's limit on packed identities is never passed
   valid : Valid (same t) (mapOf t)

@@ -1,14 +1,13 @@
--- Packed lists read back, and the lists of an accepted succession are each other's converse. 
+-- Packed lists are read back, and the lists of an accepted succession are each other's converse.
 use mathlib.Core.Path.{_≡_, refl, sym, _∙_, ap, ap₂, subst}
-use mathlib.Core.Bool.{Bool, true, false, not, _&&_, _||_, cond, true≢false, false≢true}
+use mathlib.Core.Bool.{Bool, true, false, false≢true}
 use mathlib.Core.Option.{Option, none, some}
 use mathlib.Core.List.{List, [], _∷_, _++_, map, append-assoc, List·Memᴰ, List·Memᴰ·head, List·Memᴰ·tail}
-use Prim.Native.Nat.{ℕ, zero, suc, _+_, _-_, _/_, _<_, _≤_}
+use Prim.Native.Nat.{ℕ, zero, suc, _+_, _-_, _/_, _<_}
 use native.Mathlib.Nat.{le-of-suc-le-suc, not-suc-le-zero}
 use native.Mathlib.Omega.{arith}
-use lib.Dec.{eqb}
-use lib.ListN.{length, take, drop, getD, length-append, length-map}
-use lib.Seq.{take-at, drop-at, take-append-seam}
+use lib.ListN.{length, take, getD, length-append, length-map}
+use lib.Seq.{drop-at, take-append-seam}
 use borrow.Author.Tests.{eqb-true}
 use Rattle.model.specs.Calls.{Answer, ListOutputs, laneRules, listContent, listLengths, longEnough, putLists, refused, rulesTo5, settled, successionCall, successionRefusal, successionRules, wrote}
 use Rattle.model.specs.Claim.{Mutual, identityAt, isTwoWay, listAt, listRows}
@@ -74,16 +73,16 @@ module _ (t : Tables) where
   unfolding listContent
   successors-at i h = ap (λ (ls : List (List ℕ)). getD ls i []) (unpack (successorLists (same t) (mapOf t))) ∙ (unfold successorLists mapOf in list-at (successors (same t) (mapOf t)) i h)
 
-  before-at : (i : ℕ) → i < length (t .lanes) / 10 → listAt (listContent t .predecessorOffsets) (listContent t .predecessorIds) i ≡ predecessors (same t) (mapOf t) (lane i)
+  predecessors-at : (i : ℕ) → i < length (t .lanes) / 10 → listAt (listContent t .predecessorOffsets) (listContent t .predecessorIds) i ≡ predecessors (same t) (mapOf t) (lane i)
   unfolding listContent
-  before-at i h = ap (λ (ls : List (List ℕ)). getD ls i []) (unpack (predecessorLists (same t) (mapOf t))) ∙ (unfold predecessorLists mapOf in list-at (predecessors (same t) (mapOf t)) i h)
+  predecessors-at i h = ap (λ (ls : List (List ℕ)). getD ls i []) (unpack (predecessorLists (same t) (mapOf t))) ∙ (unfold predecessorLists mapOf in list-at (predecessors (same t) (mapOf t)) i h)
 
   pub mutual-content : identitiesOnce t ≡ true → Mutual (t .lanes) (listContent t)
   unfolding idsOnce laneIn mapOf
   mutual-content u = record {
     converse = λ i j p q. ap (count (identityAt (t .lanes) j)) (successors-at i p)
         ∙ conv.converse (same t) (mapOf t) u (lane i) (lane j) (lane-in i p)
-        ∙ ap (count (identityAt (t .lanes) i)) (sym (before-at j q));
+        ∙ ap (count (identityAt (t .lanes) i)) (sym (predecessors-at j q));
     two-way = λ i j p q a b. ap (member (identityAt (t .lanes) j)) (successors-at i p)
         ∙ conv.both-or-neither (same t) (mapOf t) u (lane i) (lane j) (lane-in i p) (lane-in j q) (way i a) (way j b)
         ∙ ap (member (identityAt (t .lanes) i)) (sym (successors-at j q));

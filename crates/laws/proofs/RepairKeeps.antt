@@ -1,15 +1,17 @@
--- What repair keeps: sections, and every target of kind road that is left. 
-use mathlib.Core.Path.{_≡_, refl, sym, _∙_, ap, ap₂, subst}
-use mathlib.Core.Bool.{Bool, true, false, not, _&&_, _||_, cond, true≢false, false≢true}
+-- What repair keeps: names, sections, and every target of kind road that is left.
+use mathlib.Core.Path.{_≡_, refl, sym, _∙_, ap, ap₂}
+use mathlib.Core.Bool.{Bool, true, false, cond}
 use mathlib.Core.Option.{Option, none, some}
-use mathlib.Core.List.{List, [], _∷_, _++_, map}
+use mathlib.Core.List.{List, [], _∷_, map}
 use Prim.Native.Nat.{ℕ}
 use Rattle.model.specs.Lists.{amend, bindO, first, mapO, pick}
-use Rattle.model.specs.Records.{Connection, Junction, JunctionKind, Map, Road, Span, Target, common, direct, targetAt, virtual}
-use Rattle.model.specs.Repair.{dropAlong, inVirtual, linkAtEnd, linked, missingEnd, missingLink, missingLinks, putTarget, repair, repairRoads, roadOf, roadsAfter, roadsOver, startRoads, withoutAlong}
+use Rattle.model.specs.Records.{Connection, Junction, Map, Road, Span, Target, targetAt}
+use Rattle.model.specs.Repair.{dropAlong, linkAtEnd, linked, missingEnd, missingLink, putTarget, repair, roadOf, startRoads, withoutAlong}
 use Rattle.model.specs.Reversal.{roadNamed, roadward}
 use Rattle.model.specs.Succession.{sectionsFrom, sectionsOf}
-use Rattle.laws.proofs.Names.{no-some}
+use Rattle.laws.proofs.Basics.{no-some}
+use Rattle.laws.proofs.ForEach.{each}
+use Rattle.laws.proofs.RepairEach.{cleared, roadsOver-kept, withoutAlong-kept}
 use Rattle.laws.proofs.RepairReversed.{bareRoad, bareTarget}
 
 -- what is seen of a road by its name
@@ -24,7 +26,7 @@ seen-roadward same rs n e = go (roadOf same rs n)
     go none = refl
     go (some r) = refl
 
--- roads that came of others: the same namesJunction and sections, and no new target of kind road
+-- roads that came of others: the same names and sections, and no new target of kind road
 pub record Came (same : Span → Span → Bool) (rs rs′ : List Road) : Type 0 where
   pub sections-kept : (n : Span) → sectionsOf same rs′ n ≡ sectionsOf same rs n
   pub seen-kept : (n x : Span) (e : Bool) → seen same rs′ n e ≡ some x → seen same rs n e ≡ some x
@@ -122,12 +124,8 @@ module _ (same : Span → Span → Bool) where
       go true true x q = absurd (no-some x q)
 
   came-along : (js : List Junction) (r : Road) → Came1 r (withoutAlong same js r)
-  unfolding withoutAlong
-  came-along js r = go (inVirtual same js r)
+  came-along js r = withoutAlong-kept same (Came1 r) js r (record { name-is = refl; sections-is = refl; seen-is = ends }) (came1-refl r)
     where
-      cleared : Road
-      cleared = record { name = r .name; junction = r .junction; predecessor = dropAlong (r .predecessor); successor = dropAlong (r .successor); sections = r .sections }
-
       less : (o : Option Target) (x : Span) → bindO (dropAlong o) roadNamed ≡ some x → bindO o roadNamed ≡ some x
       less none x q = q
       less (some t) x q = pickOne (t .along) q
@@ -136,13 +134,9 @@ module _ (same : Span → Span → Bool) where
           pickOne true q = absurd (no-some x q)
           pickOne false q = q
 
-      ends : (e : Bool) (x : Span) → bindO (targetAt e cleared) roadNamed ≡ some x → bindO (targetAt e r) roadNamed ≡ some x
+      ends : (e : Bool) (x : Span) → bindO (targetAt e (cleared r)) roadNamed ≡ some x → bindO (targetAt e r) roadNamed ≡ some x
       ends false x q = less (r .predecessor) x q
       ends true x q = less (r .successor) x q
-
-      go : (b : Bool) → Came1 r (cond b cleared r)
-      go true = record { name-is = refl; sections-is = refl; seen-is = ends }
-      go false = came1-refl r
 
   came-bare : (r : Road) → Came1 r (bareRoad r)
   unfolding bareRoad bareTarget
@@ -164,40 +158,17 @@ module _ (same : Span → Span → Bool) where
       go none = came-refl same rs
       go (some e) = came-point (pointwise-amend (λ r. same (r .name) (c .incoming)) (putTarget e (linked j e)) (came-put j e) rs)
 
-  came-all : (j : Span) (cs : List Connection) (rs : List Road) → Came same rs (missingLinks same j cs rs)
-  came-all j [] rs = came-refl same rs
-  came-all j (c ∷ cs) rs = came-trans same rs (missingLink same j c rs) (missingLinks same j cs (missingLink same j c rs)) (came-link j c rs) (came-all j cs (missingLink same j c rs))
-
-  came-junction : (j : Junction) (rs : List Road) → Came same rs (repairRoads same j rs)
-  unfolding repairRoads
-  came-junction j rs = go (j .kind)
-    where
-      go : (k : JunctionKind) → Came same rs (roadsAfter same k (j .name) (j .connections) rs)
-      go common = came-all (j .name) (j .connections) rs
-      go direct = came-refl same rs
-      go virtual = came-refl same rs
-
-  came-over : (js : List Junction) (rs : List Road) → Came same rs (roadsOver same js rs)
-  came-over [] rs = came-refl same rs
-  came-over (j ∷ js) rs = came-trans same rs (repairRoads same j rs) (roadsOver same js (repairRoads same j rs)) (came-junction j rs) (came-over js (repairRoads same j rs))
+  -- after repair, and after that with no contacts of junctions
+  pub came-whole : (m : Map) → Came same (m .roads) (repair same m .roads)
+  unfolding repair startRoads
+  came-whole m = roadsOver-kept same (Came same (m .roads)) (m .junctions) (each (λ j c rs h. came-trans same (m .roads) rs (missingLink same (j .name) c rs) h (came-link (j .name) c rs)) (m .junctions)) (startRoads same m)
+      (came-point (pointwise-map (withoutAlong same (m .junctions)) (came-along (m .junctions)) (m .roads)))
 
   pub came-repair : (m : Map) → Came same (m .roads) (map bareRoad (repair same m .roads))
-  unfolding repair startRoads
-  came-repair m =
-      came-trans same (m .roads) (map (withoutAlong same (m .junctions)) (m .roads)) (map bareRoad (roadsOver same (m .junctions) (map (withoutAlong same (m .junctions)) (m .roads))))
-      (came-point (pointwise-map (withoutAlong same (m .junctions)) (came-along (m .junctions)) (m .roads)))
-      (came-trans same (map (withoutAlong same (m .junctions)) (m .roads)) (roadsOver same (m .junctions) (map (withoutAlong same (m .junctions)) (m .roads))) (map bareRoad (roadsOver same (m .junctions) (map (withoutAlong same (m .junctions)) (m .roads))))
-      (came-over (m .junctions) (map (withoutAlong same (m .junctions)) (m .roads)))
-      (came-point (pointwise-map bareRoad came-bare (roadsOver same (m .junctions) (map (withoutAlong same (m .junctions)) (m .roads))))))
+  came-repair m = came-trans same (m .roads) (repair same m .roads) (map bareRoad (repair same m .roads)) (came-whole m) (came-point (pointwise-map bareRoad came-bare (repair same m .roads)))
 
   pub roadward-repair : (m : Map) (n x : Span) (e : Bool) → roadward same (map bareRoad (repair same m .roads)) n e ≡ some x → roadward same (m .roads) n e ≡ some x
   roadward-repair m n x e q = seen-roadward same (m .roads) n e ∙ came-repair m .seen-kept n x e (sym (seen-roadward same (map bareRoad (repair same m .roads)) n e) ∙ q)
 
   pub bare-sections : (rs : List Road) (n : Span) → sectionsOf same (map bareRoad rs) n ≡ sectionsOf same rs n
   bare-sections rs n = sections-point n (pointwise-map bareRoad came-bare rs)
-
-  pub came-whole : (m : Map) → Came same (m .roads) (repair same m .roads)
-  unfolding repair startRoads
-  came-whole m = came-trans same (m .roads) (map (withoutAlong same (m .junctions)) (m .roads)) (roadsOver same (m .junctions) (map (withoutAlong same (m .junctions)) (m .roads)))
-      (came-point (pointwise-map (withoutAlong same (m .junctions)) (came-along (m .junctions)) (m .roads)))
-      (came-over (m .junctions) (map (withoutAlong same (m .junctions)) (m .roads)))

@@ -1,6 +1,7 @@
--- What the proofs of the code will want: the rows of a table and the tests over them, by row numbers.
+-- The rows of a table, the tests over them and the searches in them, by row numbers: one row more, the row that fails, the row that is found.
 use mathlib.Core.Path.{_≡_, refl, sym, _∙_, ap, ap₂}
-use mathlib.Core.Bool.{Bool, true, false, not, _&&_, _||_, cond}
+use mathlib.Core.Bool.{Bool, true, false, not, _&&_, _||_, cond, and-true, and-false, or-true, or-false}
+use mathlib.Core.Option.{none, some}
 use mathlib.Core.List.{List, [], _∷_, _++_}
 use Prim.Native.Nat.{ℕ, zero, suc, _+_, _*_, _/_, _<_, _≤_}
 use native.Mathlib.Nat.{suc-mul, zero-mul, not-suc-le-zero, le-of-suc-le-suc}
@@ -9,14 +10,14 @@ use native.Mathlib.Omega.{arith}
 use lib.Dec.{eqb}
 use lib.ListN.{length, take, drop, getD, length-append}
 use lib.Seq.{drop-drop, getD-take, getD-drop, take-suc, take-all}
-use mathlib.Core.Option.{none, some}
+use borrow.Author.Tests.{not-true}
 use Rattle.model.specs.Calls.{rowNamed}
 use Rattle.model.specs.Lists.{distinct, every, final, first, gather, orElse, some?}
 use Rattle.model.specs.Records.{Road, Span}
 use Rattle.model.specs.Repair.{roadOf}
-use Rattle.model.specs.Rows.{part, partsFit, rows, rowsFrom, table, word}
-use Rattle.laws.proofs.Lay.{fit-le}
-use Rattle.laws.proofs.RulesReversed.{and-left, and-right}
+use Rattle.model.specs.Rows.{partsFit, rows, rowsFrom, table, word}
+use Rattle.laws.proofs.Lay.{fit-first, fit-le, fit-rest}
+use Rattle.laws.proofs.ListTests.{and-left, and-right, every-append, some?-append}
 use Rattle.laws.proofs.Valid.{Alike}
 use Rattle.laws.proofs.WordsReversed.{gather-append}
 
@@ -31,70 +32,38 @@ module _ {A : Type 0} where
   unfolding table
   table-at w ws r h = rows-at w (length ws / w) ws r h
 
--- the word that the code reads at `r * w + k`
+-- word k of row r stands at r * w + k
 pub word-at : (w : ℕ) (ws : List ℕ) (r k : ℕ) → r < length ws / w → k < w → word (getD (table w ws) r []) k ≡ getD ws (r * w + k) 0
 word-at w ws r k h l = ap (λ (x : List ℕ). getD x k 0) (table-at w ws r h) ∙ getD-take w (drop (r * w) ws) k 0 l ∙ getD-drop (r * w) ws k 0
 
 -- ---- tests over rows, one row at a time
 module _ {A : Type 0} (p : A → Bool) where
-  every-append : (xs ys : List A) → every p (xs ++ ys) ≡ every p xs && every p ys
-  every-append [] ys = refl
-  every-append (x ∷ xs) ys = ap (λ b. p x && b) (every-append xs ys) ∙ assoc (p x) (every p xs) (every p ys)
-    where
-      assoc : (a b c : Bool) → a && (b && c) ≡ a && b && c
-      assoc true b c = refl
-      assoc false b c = refl
-
-  and-true : (a : Bool) → a && true ≡ a
-  and-true true = refl
-  and-true false = refl
-
-  -- a loop's turn
+  -- one row more
   pub every-more : (xs : List A) (r : ℕ) (d : A) → r < length xs → every p (take (r + 1) xs) ≡ every p (take r xs) && p (getD xs r d)
-  every-more xs r d h = ap (λ (k : ℕ). every p (take k xs)) (add-one r) ∙ ap (every p) (take-suc xs r d h) ∙ every-append (take r xs) (getD xs r d ∷ []) ∙ ap (λ b. every p (take r xs) && b) (and-true (p (getD xs r d)))
+  every-more xs r d h = ap (λ (k : ℕ). every p (take k xs)) (add-one r) ∙ ap (every p) (take-suc xs r d h) ∙ every-append p (take r xs) (getD xs r d ∷ []) ∙ ap (λ b. every p (take r xs) && b) (and-true (p (getD xs r d)))
 
   pub every-all : (xs : List A) (n : ℕ) → length xs ≤ n → every p (take n xs) ≡ every p xs
   every-all xs n h = ap (every p) (take-all n xs h)
 
-  -- a loop that stops at a row that fails
+  -- a row that fails
   pub every-fails : (xs : List A) (r : ℕ) (d : A) → r < length xs → p (getD xs r d) ≡ false → every p xs ≡ false
   every-fails [] r d h e = absurd (not-suc-le-zero h)
   every-fails (x ∷ xs) zero d h e = ap (λ b. b && every p xs) e
   every-fails (x ∷ xs) (suc r) d h e = ap (λ b. p x && b) (every-fails xs r d (le-of-suc-le-suc h) e) ∙ and-false (p x)
-    where
-      and-false : (a : Bool) → a && false ≡ false
-      and-false true = refl
-      and-false false = refl
-
-  some-append : (xs ys : List A) → some? p (xs ++ ys) ≡ some? p xs || some? p ys
-  some-append [] ys = refl
-  some-append (x ∷ xs) ys = ap (λ b. p x || b) (some-append xs ys) ∙ assoc (p x) (some? p xs) (some? p ys)
-    where
-      assoc : (a b c : Bool) → a || (b || c) ≡ a || b || c
-      assoc true b c = refl
-      assoc false b c = refl
 
   pub some-more : (xs : List A) (r : ℕ) (d : A) → r < length xs → some? p (take (r + 1) xs) ≡ some? p (take r xs) || p (getD xs r d)
-  some-more xs r d h = ap (λ (k : ℕ). some? p (take k xs)) (add-one r) ∙ ap (some? p) (take-suc xs r d h) ∙ some-append (take r xs) (getD xs r d ∷ []) ∙ ap (λ b. some? p (take r xs) || b) (or-false (p (getD xs r d)))
-    where
-      or-false : (a : Bool) → a || false ≡ a
-      or-false true = refl
-      or-false false = refl
+  some-more xs r d h = ap (λ (k : ℕ). some? p (take k xs)) (add-one r) ∙ ap (some? p) (take-suc xs r d h) ∙ some?-append p (take r xs) (getD xs r d ∷ []) ∙ ap (λ b. some? p (take r xs) || b) (or-false (p (getD xs r d)))
 
   pub some-found : (xs : List A) (r : ℕ) (d : A) → r < length xs → p (getD xs r d) ≡ true → some? p xs ≡ true
   some-found [] r d h e = absurd (not-suc-le-zero h)
   some-found (x ∷ xs) zero d h e = ap (λ b. b || some? p xs) e
   some-found (x ∷ xs) (suc r) d h e = ap (λ b. p x || b) (some-found xs r d (le-of-suc-le-suc h) e) ∙ or-true (p x)
-    where
-      or-true : (a : Bool) → a || true ≡ true
-      or-true true = refl
-      or-true false = refl
 
--- no two alike: the row that comes is like none of those predecessors it (for a test that is the same Both ways)
+-- no two alike: the row that comes is like none of those before it (for a test that is the same both ways)
 module _ {A : Type 0} (q : A → A → Bool) (swap : (a b : A) → q a b ≡ q b a) where
   pub distinct-snoc : (xs : List A) (y : A) → distinct q (xs ++ (y ∷ [])) ≡ distinct q xs && not (some? (q y) xs)
   distinct-snoc [] y = refl
-  distinct-snoc (x ∷ xs) y = ap₂ (λ a b. not a && b) (some-append (q x) xs (y ∷ [])) (distinct-snoc xs y)
+  distinct-snoc (x ∷ xs) y = ap₂ (λ a b. not a && b) (some?-append (q x) xs (y ∷ [])) (distinct-snoc xs y)
       ∙ go (some? (q x) xs) (q x y) (q y x) (swap x y) (distinct q xs) (some? (q y) xs)
     where
       go : (a b c : Bool) → b ≡ c → (d e : Bool) → not (a || (b || false)) && (d && not e) ≡ not a && d && not (c || e)
@@ -120,21 +89,21 @@ partsFit-append kf kc i n [] ss h = refl
 partsFit-append kf kc i n (r ∷ rs) ss h = ap (λ b. b && partsFit kf kc (i + word r kc) n (rs ++ ss)) (and-left (eqb (word r kf) i) (partsFit kf kc (i + word r kc) (endOf kc (i + word r kc) rs) rs) h)
     ∙ partsFit-append kf kc (i + word r kc) n rs ss (and-right (eqb (word r kf) i) (partsFit kf kc (i + word r kc) (endOf kc (i + word r kc) rs) rs) h)
 
--- a part that fits lies in its table, and begins where the rows predecessors it end
+-- a part that fits lies in its table, and begins where the rows before it end
 pub part-in : (kf kc i n : ℕ) (rs : List (List ℕ)) → partsFit kf kc i n rs ≡ true → (r : ℕ) → r < length rs → word (getD rs r []) kf + word (getD rs r []) kc ≤ n
 part-in kf kc i n [] h r l = absurd (not-suc-le-zero l)
 part-in kf kc i n (x ∷ rs) h zero l =
-    let a = fit-le kf kc (i + word x kc) n rs (and-right (eqb (word x kf) i) (partsFit kf kc (i + word x kc) n rs) h) in
-    let b = borrow.Author.Tests.eqb-true (word x kf) i (and-left (eqb (word x kf) i) (partsFit kf kc (i + word x kc) n rs) h) in
+    let a = fit-le kf kc (i + word x kc) n rs (fit-rest kf kc i n x rs h) in
+    let b = fit-first kf kc i n x rs h in
     omega arith
-part-in kf kc i n (x ∷ rs) h (suc r) l = part-in kf kc (i + word x kc) n rs (and-right (eqb (word x kf) i) (partsFit kf kc (i + word x kc) n rs) h) r (le-of-suc-le-suc l)
+part-in kf kc i n (x ∷ rs) h (suc r) l = part-in kf kc (i + word x kc) n rs (fit-rest kf kc i n x rs h) r (le-of-suc-le-suc l)
 
 pub part-begins : (kf kc i n : ℕ) (rs : List (List ℕ)) → partsFit kf kc i n rs ≡ true → (r : ℕ) → r < length rs → word (getD rs r []) kf ≡ endOf kc i (take r rs)
 part-begins kf kc i n [] h r l = absurd (not-suc-le-zero l)
-part-begins kf kc i n (x ∷ rs) h zero l = borrow.Author.Tests.eqb-true (word x kf) i (and-left (eqb (word x kf) i) (partsFit kf kc (i + word x kc) n rs) h)
-part-begins kf kc i n (x ∷ rs) h (suc r) l = part-begins kf kc (i + word x kc) n rs (and-right (eqb (word x kf) i) (partsFit kf kc (i + word x kc) n rs) h) r (le-of-suc-le-suc l)
+part-begins kf kc i n (x ∷ rs) h zero l = fit-first kf kc i n x rs h
+part-begins kf kc i n (x ∷ rs) h (suc r) l = part-begins kf kc (i + word x kc) n rs (fit-rest kf kc i n x rs h) r (le-of-suc-le-suc l)
 
--- ---- what a writer's turn adds: one row after the content so far
+-- ---- the words of one row more, after those so far
 pub gather-more : {A B : Type 0} (f : A → List B) (xs : List A) (r : ℕ) (d : A) → r < length xs → gather f (take (r + 1) xs) ≡ gather f (take r xs) ++ f (getD xs r d)
 gather-more {B = B} f xs r d h = ap (λ (k : ℕ). gather f (take k xs)) (add-one r) ∙ ap (gather f) (take-suc xs r d h) ∙ gather-append f (take r xs) (getD xs r d ∷ []) ∙ ap (λ (l : List B). gather f (take r xs) ++ l) (mathlib.Core.List.append-nil (f (getD xs r d)))
 
@@ -198,11 +167,7 @@ module _ (alike : Span → Span → Bool) where
   only-row A (x ∷ rs) n d h zero l e = ap (λ b. cond b 0 (suc (rowNamed alike rs n))) e
   only-row A (x ∷ rs) n d h (suc r) l e = ap₂ (λ (b : Bool) (k : ℕ). cond b 0 (suc k)) (other (alike (x .name) n) refl) (only-row A rs n d (and-right (not (some? (λ (b : Road). alike (x .name) (b .name)) rs)) (distinct (λ (a b : Road). alike (a .name) (b .name)) rs) h) r (le-of-suc-le-suc l) e)
     where
-      turn : (b : Bool) → not b ≡ true → b ≡ false
-      turn false q = refl
-      turn true q = sym q
-
       other : (b : Bool) → alike (x .name) n ≡ b → alike (x .name) n ≡ false
       other false q = q
       other true q = absurd (mathlib.Core.Bool.true≢false (sym (some-found (λ (b : Road). alike (x .name) (b .name)) rs r d (le-of-suc-le-suc l) (A .same-trans (x .name) n (getD rs r d .name) q (A .same-sym (getD rs r d .name) n e)))
-          ∙ turn (some? (λ (b : Road). alike (x .name) (b .name)) rs) (and-left (not (some? (λ (b : Road). alike (x .name) (b .name)) rs)) (distinct (λ (a b : Road). alike (a .name) (b .name)) rs) h)))
+          ∙ not-true (some? (λ (b : Road). alike (x .name) (b .name)) rs) (and-left (not (some? (λ (b : Road). alike (x .name) (b .name)) rs)) (distinct (λ (a b : Road). alike (a .name) (b .name)) rs) h)))

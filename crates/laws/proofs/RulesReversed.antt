@@ -1,11 +1,11 @@
--- The rules of refusal on a reversed map. 
+-- The rules of refusal judge a reversed map as the map; and what it means that no rule of a list is broken.
 use mathlib.Core.Path.{_≡_, refl, sym, _∙_, ap, ap₂, subst, fun-ext}
-use mathlib.Core.Bool.{Bool, true, false, not, _&&_, _||_, cond, true≢false, false≢true}
+use mathlib.Core.Bool.{Bool, true, false, not, _&&_, _||_, cond, false≢true, and-comm}
 use mathlib.Core.Option.{Option, none, some}
 use mathlib.Core.List.{List, [], _∷_, _++_, map, reverse}
-use Prim.Native.Nat.{ℕ, zero, suc, _+_, _<_, _≤_}
+use Prim.Native.Nat.{ℕ, _+_, _≤_}
 use lib.Dec.{eqb, leb, ltb}
-use lib.ListN.{length, length-append, length-map, length-reverse}
+use lib.ListN.{length, length-map, length-reverse}
 use borrow.Author.Tests.{ltb-true, lt-ltb}
 use Rattle.model.specs.Lists.{_⊕_, ascends, distinct, every, gather, headOr, lastOr, mapO, member}
 use Rattle.model.specs.Records.{Junction, Lane, Map, Pair, Road, Span, linkAt, targetAt}
@@ -13,64 +13,16 @@ use Rattle.model.specs.Repair.{namesJunction}
 use Rattle.model.specs.Reversal.{leadsTo, marked, marks, mirror, mirrored, negated, reverseConnection, reverseJunction, reverseLane, reverseLink, reverseMap, reversePair, reverseRoad, signed}
 use Rattle.model.specs.Rules.{Rule, firstBroken, isDirect, laneFine, leastNumber, linkFine, namesTwice, pairFine, sameKey}
 use Rattle.model.specs.Succession.{sectionsOf}
-use Rattle.laws.proofs.Basics.{each, each-map, gather-map, some?-ext, some?-map}
-use Rattle.laws.proofs.Compose.{ascends-mirrored, each-both, each-of-map, member-mirrored}
+use Rattle.laws.proofs.Basics.{gather-map, length-gather, no-some}
+use Rattle.laws.proofs.Compose.{ascends-mirrored, member-mirrored}
+use Rattle.laws.proofs.ForEach.{each, each-both, each-map, each-of-map}
+use Rattle.laws.proofs.ListTests.{and-both, and-left, and-right, and-swap, distinct-ext, distinct-map, each-every, every-each, every-ext, every-map}
 use Rattle.laws.proofs.Mirror.{signed-eqb}
-use Rattle.laws.proofs.Names.{no-some, placed-bound, same-right, sectionsOf-ascends, sectionsOf-same}
-use Rattle.laws.proofs.RepairReversed.{names-turn}
-use Rattle.laws.proofs.Reverse.{sectionsOf-turn}
+use Rattle.laws.proofs.Names.{placed-bound, same-right, sectionsOf-ascends, sectionsOf-same}
+use Rattle.laws.proofs.RepairReversed.{namesJunction-reversed}
+use Rattle.laws.proofs.Reverse.{sectionsOf-reversed}
 use Rattle.laws.proofs.SuccessionReversed.{section-eqb}
-use Rattle.laws.proofs.Valid.{Alike, Ascends, Each, Placed, Single, Steady, Turnable, Valid, junctionFine, markFor, noneTwice, toggled}
-
-pub and-left : (a b : Bool) → a && b ≡ true → a ≡ true
-and-left true b q = refl
-and-left false b q = q
-
-pub and-right : (a b : Bool) → a && b ≡ true → b ≡ true
-and-right true b q = q
-and-right false b q = absurd (false≢true q)
-
-pub and-both : (a b : Bool) → a ≡ true → b ≡ true → a && b ≡ true
-and-both a b p q = ap₂ (λ x y. x && y) p q
-
-pub and-comm : (a b : Bool) → a && b ≡ b && a
-and-comm false false = refl
-and-comm false true = refl
-and-comm true false = refl
-and-comm true true = refl
-
-module _ {A : Type 0} where
-  pub every-each : (p : A → Bool) (xs : List A) → every p xs ≡ true → Each (λ x. p x ≡ true) xs
-  every-each p [] h = tt
-  every-each p (x ∷ xs) h = (and-left (p x) (every p xs) h, every-each p xs (and-right (p x) (every p xs) h))
-
-  pub each-every : (p : A → Bool) (xs : List A) → Each (λ x. p x ≡ true) xs → every p xs ≡ true
-  each-every p [] h = refl
-  each-every p (x ∷ xs) h = and-both (p x) (every p xs) (h .0) (each-every p xs (h .1))
-
-  pub every-ext : (p q : A → Bool) (xs : List A) → Each (λ x. p x ≡ q x) xs → every p xs ≡ every q xs
-  every-ext p q [] h = refl
-  every-ext p q (x ∷ xs) h = ap₂ (λ a b. a && b) (h .0) (every-ext p q xs (h .1))
-
-  pub distinct-ext : (P : A → Type 0) (p q : A → A → Bool) (xs : List A) → Each P xs → ((a b : A) → P a → P b → p a b ≡ q a b) → distinct p xs ≡ distinct q xs
-  distinct-ext P p q [] h k = refl
-  distinct-ext P p q (x ∷ xs) h k = ap₂ (λ a b. not a && b) (some?-ext (p x) (q x) xs (each-map (λ y w. k x y (h .0) w) xs (h .1))) (distinct-ext P p q xs (h .1) k)
-
-module _ {A B : Type 0} where
-  pub every-map : (f : A → B) (p : B → Bool) (xs : List A) → every p (map f xs) ≡ every (λ x. p (f x)) xs
-  every-map f p [] = refl
-  every-map f p (x ∷ xs) = ap (λ b. p (f x) && b) (every-map f p xs)
-
-  pub distinct-map : (f : A → B) (q : B → B → Bool) (xs : List A) → distinct q (map f xs) ≡ distinct (λ a b. q (f a) (f b)) xs
-  distinct-map f q [] = refl
-  distinct-map f q (x ∷ xs) = ap₂ (λ a b. not a && b) (some?-map f (q (f x)) xs) (distinct-map f q xs)
-
-  pub length-gather : (f g : A → List B) (xs : List A) → Each (λ x. length (f x) ≡ length (g x)) xs → length (gather f xs) ≡ length (gather g xs)
-  length-gather f g [] h = refl
-  length-gather f g (x ∷ xs) h = length-append (f x) (gather f xs) ∙ ap₂ (λ a b. a + b) (h .0) (length-gather f g xs (h .1)) ∙ sym (length-append (g x) (gather g xs))
-
-pub gather-over : {A B C : Type 0} (f : A → B) (g : B → List C) (xs : List A) → gather g (map f xs) ≡ gather (λ x. g (f x)) xs
-gather-over f g xs = gather-map f g xs
+use Rattle.laws.proofs.Valid.{Alike, Ascends, Placed, Reversible, Single, Steady, Valid, junctionFine, markFor, noneTwice, toggled}
 
 -- ascending, as a test and as a fact
 pub ascends-fact : (xs : List ℕ) → ascends xs ≡ true → Ascends xs
@@ -132,9 +84,9 @@ module _ (same : Span → Span → Bool) (A : Alike same) (s : Span → Bool) (S
   v : Valid same m
   v = good-valid same m g
 
-  pub key-turn : (a b : Lane) → Placed same (m .roads) a → Placed same (m .roads) b → sameKey same (reverseLane same s (m .roads) a) (reverseLane same s (m .roads) b) ≡ sameKey same a b
+  pub sameKey-reversed : (a b : Lane) → Placed same (m .roads) a → Placed same (m .roads) b → sameKey same (reverseLane same s (m .roads) a) (reverseLane same s (m .roads) b) ≡ sameKey same a b
   unfolding sameKey reverseLane
-  key-turn a b p q = go (same (a .road) (b .road)) refl
+  sameKey-reversed a b p q = go (same (a .road) (b .road)) refl
     where
       ss : List ℕ
       ss = sectionsOf same (m .roads) (b .road)
@@ -150,30 +102,30 @@ module _ (same : Span → Span → Bool) (A : Alike same) (s : Span → Bool) (S
           (placed-bound same (m .roads) b (v .ascending) q))
           (ap (λ x. eqb (signed x (a .number)) (signed (s (b .road)) (b .number))) (S (a .road) (b .road) w) ∙ signed-eqb (s (b .road)) (a .number) (b .number))
 
-  pub placed-turn : (l : Lane) → Placed same (m .roads) l → member (reverseLane same s (m .roads) l .section) (sectionsOf same (map (reverseRoad s) (m .roads)) (l .road)) ≡ true
+  pub placed-reversed : (l : Lane) → Placed same (m .roads) l → member (reverseLane same s (m .roads) l .section) (sectionsOf same (map (reverseRoad s) (m .roads)) (l .road)) ≡ true
   unfolding reverseLane
-  placed-turn l p = ap (member (cond (s (l .road)) (mirror (sectionsOf same (m .roads) (l .road)) (l .section)) (l .section))) (sectionsOf-turn same s S (m .roads) (l .road)) ∙ go (s (l .road))
+  placed-reversed l p = ap (member (cond (s (l .road)) (mirror (sectionsOf same (m .roads) (l .road)) (l .section)) (l .section))) (sectionsOf-reversed same s S (m .roads) (l .road)) ∙ go (s (l .road))
     where
       go : (b : Bool) → member (cond b (mirror (sectionsOf same (m .roads) (l .road)) (l .section)) (l .section)) (cond b (mirrored (sectionsOf same (m .roads) (l .road))) (sectionsOf same (m .roads) (l .road))) ≡ true
       go true = member-mirrored (sectionsOf same (m .roads) (l .road)) (l .section) (sectionsOf-ascends same (m .roads) (l .road) (v .ascending)) p
       go false = p
 
   -- a map that passes goes on passing
-  pub good-turn : Good same (reverseMap same s m)
+  pub good-reversed : Good same (reverseMap same s m)
   unfolding reverseMap reverseLane
-  good-turn = record {
+  good-reversed = record {
     names-once = unfold reverseRoad in (distinct-map (reverseRoad s) (λ a b. same (a .name) (b .name)) (m .roads) ∙ g .names-once);
     ascending = each-every (λ r. ascends (r .sections)) (map (reverseRoad s) (m .roads)) (each-of-map (reverseRoad s) (λ r. ascends (r .sections) ≡ true) (m .roads) (each-map road (m .roads) (v .ascending)));
     identities-once = distinct-map (reverseLane same s (m .roads)) (λ a b. eqb (a .identity) (b .identity)) (m .lanes) ∙ g .identities-once;
     placed = each-every (λ l. member (l .section) (sectionsOf same (map (reverseRoad s) (m .roads)) (l .road))) (map (reverseLane same s (m .roads)) (m .lanes))
         (each-of-map (reverseLane same s (m .roads)) (λ l. member (l .section) (sectionsOf same (map (reverseRoad s) (m .roads)) (l .road)) ≡ true) (m .lanes) (each-map lane (m .lanes) (v .placed)));
     keys-once = distinct-map (reverseLane same s (m .roads)) (sameKey same) (m .lanes)
-        ∙ distinct-ext (Placed same (m .roads)) (λ a b. sameKey same (reverseLane same s (m .roads) a) (reverseLane same s (m .roads) b)) (sameKey same) (m .lanes) (v .placed) key-turn
+        ∙ distinct-ext (Placed same (m .roads)) (λ a b. sameKey same (reverseLane same s (m .roads) a) (reverseLane same s (m .roads) b)) (sameKey same) (m .lanes) (v .placed) sameKey-reversed
         ∙ g .keys-once;
   }
     where
       lane : (l : Lane) → Placed same (m .roads) l → member (reverseLane same s (m .roads) l .section) (sectionsOf same (map (reverseRoad s) (m .roads)) (l .road)) ≡ true
-      lane l p = placed-turn l p
+      lane l p = placed-reversed l p
 
       road : (r : Road) → Ascends (r .sections) → ascends (reverseRoad s r .sections) ≡ true
       road r h = unfold reverseRoad in go (s (r .name))
@@ -189,61 +141,57 @@ sizes m = length (m .roads) ∷ length (gather (λ r. r .sections) (m .roads)) �
 
 -- the rules on a call
 module _ (same : Span → Span → Bool) (s : Span → Bool) where
-  pub marks-turn : (rs : List Road) (ks : List ℕ) → markFor (map (reverseRoad s) rs) ks ≡ markFor rs ks
-  marks-turn [] [] = refl
-  marks-turn [] (k ∷ ks) = refl
-  marks-turn (r ∷ rs) [] = refl
-  marks-turn (r ∷ rs) (k ∷ ks) = ap (λ b. leb k 1 && b) (marks-turn rs ks)
+  pub markFor-reversed : (rs : List Road) (ks : List ℕ) → markFor (map (reverseRoad s) rs) ks ≡ markFor rs ks
+  markFor-reversed [] [] = refl
+  markFor-reversed [] (k ∷ ks) = refl
+  markFor-reversed (r ∷ rs) [] = refl
+  markFor-reversed (r ∷ rs) (k ∷ ks) = ap (λ b. leb k 1 && b) (markFor-reversed rs ks)
 
-  pub marked-turn : (rs : List Road) (ks : List ℕ) (n : Span) → marked same (map (reverseRoad s) rs) ks n ≡ marked same rs ks n
+  pub marked-reversed : (rs : List Road) (ks : List ℕ) (n : Span) → marked same (map (reverseRoad s) rs) ks n ≡ marked same rs ks n
   unfolding reverseRoad
-  marked-turn [] ks n = refl
-  marked-turn (r ∷ rs) [] n = refl
-  marked-turn (r ∷ rs) (k ∷ ks) n = ap (cond (same (r .name) n) (eqb k 1)) (marked-turn rs ks n)
+  marked-reversed [] ks n = refl
+  marked-reversed (r ∷ rs) [] n = refl
+  marked-reversed (r ∷ rs) (k ∷ ks) n = ap (cond (same (r .name) n) (eqb k 1)) (marked-reversed rs ks n)
 
   pub least-signed : (b : Bool) (n : ℕ) → eqb (signed b n) leastNumber ≡ eqb n leastNumber
   unfolding negated
   least-signed false n = refl
   least-signed true n = signed-eqb true n leastNumber
 
-  pub linkFine-turn : (b : Bool) (o : Option ℕ) → linkFine (mapO (signed b) o) ≡ linkFine o
-  linkFine-turn b none = refl
-  linkFine-turn b (some n) = ap not (least-signed b n)
+  pub linkFine-reversed : (b : Bool) (o : Option ℕ) → linkFine (mapO (signed b) o) ≡ linkFine o
+  linkFine-reversed b none = refl
+  linkFine-reversed b (some n) = ap not (least-signed b n)
 
-  pub laneFine-turn : (rs : List Road) (l : Lane) → laneFine (reverseLane same s rs l) ≡ laneFine l
+  pub laneFine-reversed : (rs : List Road) (l : Lane) → laneFine (reverseLane same s rs l) ≡ laneFine l
   unfolding laneFine reverseLane reverseLink
-  laneFine-turn rs l = ap₂ (λ a b. a && b) (ap₂ (λ a b. not a && b) (least-signed (s (l .road)) (l .number)) (linkFine-turn (marks s (leadsTo same rs l (s (l .road)))) (linkAt (s (l .road)) l)))
-      (linkFine-turn (marks s (leadsTo same rs l (not (s (l .road))))) (linkAt (not (s (l .road))) l))
+  laneFine-reversed rs l = ap₂ (λ a b. a && b) (ap₂ (λ a b. not a && b) (least-signed (s (l .road)) (l .number)) (linkFine-reversed (marks s (leadsTo same rs l (s (l .road)))) (linkAt (s (l .road)) l)))
+      (linkFine-reversed (marks s (leadsTo same rs l (not (s (l .road))))) (linkAt (not (s (l .road))) l))
       ∙ go (s (l .road))
     where
-      swap : (a b c : Bool) → (a && b) && c ≡ (a && c) && b
-      swap false b c = refl
-      swap true b c = and-comm b c
-
       go : (b : Bool) → not (eqb (l .number) leastNumber) && linkFine (linkAt b l) && linkFine (linkAt (not b) l) ≡ not (eqb (l .number) leastNumber) && linkFine (l .predecessor) && linkFine (l .successor)
       go false = refl
-      go true = swap (not (eqb (l .number) leastNumber)) (linkFine (l .successor)) (linkFine (l .predecessor))
+      go true = and-swap (not (eqb (l .number) leastNumber)) (linkFine (l .successor)) (linkFine (l .predecessor))
 
-  pub junctionFine-turn : (j : Junction) → junctionFine (reverseJunction s j) ≡ junctionFine j
+  pub junctionFine-reversed : (j : Junction) → junctionFine (reverseJunction s j) ≡ junctionFine j
   unfolding junctionFine reverseJunction reverseConnection
-  junctionFine-turn j = every-map (reverseConnection s) (λ c. every pairFine (c .pairs)) (j .connections)
+  junctionFine-reversed j = every-map (reverseConnection s) (λ c. every pairFine (c .pairs)) (j .connections)
       ∙ every-ext (λ c. every pairFine (reverseConnection s c .pairs)) (λ c. every pairFine (c .pairs)) (j .connections) (each (λ c. every-map (reversePair s (c .incoming) (c .connecting)) pairFine (c .pairs)
       ∙ every-ext (λ p. pairFine (reversePair s (c .incoming) (c .connecting) p)) pairFine (c .pairs) (each (pair (c .incoming) (c .connecting)) (c .pairs))) (j .connections))
     where
       pair : (a b : Span) (p : Pair) → pairFine (reversePair s a b p) ≡ pairFine p
       pair a b p = unfold pairFine reversePair in ap₂ (λ x y. not x && not y) (least-signed (s a) (p .from)) (least-signed (s b) (p .to))
 
-  pub twice-turn : (j : Span) (r : Road) → namesTwice same j (reverseRoad s r) ≡ namesTwice same j r
+  pub namesTwice-reversed : (j : Span) (r : Road) → namesTwice same j (reverseRoad s r) ≡ namesTwice same j r
   unfolding namesTwice reverseRoad
-  twice-turn j r = ap₂ (λ a b. a && b) (names-turn same s j (targetAt (s (r .name)) r)) (names-turn same s j (targetAt (not (s (r .name))) r)) ∙ go (s (r .name))
+  namesTwice-reversed j r = ap₂ (λ a b. a && b) (namesJunction-reversed same s j (targetAt (s (r .name)) r)) (namesJunction-reversed same s j (targetAt (not (s (r .name))) r)) ∙ go (s (r .name))
     where
       go : (b : Bool) → namesJunction same j (targetAt b r) && namesJunction same j (targetAt (not b) r) ≡ namesJunction same j (r .predecessor) && namesJunction same j (r .successor)
       go false = refl
       go true = and-comm (namesJunction same j (r .successor)) (namesJunction same j (r .predecessor))
 
-  pub noneTwice-turn : (mk : Span → Bool) (m : Map) → noneTwice same mk (reverseMap same s m) ≡ noneTwice same mk m
+  pub noneTwice-reversed : (mk : Span → Bool) (m : Map) → noneTwice same mk (reverseMap same s m) ≡ noneTwice same mk m
   unfolding noneTwice reverseMap reverseJunction
-  noneTwice-turn mk m = every-map (reverseJunction s) (λ j. not (isDirect (j .kind)) || every (λ r. not (mk (r .name) && namesTwice same (j .name) r)) (map (reverseRoad s) (m .roads))) (m .junctions)
+  noneTwice-reversed mk m = every-map (reverseJunction s) (λ j. not (isDirect (j .kind)) || every (λ r. not (mk (r .name) && namesTwice same (j .name) r)) (map (reverseRoad s) (m .roads))) (m .junctions)
       ∙ every-ext _ _ (m .junctions) (each (λ j. ap (λ b. not (isDirect (j .kind)) || b) (inner (j .name))) (m .junctions))
     where
       inner : (j : Span) → every (λ r. not (mk (r .name) && namesTwice same j r)) (map (reverseRoad s) (m .roads)) ≡ every (λ r. not (mk (r .name) && namesTwice same j r)) (m .roads)
@@ -251,7 +199,7 @@ module _ (same : Span → Span → Bool) (s : Span → Bool) where
           ∙ every-ext (λ r. not (mk (reverseRoad s r .name) && namesTwice same j (reverseRoad s r))) (λ r. not (mk (r .name) && namesTwice same j r)) (m .roads) (each one (m .roads))
         where
           one : (r : Road) → not (mk (reverseRoad s r .name) && namesTwice same j (reverseRoad s r)) ≡ not (mk (r .name) && namesTwice same j r)
-          one r = ap (λ b. not (mk (reverseRoad s r .name) && b)) (twice-turn j r) ∙ (unfold reverseRoad in refl)
+          one r = ap (λ b. not (mk (reverseRoad s r .name) && b)) (namesTwice-reversed j r) ∙ (unfold reverseRoad in refl)
 
   pub sections-length : (r : Road) → length (reverseRoad s r .sections) ≡ length (r .sections)
   unfolding reverseRoad mirrored
@@ -267,44 +215,44 @@ module _ (same : Span → Span → Bool) (s : Span → Bool) where
 
   pub pairs-length : (j : Junction) → length (gather (λ c. c .pairs) (reverseJunction s j .connections)) ≡ length (gather (λ c. c .pairs) (j .connections))
   unfolding reverseJunction reverseConnection
-  pairs-length j = ap length (gather-over (reverseConnection s) (λ c. c .pairs) (j .connections))
+  pairs-length j = ap length (gather-map (reverseConnection s) (λ c. c .pairs) (j .connections))
       ∙ length-gather (λ c. reverseConnection s c .pairs) (λ c. c .pairs) (j .connections) (each (λ c. length-map (c .pairs) (reversePair s (c .incoming) (c .connecting))) (j .connections))
 
-  pub sizes-turn : (m : Map) → sizes (reverseMap same s m) ≡ sizes m
+  pub sizes-reversed : (m : Map) → sizes (reverseMap same s m) ≡ sizes m
   unfolding sizes reverseMap
-  sizes-turn m = λ i. length-map (m .roads) (reverseRoad s) i
-      ∷ (ap length (gather-over (reverseRoad s) (λ r. r .sections) (m .roads)) ∙ length-gather (λ r. reverseRoad s r .sections) (λ r. r .sections) (m .roads) (each sections-length (m .roads))) i
-      ∷ (ap length (gather-over (reverseJunction s) (λ j. j .connections) (m .junctions)) ∙ length-gather (λ j. reverseJunction s j .connections) (λ j. j .connections) (m .junctions) (each connections-length (m .junctions))) i
-      ∷ (ap length (gather-over (reverseJunction s) (λ j. gather (λ c. c .pairs) (j .connections)) (m .junctions)) ∙ length-gather (λ j. gather (λ c. c .pairs) (reverseJunction s j .connections)) (λ j. gather (λ c. c .pairs) (j .connections)) (m .junctions) (each pairs-length (m .junctions))) i
+  sizes-reversed m = λ i. length-map (m .roads) (reverseRoad s) i
+      ∷ (ap length (gather-map (reverseRoad s) (λ r. r .sections) (m .roads)) ∙ length-gather (λ r. reverseRoad s r .sections) (λ r. r .sections) (m .roads) (each sections-length (m .roads))) i
+      ∷ (ap length (gather-map (reverseJunction s) (λ j. j .connections) (m .junctions)) ∙ length-gather (λ j. reverseJunction s j .connections) (λ j. j .connections) (m .junctions) (each connections-length (m .junctions))) i
+      ∷ (ap length (gather-map (reverseJunction s) (λ j. gather (λ c. c .pairs) (j .connections)) (m .junctions)) ∙ length-gather (λ j. gather (λ c. c .pairs) (reverseJunction s j .connections)) (λ j. gather (λ c. c .pairs) (j .connections)) (m .junctions) (each pairs-length (m .junctions))) i
       ∷ length-map (m .lanes) (reverseLane same s (m .roads)) i ∷ length-map (m .lanes) (reverseLane same s (m .roads)) i ∷ []
 
   -- rules 12, 13 and 14 judge the reversed map as the map
   pub marks-reversed : (m : Map) (ks : List ℕ) → markFor (reverseMap same s m .roads) ks ≡ markFor (m .roads) ks
   unfolding reverseMap
-  marks-reversed m ks = marks-turn (m .roads) ks
+  marks-reversed m ks = markFor-reversed (m .roads) ks
 
   pub numbers-reversed : (m : Map) → every laneFine (reverseMap same s m .lanes) && every junctionFine (reverseMap same s m .junctions) ≡ every laneFine (m .lanes) && every junctionFine (m .junctions)
   unfolding reverseMap
   numbers-reversed m = ap₂ (λ a b. a && b)
-      (every-map (reverseLane same s (m .roads)) laneFine (m .lanes) ∙ every-ext _ _ (m .lanes) (each (laneFine-turn (m .roads)) (m .lanes)))
-      (every-map (reverseJunction s) junctionFine (m .junctions) ∙ every-ext _ _ (m .junctions) (each junctionFine-turn (m .junctions)))
+      (every-map (reverseLane same s (m .roads)) laneFine (m .lanes) ∙ every-ext _ _ (m .lanes) (each (laneFine-reversed (m .roads)) (m .lanes)))
+      (every-map (reverseJunction s) junctionFine (m .junctions) ∙ every-ext _ _ (m .junctions) (each junctionFine-reversed (m .junctions)))
 
   pub ends-reversed : (m : Map) (ks : List ℕ) → noneTwice same (marked same (reverseMap same s m .roads) ks) (reverseMap same s m) ≡ noneTwice same (marked same (m .roads) ks) m
-  ends-reversed m ks = ap (λ mk. noneTwice same mk (reverseMap same s m)) marks-same ∙ noneTwice-turn (marked same (m .roads) ks) m
+  ends-reversed m ks = ap (λ mk. noneTwice same mk (reverseMap same s m)) marks-same ∙ noneTwice-reversed (marked same (m .roads) ks) m
     where
       marks-same : marked same (reverseMap same s m .roads) ks ≡ marked same (m .roads) ks
-      marks-same = unfold reverseMap in fun-ext (marked-turn (m .roads) ks)
+      marks-same = unfold reverseMap in fun-ext (marked-reversed (m .roads) ks)
 
 module _ (same : Span → Span → Bool) (A : Alike same) where
-  pub marked-sound : (rs : List Road) (ks : List ℕ) → Steady same (marked same rs ks)
-  marked-sound [] ks a b h = refl
-  marked-sound (r ∷ rs) [] a b h = refl
-  marked-sound (r ∷ rs) (k ∷ ks) a b h = ap₂ (λ x y. cond x (eqb k 1) y) (same-right same A a b (r .name) h) (marked-sound rs ks a b h)
+  pub marked-steady : (rs : List Road) (ks : List ℕ) → Steady same (marked same rs ks)
+  marked-steady [] ks a b h = refl
+  marked-steady (r ∷ rs) [] a b h = refl
+  marked-steady (r ∷ rs) (k ∷ ks) a b h = ap₂ (λ x y. cond x (eqb k 1) y) (same-right same A a b (r .name) h) (marked-steady rs ks a b h)
 
--- the rule on direct junctions, as the repair of a reversed map wants it
-pub turnable : (same : Span → Span → Bool) (mk : Span → Bool) (m : Map) → noneTwice same mk m ≡ true → Turnable same mk m
+-- rule 14 as a fact: no marked road names one direct junction at both ends
+pub reversible : (same : Span → Span → Bool) (mk : Span → Bool) (m : Map) → noneTwice same mk m ≡ true → Reversible same mk m
 unfolding noneTwice
-turnable same mk m h = each-map (λ j q d. single (j .name) (rest (isDirect (j .kind)) _ d q)) (m .junctions) (every-each (λ j. not (isDirect (j .kind)) || every (λ r. not (mk (r .name) && namesTwice same (j .name) r)) (m .roads)) (m .junctions) h)
+reversible same mk m h = each-map (λ j q d. single (j .name) (rest (isDirect (j .kind)) _ d q)) (m .junctions) (every-each (λ j. not (isDirect (j .kind)) || every (λ r. not (mk (r .name) && namesTwice same (j .name) r)) (m .roads)) (m .junctions) h)
   where
     rest : (a b : Bool) → a ≡ true → not a || b ≡ true → b ≡ true
     rest true b d q = q

@@ -21,16 +21,17 @@ use Rattle.model.specs.Sequence.{Buffers, Found, byLists, byRepair, found, from
 use Rattle.model.specs.Succession.{predecessorLists, successorLists}
 use Rattle.model.specs.Tables.{Tables, allConnections, allPairs, bit, connectionWords, edgeWords, junctionWords, laneWords, lanesOf, pairWords, roadWords, sectionWords, tablesOf}
 use Rattle.model.specs.Text.{sameIn}
-use Rattle.laws.proofs.Admitted.{Passed, Sound, is-edged, is-lanes, is-map, is-roads, passed}
-use Rattle.laws.proofs.Basics.{each, some?-ext, some?-map}
+use Rattle.laws.proofs.Basics.{gather-map, some?-ext, some?-map}
 use Rattle.laws.proofs.ByBytes.{alike-in}
-use Rattle.laws.proofs.Held.{Held, before-held, lanes-count, repairSizes, repairSizes-turn, successors-held}
+use Rattle.laws.proofs.ForEach.{each}
+use Rattle.laws.proofs.Held.{Held, lanes-count, predecessors-held, repairSizes, repairSizes-reversed, successors-held}
 use Rattle.laws.proofs.Lay.{length-even, take-written}
+use Rattle.laws.proofs.ListTests.{and-left, every-ext}
 use Rattle.laws.proofs.RepairKeeps.{came-whole}
-use Rattle.laws.proofs.RulesReversed.{and-left, every-ext, gather-over}
-use Rattle.laws.proofs.SameGaps.{linkGaps-turn}
-use Rattle.laws.proofs.StaySound.{sound-repair, sound-turn}
-use Rattle.laws.proofs.WordsReversed.{Counted, Even, allPairs-nested, counted-turn, edgesSized-even, even-tables, lanesSized-even, length-connections, length-junctions, length-pairs, length-roads, mapSized-even, whole-count}
+use Rattle.laws.proofs.SameGaps.{linkGaps-reversed}
+use Rattle.laws.proofs.SoundMaps.{Passed, Sound, is-edged, is-lanes, is-map, is-roads, passed}
+use Rattle.laws.proofs.StaySound.{sound-repair, sound-reversed}
+use Rattle.laws.proofs.WordsReversed.{Counted, Even, allPairs-nested, counted-reversed, edgesSized-even, even-tables, lanesSized-even, length-connections, length-junctions, length-pairs, length-roads, mapSized-even, whole-count}
 
 -- ---- what repair writes, over the map itself
 unfoldable pub warnRow : List ℕ → List Road → Warning → List ℕ
@@ -61,7 +62,7 @@ module _ (text : List ℕ) (m : Map) (xs : List EdgedLane) (h : Sound text m xs)
 
   sections-kept : sectionWords (m .roads) ≡ sectionWords (repair (sameIn text) m .roads)
   unfolding sectionWords
-  sections-kept = sym (gather-over (λ (r : Road). r .sections) (λ l. l) (m .roads)) ∙ ap (gather (λ (l : List ℕ). l)) (sym (came-whole (sameIn text) m .listed-kept)) ∙ gather-over (λ (r : Road). r .sections) (λ l. l) (repair (sameIn text) m .roads)
+  sections-kept = sym (gather-map (λ (r : Road). r .sections) (λ l. l) (m .roads)) ∙ ap (gather (λ (l : List ℕ). l)) (sym (came-whole (sameIn text) m .listed-kept)) ∙ gather-map (λ (r : Road). r .sections) (λ l. l) (repair (sameIn text) m .roads)
 
   lanes-kept : m .lanes ≡ repair (sameIn text) m .lanes
   unfolding repair
@@ -115,30 +116,30 @@ module _ (c d : RepairOutputs) (e : EvenRepaired c d) where
   unfolding repairCounts
   counts-even = λ i. e .roads i / 20 ∷ e .junctions i / 5 ∷ e .connections i / 7 ∷ e .pairs i / 2 ∷ e .warnings i / 4 ∷ []
 
-Both : {a b : Bool} → a ≡ true → b ≡ true → a ≡ b
-Both p q = p ∙ sym q
+both-true : {a b : Bool} → a ≡ true → b ≡ true → a ≡ b
+both-true p q = p ∙ sym q
 
--- two tables that pass 2 to 8 and 10, of the same lengths, are judged alike
+-- two tables that pass rules 2 to 8 and 10, of the same lengths, are judged alike
 module _ (t u : Tables) (e : Even t u) (p : Passed t) (q : Passed u) where
   pub repairRules-even : repairRules t ≡ repairRules u
   unfolding repairRules rulesTo5
-  repairRules-even = λ i. rule 1 (mapSized-even t u e 8192 i) ∷ rule 2 (Both (and-left (mapWorded t) (lanesWorded t) (p .worded)) (and-left (mapWorded u) (lanesWorded u) (q .worded)) i)
-      ∷ rule 3 (Both (p .once) (q .once) i) ∷ rule 4 (Both (p .sections) (q .sections) i) ∷ rule 5 (Both (p .connections) (q .connections) i) ∷ []
+  repairRules-even = λ i. rule 1 (mapSized-even t u e 8192 i) ∷ rule 2 (both-true (and-left (mapWorded t) (lanesWorded t) (p .worded)) (and-left (mapWorded u) (lanesWorded u) (q .worded)) i)
+      ∷ rule 3 (both-true (p .once) (q .once) i) ∷ rule 4 (both-true (p .sections) (q .sections) i) ∷ rule 5 (both-true (p .connections) (q .connections) i) ∷ []
 
   pub successionRules-even : successionRules t ≡ successionRules u
   unfolding successionRules rulesTo5 laneRules
-  successionRules-even = λ i. rule 1 (mapSized-even t u e 16384 i && lanesSized-even t u e i) ∷ rule 2 (Both (p .worded) (q .worded) i)
-      ∷ rule 3 (Both (p .once) (q .once) i) ∷ rule 4 (Both (p .sections) (q .sections) i) ∷ rule 5 (Both (p .connections) (q .connections) i)
-      ∷ rule 6 (Both (p .identities) (q .identities) i) ∷ rule 7 (Both (p .listed) (q .listed) i) ∷ rule 8 (Both (p .keys) (q .keys) i) ∷ []
+  successionRules-even = λ i. rule 1 (mapSized-even t u e 16384 i && lanesSized-even t u e i) ∷ rule 2 (both-true (p .worded) (q .worded) i)
+      ∷ rule 3 (both-true (p .once) (q .once) i) ∷ rule 4 (both-true (p .sections) (q .sections) i) ∷ rule 5 (both-true (p .connections) (q .connections) i)
+      ∷ rule 6 (both-true (p .identities) (q .identities) i) ∷ rule 7 (both-true (p .listed) (q .listed) i) ∷ rule 8 (both-true (p .keys) (q .keys) i) ∷ []
 
   pub gapRules-even : (offsets ids : List ℕ) → listsFit t offsets ids ≡ listsFit u offsets ids → gapRules t offsets ids ≡ gapRules u offsets ids
   unfolding gapRules rulesTo5 laneRules
-  gapRules-even offsets ids l = λ i. rule 1 (mapSized-even t u e 16384 i && lanesSized-even t u e i && edgesSized-even t u e i && listsSized offsets ids) ∷ rule 2 (Both (p .worded) (q .worded) i)
-      ∷ rule 3 (Both (p .once) (q .once) i) ∷ rule 4 (Both (p .sections) (q .sections) i) ∷ rule 5 (Both (p .connections) (q .connections) i)
-      ∷ rule 6 (Both (p .identities) (q .identities) i) ∷ rule 7 (Both (p .listed) (q .listed) i) ∷ rule 8 (Both (p .keys) (q .keys) i)
-      ∷ rule 10 (Both (p .edges) (q .edges) i) ∷ rule 11 (l i) ∷ []
+  gapRules-even offsets ids l = λ i. rule 1 (mapSized-even t u e 16384 i && lanesSized-even t u e i && edgesSized-even t u e i && listsSized offsets ids) ∷ rule 2 (both-true (p .worded) (q .worded) i)
+      ∷ rule 3 (both-true (p .once) (q .once) i) ∷ rule 4 (both-true (p .sections) (q .sections) i) ∷ rule 5 (both-true (p .connections) (q .connections) i)
+      ∷ rule 6 (both-true (p .identities) (q .identities) i) ∷ rule 7 (both-true (p .listed) (q .listed) i) ∷ rule 8 (both-true (p .keys) (q .keys) i)
+      ∷ rule 10 (both-true (p .edges) (q .edges) i) ∷ rule 11 (l i) ∷ []
 
--- ---- the map m with its lanes' ends, and the same reversed by s
+-- ---- the map m with its lanes' edges, and the same reversed by s
 module _ (text : List ℕ) (m : Map) (xs : List EdgedLane) (h : Sound text m xs) (s : Span → Bool) (H : Held (sameIn text) m s) where
   abbrev alike : Span → Span → Bool
   alike = sameIn text
@@ -150,16 +151,16 @@ module _ (text : List ℕ) (m : Map) (xs : List EdgedLane) (h : Sound text m xs)
   xs′ = map (reverseEdged (sameIn text) s (m .roads)) xs
 
   h′ : Sound text (reverseMap (sameIn text) s m) (map (reverseEdged (sameIn text) s (m .roads)) xs)
-  h′ = sound-turn text s (H .is-sound) m xs h
+  h′ = sound-reversed text s (H .is-steady) m xs h
 
   size-at : (k : ℕ) → getD (repairSizes (sameIn text) (reverseMap (sameIn text) s m)) k 0 ≡ getD (repairSizes (sameIn text) m) k 0
-  size-at k = ap (λ (l : List ℕ). getD l k 0) (repairSizes-turn (sameIn text) (alike-in text) m s H)
+  size-at k = ap (λ (l : List ℕ). getD l k 0) (repairSizes-reversed (sameIn text) (alike-in text) m s H)
 
   -- repair's counts
   counted-repair : Counted (repair (sameIn text) (reverseMap (sameIn text) s m)) (repair (sameIn text) m) (map (reverseEdged (sameIn text) s (m .roads)) xs) xs
   counted-repair = record {
     roads = (unfold repairSizes in size-at 0);
-    sections = ap length (sym (sections-kept text (reverseMap (sameIn text) s m) (map (reverseEdged (sameIn text) s (m .roads)) xs) h′)) ∙ counted-turn (sameIn text) s m xs .sections ∙ ap length (sections-kept text m xs h);
+    sections = ap length (sym (sections-kept text (reverseMap (sameIn text) s m) (map (reverseEdged (sameIn text) s (m .roads)) xs) h′)) ∙ counted-reversed (sameIn text) s m xs .sections ∙ ap length (sections-kept text m xs h);
     junctions = (unfold repairSizes in size-at 1);
     connections = (unfold repairSizes allConnections in size-at 2);
     pairs = ap length (allPairs-nested (repair (sameIn text) (reverseMap (sameIn text) s m) .junctions)) ∙ nested ∙ sym (ap length (allPairs-nested (repair (sameIn text) m .junctions)));
@@ -200,11 +201,11 @@ module _ (text : List ℕ) (m : Map) (xs : List EdgedLane) (h : Sound text m xs)
   T′ = tablesOf text (reverseMap (sameIn text) s m) (map (reverseEdged (sameIn text) s (m .roads)) xs)
 
   even-T : Even T′ T
-  even-T = even-tables text m′ m xs′ xs (h′ .six) (h .six) (counted-turn (sameIn text) s m xs)
+  even-T = even-tables text m′ m xs′ xs (h′ .six) (h .six) (counted-reversed (sameIn text) s m xs)
 
-  pub repairRefusal-turn : (lengths : List ℕ) → repairRefusal T′ lengths ≡ repairRefusal T lengths
+  pub repairRefusal-reversed : (lengths : List ℕ) → repairRefusal T′ lengths ≡ repairRefusal T lengths
   unfolding repairRefusal
-  repairRefusal-turn lengths = λ i. firstBroken (repairRules-even T′ T even-T (passed text m′ xs′ h′) (passed text m xs h) i ++ (rule 9 (fits (lengths-even (repairContent T′) (repairContent T) even-content i) lengths) ∷ []))
+  repairRefusal-reversed lengths = λ i. firstBroken (repairRules-even T′ T even-T (passed text m′ xs′ h′) (passed text m xs h) i ++ (rule 9 (fits (lengths-even (repairContent T′) (repairContent T) even-content i) lengths) ∷ []))
 
   -- the repaired tables
   abbrev W : Tables
@@ -222,19 +223,19 @@ module _ (text : List ℕ) (m : Map) (xs : List EdgedLane) (h : Sound text m xs)
   even-W : Even W′ W
   even-W = even-tables text (repair (sameIn text) m′) (repair (sameIn text) m) xs′ xs (h′ .six) (h .six) counted-repair
 
-  pub lists-turn : listContent W′ ≡ listContent W
+  pub lists-reversed : listContent W′ ≡ listContent W
   unfolding listContent tablesOf
-  lists-turn = ap (λ n. from (successorLists alike n) (predecessorLists alike n)) (is-map text (repair (sameIn text) m′) xs′ k′)
-      ∙ ap₂ from (successors-held alike (alike-in text) m s H) (before-held alike (alike-in text) m s H)
+  lists-reversed = ap (λ n. from (successorLists alike n) (predecessorLists alike n)) (is-map text (repair (sameIn text) m′) xs′ k′)
+      ∙ ap₂ from (successors-held alike (alike-in text) m s H) (predecessors-held alike (alike-in text) m s H)
       ∙ ap (λ n. from (successorLists alike n) (predecessorLists alike n)) (sym (is-map text (repair (sameIn text) m) xs k))
     where
       from : List (List ℕ) → List (List ℕ) → ListOutputs
       from o b = record { successorOffsets = offsetsFrom 0 o; successorIds = packed o; predecessorOffsets = offsetsFrom 0 b; predecessorIds = packed b }
 
-  pub successionCall-turn : (o : ListOutputs) → successionCall W′ o ≡ successionCall W o
+  pub successionCall-reversed : (o : ListOutputs) → successionCall W′ o ≡ successionCall W o
   unfolding successionCall successionRefusal
-  successionCall-turn o = λ i. settled (firstBroken (successionRules-even W′ W even-W (passed text (repair (sameIn text) m′) xs′ k′) (passed text (repair (sameIn text) m) xs k) i ++ (rule 9 (fits (listLengths (lists-turn i)) (listLengths o)) ∷ [])))
-      (listLengths (lists-turn i)) (putLists (lists-turn i) o) o
+  successionCall-reversed o = λ i. settled (firstBroken (successionRules-even W′ W even-W (passed text (repair (sameIn text) m′) xs′ k′) (passed text (repair (sameIn text) m) xs k) i ++ (rule 9 (fits (listLengths (lists-reversed i)) (listLengths o)) ∷ [])))
+      (listLengths (lists-reversed i)) (putLists (lists-reversed i) o) o
 
   lanes-W′ : lanesOf W′ ≡ map (reverseLane (sameIn text) s (m .roads)) (m .lanes)
   lanes-W′ = is-lanes text (repair (sameIn text) m′) xs′ k′ ∙ (unfold repair reverseMap in refl)
@@ -242,42 +243,42 @@ module _ (text : List ℕ) (m : Map) (xs : List EdgedLane) (h : Sound text m xs)
   lanes-W : lanesOf W ≡ m .lanes
   lanes-W = is-lanes text (repair (sameIn text) m) xs k ∙ (unfold repair in refl)
 
-  pub listsFit-turn : (offsets ids : List ℕ) → listsFit W′ offsets ids ≡ listsFit W offsets ids
+  pub listsFit-reversed : (offsets ids : List ℕ) → listsFit W′ offsets ids ≡ listsFit W offsets ids
   unfolding listsFit borne
-  listsFit-turn offsets ids = λ i. eqb (length offsets) (suc (even-W .lanes i / 10)) && climbs (length ids) offsets && all-borne i
+  listsFit-reversed offsets ids = λ i. eqb (length offsets) (suc (even-W .lanes i / 10)) && climbs (length ids) offsets && all-borne i
     where
       one : (n : ℕ) → some? (λ l. eqb (l .identity) n) (map (reverseLane (sameIn text) s (m .roads)) (m .lanes)) ≡ some? (λ l. eqb (l .identity) n) (m .lanes)
       one n = some?-map (reverseLane (sameIn text) s (m .roads)) (λ l. eqb (l .identity) n) (m .lanes)
-          ∙ some?-ext (λ l. eqb (reverseLane (sameIn text) s (m .roads) l .identity) n) (λ l. eqb (l .identity) n) (m .lanes) (each (turned-id n) (m .lanes))
+          ∙ some?-ext (λ l. eqb (reverseLane (sameIn text) s (m .roads) l .identity) n) (λ l. eqb (l .identity) n) (m .lanes) (each (reversed-id n) (m .lanes))
         where
-          turned-id : (n : ℕ) (l : Lane) → eqb (reverseLane (sameIn text) s (m .roads) l .identity) n ≡ eqb (l .identity) n
-          turned-id n l = unfold reverseLane in refl
+          reversed-id : (n : ℕ) (l : Lane) → eqb (reverseLane (sameIn text) s (m .roads) l .identity) n ≡ eqb (l .identity) n
+          reversed-id n l = unfold reverseLane in refl
 
       all-borne : every (λ n. some? (λ l. eqb (l .identity) n) (lanesOf W′)) ids ≡ every (λ n. some? (λ l. eqb (l .identity) n) (lanesOf W)) ids
       all-borne = ap (λ (ls : List Lane). every (λ n. some? (λ l. eqb (l .identity) n) ls) ids) lanes-W′
           ∙ every-ext (λ n. some? (λ l. eqb (l .identity) n) (map (reverseLane (sameIn text) s (m .roads)) (m .lanes))) (λ n. some? (λ l. eqb (l .identity) n) (m .lanes)) ids (each one ids)
           ∙ ap (λ (ls : List Lane). every (λ n. some? (λ l. eqb (l .identity) n) ls) ids) (sym lanes-W)
 
-  pub gapContent-turn : (offsets ids : List ℕ) → gapContent W′ offsets ids ≡ gapContent W offsets ids
+  pub gapContent-reversed : (offsets ids : List ℕ) → gapContent W′ offsets ids ≡ gapContent W offsets ids
   unfolding gapContent
-  gapContent-turn offsets ids = ap (λ ls. gather gapWords (linkGaps ls (listsIn offsets ids))) (is-edged text (repair (sameIn text) m′) xs′ k′)
-      ∙ ap (gather gapWords) (linkGaps-turn alike s (m .roads) xs (listsIn offsets ids))
+  gapContent-reversed offsets ids = ap (λ ls. gather gapWords (linkGaps ls (listsIn offsets ids))) (is-edged text (repair (sameIn text) m′) xs′ k′)
+      ∙ ap (gather gapWords) (linkGaps-reversed alike s (m .roads) xs (listsIn offsets ids))
       ∙ ap (λ ls. gather gapWords (linkGaps ls (listsIn offsets ids))) (sym (is-edged text (repair (sameIn text) m) xs k))
 
-  pub gapCall-turn : (offsets ids o : List ℕ) → gapCall W′ offsets ids o ≡ gapCall W offsets ids o
+  pub gapCall-reversed : (offsets ids o : List ℕ) → gapCall W′ offsets ids o ≡ gapCall W offsets ids o
   unfolding gapCall gapRefusal
-  gapCall-turn offsets ids o = λ i. settled (firstBroken (gapRules-even W′ W even-W (passed text (repair (sameIn text) m′) xs′ k′) (passed text (repair (sameIn text) m) xs k) offsets ids (listsFit-turn offsets ids) i
-      ++ (rule 9 (fits (length (gapContent-turn offsets ids i) ∷ []) (length o ∷ [])) ∷ [])))
-      (length (gapContent-turn offsets ids i) / 3 ∷ []) (written (gapContent-turn offsets ids i) o) o
+  gapCall-reversed offsets ids o = λ i. settled (firstBroken (gapRules-even W′ W even-W (passed text (repair (sameIn text) m′) xs′ k′) (passed text (repair (sameIn text) m) xs k) offsets ids (listsFit-reversed offsets ids) i
+      ++ (rule 9 (fits (length (gapContent-reversed offsets ids i) ∷ []) (length o ∷ [])) ∷ [])))
+      (length (gapContent-reversed offsets ids i) / 3 ∷ []) (written (gapContent-reversed offsets ids i) o) o
 
   module _ (q : Buffers) where
-    from-turn : (cs : List ℕ) → fromRepaired q cs W′ ≡ fromRepaired q cs W
+    from-reversed : (cs : List ℕ) → fromRepaired q cs W′ ≡ fromRepaired q cs W
     unfolding fromRepaired
-    from-turn cs = ap (λ (r : Outcome ListOutputs). byLists q cs W′ (r .answer) (r .outs)) (successionCall-turn (q .forLists)) ∙ go (successionCall W (q .forLists) .answer) (successionCall W (q .forLists) .outs)
+    from-reversed cs = ap (λ (r : Outcome ListOutputs). byLists q cs W′ (r .answer) (r .outs)) (successionCall-reversed (q .forLists)) ∙ go (successionCall W (q .forLists) .answer) (successionCall W (q .forLists) .outs)
       where
         go : (a : Answer) (o : ListOutputs) → byLists q cs W′ a o ≡ byLists q cs W a o
         go (refused n) o = refl
-        go (wrote counts) o = ap (λ g. lists cs (record { answer = wrote counts; outs = o }) g) (gapCall-turn (take (word counts 0) (o .successorOffsets)) (take (word counts 1) (o .successorIds)) (q .forGaps))
+        go (wrote counts) o = ap (λ g. lists cs (record { answer = wrote counts; outs = o }) g) (gapCall-reversed (take (word counts 0) (o .successorOffsets)) (take (word counts 1) (o .successorIds)) (q .forGaps))
 
     foundBy : Tables → Option ℕ → Found
     foundBy t r = byRepair q t (settled r (repairCounts (repairContent t)) (putRepaired (repairContent t) (q .forRepair)) (q .forRepair) .answer) (settled r (repairCounts (repairContent t)) (putRepaired (repairContent t) (q .forRepair)) (q .forRepair) .outs)
@@ -286,18 +287,18 @@ module _ (text : List ℕ) (m : Map) (xs : List EdgedLane) (h : Sound text m xs)
     rows-T n ys w = ap (λ c. withRepaired (tablesOf text n ys) (repairCounts c) (putRepaired c (q .forRepair))) (repaired-is text n ys w) ∙ repaired-rows text n ys w (q .forRepair)
 
     -- all three calls
-    pub found-turn : found q T′ ≡ found q T
+    pub found-reversed : found q T′ ≡ found q T
     unfolding found foundBy repairCall
-    found-turn = ap (foundBy T′) (repairRefusal-turn (repairLengths (q .forRepair))) ∙ go (repairRefusal T (repairLengths (q .forRepair)))
+    found-reversed = ap (foundBy T′) (repairRefusal-reversed (repairLengths (q .forRepair))) ∙ go (repairRefusal T (repairLengths (q .forRepair)))
       where
         go : (r : Option ℕ) → foundBy T′ r ≡ foundBy T r
         go (some n) = refl
         go none = ap₂ (fromRepaired q) (counts-even (repairContent T′) (repairContent T) even-content) (rows-T m′ xs′ h′)
-            ∙ from-turn (repairCounts (repairContent T))
+            ∙ from-reversed (repairCounts (repairContent T))
             ∙ ap (fromRepaired q (repairCounts (repairContent T))) (sym (rows-T m xs h))
 
   pub same-lists : listContent (repairedTables T′) ≡ listContent (repairedTables T)
-  same-lists = ap listContent (repaired-tables text m′ xs′ h′) ∙ lists-turn ∙ ap listContent (sym (repaired-tables text m xs h))
+  same-lists = ap listContent (repaired-tables text m′ xs′ h′) ∙ lists-reversed ∙ ap listContent (sym (repaired-tables text m xs h))
 
   pub same-gaps : (offsets ids : List ℕ) → gapContent (repairedTables T′) offsets ids ≡ gapContent (repairedTables T) offsets ids
-  same-gaps offsets ids = ap (λ t. gapContent t offsets ids) (repaired-tables text m′ xs′ h′) ∙ gapContent-turn offsets ids ∙ ap (λ t. gapContent t offsets ids) (sym (repaired-tables text m xs h))
+  same-gaps offsets ids = ap (λ t. gapContent t offsets ids) (repaired-tables text m′ xs′ h′) ∙ gapContent-reversed offsets ids ∙ ap (λ t. gapContent t offsets ids) (sym (repaired-tables text m xs h))

@@ -1,8 +1,8 @@
--- On a map reversed and then repaired, every lane has the lists that it has on the map repaired, all at once; and the gap rows are the same, to the bit.
+-- On a map reversed and then repaired the lists of all lanes are those of the map repaired; and reversed lanes have the gap rows of the lanes, to the bit.
 use mathlib.Core.Path.{_≡_, refl, _∙_, ap, ap₂}
 use mathlib.Core.Bool.{Bool, true, false, cond}
 use mathlib.Core.Option.{Option, none, some}
-use mathlib.Core.List.{List, [], _∷_, _++_, map}
+use mathlib.Core.List.{List, [], _∷_, _++_, map, map-map}
 use Prim.Native.Nat.{ℕ, suc}
 use lib.Dec.{eqb}
 use lib.Ieee.{Float}
@@ -10,38 +10,39 @@ use Rattle.geometry.specs.declared.segment.Point.{Point}
 use Rattle.geometry.specs.declared.gap.Direction.{Direction}
 use Rattle.geometry.specs.Gap.{gapOf, decisionOf, rowBits}
 use Rattle.geometry.proofs.GapOrder.{gap-from-turned, gap-to-turned}
-use Rattle.model.specs.Gaps.{pointsOf, endsOf, gapBetween, gapRow, gapsFrom, linkGaps, rowOfIdentity}
+use Rattle.model.specs.Gaps.{endsOf, gapBetween, gapRow, gapsFrom, linkGaps, pointsOf, rowOfIdentity}
 use Rattle.model.specs.Lists.{listO, mapO, pick}
 use Rattle.model.specs.Records.{EdgedLane, Map, Road, Span}
 use Rattle.model.specs.Repair.{repair}
 use Rattle.model.specs.Reversal.{reverseDirection, reverseEdged, reverseLane, reverseMap}
 use Rattle.model.specs.Succession.{predecessorLists, predecessors, successorLists, successors}
-use Rattle.laws.proofs.Basics.{each, gather-ext, map-ext, map-map}
-use Rattle.laws.proofs.SameLists.{before-reversed, successors-reversed}
-use Rattle.laws.proofs.Valid.{Alike, Steady, Turnable, Valid}
+use Rattle.laws.proofs.Basics.{gather-ext, map-ext}
+use Rattle.laws.proofs.ForEach.{each}
+use Rattle.laws.proofs.SameLists.{predecessors-reversed, successors-reversed}
+use Rattle.laws.proofs.Valid.{Alike, Reversible, Steady, Valid}
 
--- the lane that is left, turned round where the mark is set, and the lane that is entered
-from-turn : (m : Bool) (s e : List Float) (d : Direction) (to : List (List Point)) (dt : Direction) →
+-- the gap from a lane that is reversed where the mark is set, and to one
+from-reversed : (m : Bool) (s e : List Float) (d : Direction) (to : List (List Point)) (dt : Direction) →
     gapOf (pointsOf (pick m s e) ∷ pointsOf (pick m e s) ∷ []) (reverseDirection m d) to dt ≡ gapOf (pointsOf s ∷ pointsOf e ∷ []) d to dt
-from-turn false s e d to dt = refl
-from-turn true s e d to dt = gap-from-turned (pointsOf s ∷ pointsOf e ∷ []) to d dt
+from-reversed false s e d to dt = refl
+from-reversed true s e d to dt = gap-from-turned (pointsOf s ∷ pointsOf e ∷ []) to d dt
 
-to-turn : (m : Bool) (s e : List Float) (d : Direction) (from : List (List Point)) (df : Direction) →
+to-reversed : (m : Bool) (s e : List Float) (d : Direction) (from : List (List Point)) (df : Direction) →
     gapOf from df (pointsOf (pick m s e) ∷ pointsOf (pick m e s) ∷ []) (reverseDirection m d) ≡ gapOf from df (pointsOf s ∷ pointsOf e ∷ []) d
-to-turn false s e d from df = refl
-to-turn true s e d from df = gap-to-turned from (pointsOf s ∷ pointsOf e ∷ []) df d
+to-reversed false s e d from df = refl
+to-reversed true s e d from df = gap-to-turned from (pointsOf s ∷ pointsOf e ∷ []) df d
 
 module _ (same : Span → Span → Bool) (mk : Span → Bool) (R : List Road) where
-  gap-turn : (a b : EdgedLane) → gapBetween (reverseEdged same mk R a) (reverseEdged same mk R b) ≡ gapBetween a b
+  gap-reversed : (a b : EdgedLane) → gapBetween (reverseEdged same mk R a) (reverseEdged same mk R b) ≡ gapBetween a b
   unfolding gapBetween reverseEdged reverseLane
-  gap-turn a b =
-      from-turn (mk (a .lane .road)) (a .atStart) (a .atEnd) (a .lane .direction) (endsOf (reverseEdged same mk R b)) (reverseDirection (mk (b .lane .road)) (b .lane .direction))
-      ∙ to-turn (mk (b .lane .road)) (b .atStart) (b .atEnd) (b .lane .direction) (endsOf a) (a .lane .direction)
+  gap-reversed a b =
+      from-reversed (mk (a .lane .road)) (a .atStart) (a .atEnd) (a .lane .direction) (endsOf (reverseEdged same mk R b)) (reverseDirection (mk (b .lane .road)) (b .lane .direction))
+      ∙ to-reversed (mk (b .lane .road)) (b .atStart) (b .atEnd) (b .lane .direction) (endsOf a) (a .lane .direction)
 
-  row-of-turn : (k i : ℕ) (ls : List EdgedLane) → rowOfIdentity k i (map (reverseEdged same mk R) ls) ≡ mapO (λ (x : ℕ × EdgedLane). (x .0, reverseEdged same mk R (x .1))) (rowOfIdentity k i ls)
+  row-of-reversed : (k i : ℕ) (ls : List EdgedLane) → rowOfIdentity k i (map (reverseEdged same mk R) ls) ≡ mapO (λ (x : ℕ × EdgedLane). (x .0, reverseEdged same mk R (x .1))) (rowOfIdentity k i ls)
   unfolding reverseEdged reverseLane
-  row-of-turn k i [] = refl
-  row-of-turn k i (x ∷ xs) = go (eqb (x .lane .identity) k) (row-of-turn k (suc i) xs)
+  row-of-reversed k i [] = refl
+  row-of-reversed k i (x ∷ xs) = go (eqb (x .lane .identity) k) (row-of-reversed k (suc i) xs)
     where
       go : (b : Bool) → rowOfIdentity k (suc i) (map (reverseEdged same mk R) xs) ≡ mapO (λ (x : ℕ × EdgedLane). (x .0, reverseEdged same mk R (x .1))) (rowOfIdentity k (suc i) xs) →
           cond b (some (i, reverseEdged same mk R x)) (rowOfIdentity k (suc i) (map (reverseEdged same mk R) xs))
@@ -49,40 +50,35 @@ module _ (same : Span → Span → Bool) (mk : Span → Bool) (R : List Road) wh
       go true ih = refl
       go false ih = ih
 
-  row-turn : (i : ℕ) (a : EdgedLane) (b : ℕ × EdgedLane) → gapRow i (reverseEdged same mk R a) (b .0, reverseEdged same mk R (b .1)) ≡ gapRow i a b
+  row-reversed : (i : ℕ) (a : EdgedLane) (b : ℕ × EdgedLane) → gapRow i (reverseEdged same mk R a) (b .0, reverseEdged same mk R (b .1)) ≡ gapRow i a b
   unfolding gapRow
-  row-turn i a b = ap (λ (g : Float). map (λ n. record { laneRow = i; nextRow = b .0; gap = n }) (rowBits (decisionOf g))) (gap-turn a (b .1))
+  row-reversed i a b = ap (λ (g : Float). map (λ n. record { laneRow = i; nextRow = b .0; gap = n }) (rowBits (decisionOf g))) (gap-reversed a (b .1))
 
-  rows-turn : (ls : List EdgedLane) (i : ℕ) (zs : List EdgedLane) (ns : List (List ℕ)) → gapsFrom (map (reverseEdged same mk R) ls) i (map (reverseEdged same mk R) zs) ns ≡ gapsFrom ls i zs ns
-  rows-turn ls i [] ns = refl
-  rows-turn ls i (a ∷ more) [] = refl
-  rows-turn ls i (a ∷ more) (n ∷ ns) = ap₂ (λ x y. x ++ y) (gather-ext _ _ n (each one n)) (rows-turn ls (suc i) more ns)
+  rows-reversed : (ls : List EdgedLane) (i : ℕ) (zs : List EdgedLane) (ns : List (List ℕ)) → gapsFrom (map (reverseEdged same mk R) ls) i (map (reverseEdged same mk R) zs) ns ≡ gapsFrom ls i zs ns
+  rows-reversed ls i [] ns = refl
+  rows-reversed ls i (a ∷ more) [] = refl
+  rows-reversed ls i (a ∷ more) (n ∷ ns) = ap₂ (λ x y. x ++ y) (gather-ext _ _ n (each one n)) (rows-reversed ls (suc i) more ns)
     where
       leaf : (o : Option (ℕ × EdgedLane)) → listO (mapO (λ (x : ℕ × EdgedLane). (x .0, reverseEdged same mk R (x .1))) o) (gapRow i (reverseEdged same mk R a)) ≡ listO o (gapRow i a)
       leaf none = refl
-      leaf (some b) = row-turn i a b
+      leaf (some b) = row-reversed i a b
 
       one : (k : ℕ) → listO (rowOfIdentity k 0 (map (reverseEdged same mk R) ls)) (gapRow i (reverseEdged same mk R a)) ≡ listO (rowOfIdentity k 0 ls) (gapRow i a)
-      one k = ap (λ o. listO o (gapRow i (reverseEdged same mk R a))) (row-of-turn k 0 ls) ∙ leaf (rowOfIdentity k 0 ls)
+      one k = ap (λ o. listO o (gapRow i (reverseEdged same mk R a))) (row-of-reversed k 0 ls) ∙ leaf (rowOfIdentity k 0 ls)
 
   -- reversed lanes have the gap rows of the lanes, from any lists of successors
-  pub linkGaps-turn : (ls : List EdgedLane) (ns : List (List ℕ)) → linkGaps (map (reverseEdged same mk R) ls) ns ≡ linkGaps ls ns
+  pub linkGaps-reversed : (ls : List EdgedLane) (ns : List (List ℕ)) → linkGaps (map (reverseEdged same mk R) ls) ns ≡ linkGaps ls ns
   unfolding linkGaps
-  linkGaps-turn ls ns = rows-turn ls 0 ls ns
+  linkGaps-reversed ls ns = rows-reversed ls 0 ls ns
 
-module _ (same : Span → Span → Bool) (A : Alike same) (mk : Span → Bool) (S : Steady same mk) (m : Map) (v : Valid same m) (h : Turnable same mk m) where
+module _ (same : Span → Span → Bool) (A : Alike same) (mk : Span → Bool) (S : Steady same mk) (m : Map) (v : Valid same m) (h : Reversible same mk m) where
   -- the lists of all lanes
   pub successorLists-reversed : successorLists same (repair same (reverseMap same mk m)) ≡ successorLists same (repair same m)
   unfolding successorLists repair reverseMap
-  successorLists-reversed = map-map (reverseLane same mk (m .roads)) (successors same (repair same (reverseMap same mk m))) (m .lanes)
+  successorLists-reversed = map-map (successors same (repair same (reverseMap same mk m))) (reverseLane same mk (m .roads)) (m .lanes)
       ∙ map-ext _ _ (m .lanes) (successors-reversed same A mk S m v h)
 
   pub predecessorLists-reversed : predecessorLists same (repair same (reverseMap same mk m)) ≡ predecessorLists same (repair same m)
   unfolding predecessorLists repair reverseMap
-  predecessorLists-reversed = map-map (reverseLane same mk (m .roads)) (predecessors same (repair same (reverseMap same mk m))) (m .lanes)
-      ∙ map-ext _ _ (m .lanes) (each (before-reversed same A mk S m v h) (m .lanes))
-
-  -- the gap rows
-  pub gaps-reversed : (ls : List EdgedLane) →
-      linkGaps (map (reverseEdged same mk (m .roads)) ls) (successorLists same (repair same (reverseMap same mk m))) ≡ linkGaps ls (successorLists same (repair same m))
-  gaps-reversed ls = ap (linkGaps (map (reverseEdged same mk (m .roads)) ls)) successorLists-reversed ∙ linkGaps-turn same mk (m .roads) ls (successorLists same (repair same m))
+  predecessorLists-reversed = map-map (predecessors same (repair same (reverseMap same mk m))) (reverseLane same mk (m .roads)) (m .lanes)
+      ∙ map-ext _ _ (m .lanes) (each (predecessors-reversed same A mk S m v h) (m .lanes))

@@ -1,8 +1,8 @@
--- Theorem 3: on a map reversed and then repaired, every lane has the lists that it has on the map repaired. 
+-- On a map reversed and then repaired, every lane has the lists that it has on the map repaired.
 use mathlib.Core.Path.{_≡_, refl, sym, _∙_, ap, ap₂, subst}
-use mathlib.Core.Bool.{Bool, true, false, not, _&&_, _||_, cond}
+use mathlib.Core.Bool.{Bool, true, false, cond}
 use mathlib.Core.Option.{Option, none, some}
-use mathlib.Core.List.{List, [], _∷_, _++_, map}
+use mathlib.Core.List.{List, _++_, map}
 use Prim.Native.Nat.{ℕ}
 use lib.Dec.{eqb}
 use Rattle.geometry.specs.declared.gap.Direction.{Direction}
@@ -12,12 +12,14 @@ use Rattle.model.specs.Records.{Connection, Junction, Lane, Map, Road, Span, Ta
 use Rattle.model.specs.Repair.{repair, roadOf}
 use Rattle.model.specs.Reversal.{reverseLane, reverseMap}
 use Rattle.model.specs.Succession.{cross, endSection, entryId, exits, exitsBy, isBoth, junctionOf, lookup, lookupAtEnd, nextSection, predecessors, runsAway, sectionsOf, successors, successorsBy, successorsOf, throughJunction, throughPairs}
-use Rattle.laws.proofs.Basics.{each, each-map, gather-ext}
-use Rattle.laws.proofs.Mirror.{turned-both}
+use Rattle.laws.proofs.Basics.{gather-ext}
+use Rattle.laws.proofs.ForEach.{each, each-map}
+use Rattle.laws.proofs.JunctionsReversed.{repair-junctions}
+use Rattle.laws.proofs.Mirror.{reverseDirection-both}
 use Rattle.laws.proofs.RepairKeeps.{bare-sections, came-repair, roadward-repair}
-use Rattle.laws.proofs.RepairReversed.{bareRoad, bareTarget, repair-junctions, repair-roads, roadOf-bare, targetAt-bare}
-use Rattle.laws.proofs.SuccessionReversed.{before-same, over, own-turn, plain, successors-same}
-use Rattle.laws.proofs.Valid.{Alike, Each, Placed, Steady, Turnable, Valid}
+use Rattle.laws.proofs.RepairReversed.{bareRoad, bareTarget, repair-roads, roadOf-bare, targetAt-bare}
+use Rattle.laws.proofs.SuccessionReversed.{over, plain, predecessors-same, successors-same, successorsOf-reversed}
+use Rattle.laws.proofs.Valid.{Alike, Each, Placed, Reversible, Steady, Valid}
 
 module _ (same : Span → Span → Bool) (J : List Junction) (L : List Lane) (Q : List Road) where
   whole : Map
@@ -37,9 +39,9 @@ module _ (same : Span → Span → Bool) (J : List Junction) (L : List Lane) (Q 
       pairs : (c : Connection) → throughPairs same bared c k ≡ throughPairs same whole c k
       pairs c = gather-ext _ _ (keep (λ p. eqb (p .from) k) (c .pairs)) (each (λ p. lookupAtEnd-bare (c .connecting) (c .contact) (p .to)) (keep (λ p. eqb (p .from) k) (c .pairs)))
 
-  follow-bare : (l : Lane) (o : Option ℕ) (t : Target) → cross same bared l o (bareTarget t) ≡ cross same whole l o t
+  cross-bare : (l : Lane) (o : Option ℕ) (t : Target) → cross same bared l o (bareTarget t) ≡ cross same whole l o t
   unfolding bareTarget bared whole
-  follow-bare l o t = go (t .isJunction)
+  cross-bare l o t = go (t .isJunction)
     where
       through : (x : Option Junction) → listO x (throughJunction same bared (l .road) (l .number)) ≡ listO x (throughJunction same whole (l .road) (l .number))
       through none = refl
@@ -60,7 +62,7 @@ module _ (same : Span → Span → Bool) (J : List Junction) (L : List Lane) (Q 
     where
       leaf : (t : Option Target) → listO (mapO bareTarget t) (cross same bared l (linkAt e l)) ≡ listO t (cross same whole l (linkAt e l))
       leaf none = refl
-      leaf (some t) = follow-bare l (linkAt e l) t
+      leaf (some t) = cross-bare l (linkAt e l) t
 
       outer : (o : Option Road) → listO (bindO (mapO bareRoad o) (targetAt e)) (cross same bared l (linkAt e l)) ≡ listO (bindO o (targetAt e)) (cross same whole l (linkAt e l))
       outer none = refl
@@ -70,52 +72,52 @@ module _ (same : Span → Span → Bool) (J : List Junction) (L : List Lane) (Q 
       go (some s) = refl
       go none = ap (λ x. listO (bindO x (targetAt e)) (cross same bared l (linkAt e l))) (roadOf-bare same Q (l .road)) ∙ outer (roadOf same Q (l .road))
 
-  own-bare : (l : Lane) → successorsOf same bared l ≡ successorsOf same whole l
+  successorsOf-bare : (l : Lane) → successorsOf same bared l ≡ successorsOf same whole l
   unfolding successorsOf
-  own-bare l = go (l .direction)
+  successorsOf-bare l = go (l .direction)
     where
       go : (d : Direction) → successorsBy same bared l d ≡ successorsBy same whole l d
       go Forward = ap (λ x. sort (map entryId x)) (exits-bare l true)
       go Backward = ap (λ x. sort (map entryId x)) (exits-bare l false)
       go Both = ap₂ (λ x y. once (sort (map entryId (keep runsAway (x ++ y))))) (exits-bare l true) (exits-bare l false)
 
-module _ (same : Span → Span → Bool) (A : Alike same) (mk : Span → Bool) (S : Steady same mk) (m : Map) (v : Valid same m) (h : Turnable same mk m) where
-  turn : Lane → Lane
-  turn = reverseLane same mk (m .roads)
+module _ (same : Span → Span → Bool) (A : Alike same) (mk : Span → Bool) (S : Steady same mk) (m : Map) (v : Valid same m) (h : Reversible same mk m) where
+  reversedLane : Lane → Lane
+  reversedLane = reverseLane same mk (m .roads)
 
-  lanes-repaired : repair same (reverseMap same mk m) .lanes ≡ map turn (repair same m .lanes)
-  unfolding repair reverseMap turn
+  lanes-repaired : repair same (reverseMap same mk m) .lanes ≡ map reversedLane (repair same m .lanes)
+  unfolding repair reverseMap reversedLane
   lanes-repaired = refl
 
   repaired-lanes : repair same m .lanes ≡ m .lanes
   unfolding repair
   repaired-lanes = refl
 
-  own-repaired : (l : Lane) → Placed same (m .roads) l → successorsOf same (repair same (reverseMap same mk m)) (turn l) ≡ successorsOf same (repair same m) l
-  unfolding plain over bared whole turn
-  own-repaired l p =
-      sym (own-bare same (repair same (reverseMap same mk m) .junctions) (repair same (reverseMap same mk m) .lanes) (repair same (reverseMap same mk m) .roads) (turn l))
-      ∙ (λ i. successorsOf same (record { roads = repair-roads same A mk S m i; junctions = repair-junctions same A mk S m h i; lanes = lanes-repaired i }) (turn l))
-      ∙ own-turn same A mk S (m .roads) (v .ascending) (map bareRoad (repair same m .roads)) (came-repair same m .sections-kept) (roadward-repair same m) (repair same m .junctions) (repair same m .lanes) (subst (Each (Placed same (m .roads))) (sym repaired-lanes) (v .placed)) l p
-      ∙ own-bare same (repair same m .junctions) (repair same m .lanes) (repair same m .roads) l
+  successorsOf-repaired : (l : Lane) → Placed same (m .roads) l → successorsOf same (repair same (reverseMap same mk m)) (reversedLane l) ≡ successorsOf same (repair same m) l
+  unfolding plain over bared whole reversedLane
+  successorsOf-repaired l p =
+      sym (successorsOf-bare same (repair same (reverseMap same mk m) .junctions) (repair same (reverseMap same mk m) .lanes) (repair same (reverseMap same mk m) .roads) (reversedLane l))
+      ∙ (λ i. successorsOf same (record { roads = repair-roads same A mk S m i; junctions = repair-junctions same A mk S m h i; lanes = lanes-repaired i }) (reversedLane l))
+      ∙ successorsOf-reversed same A mk S (m .roads) (v .ascending) (map bareRoad (repair same m .roads)) (came-repair same m .sections-kept) (roadward-repair same m) (repair same m .junctions) (repair same m .lanes) (subst (Each (Placed same (m .roads))) (sym repaired-lanes) (v .placed)) l p
+      ∙ successorsOf-bare same (repair same m .junctions) (repair same m .lanes) (repair same m .roads) l
 
-  ids : (l : Lane) → turn l .identity ≡ l .identity
-  unfolding turn reverseLane
+  ids : (l : Lane) → reversedLane l .identity ≡ l .identity
+  unfolding reversedLane reverseLane
   ids l = refl
 
-  ways : (l : Lane) → isBoth (turn l .direction) ≡ isBoth (l .direction)
-  unfolding turn reverseLane
-  ways l = turned-both (mk (l .road)) (l .direction)
+  ways : (l : Lane) → isBoth (reversedLane l .direction) ≡ isBoth (l .direction)
+  unfolding reversedLane reverseLane
+  ways l = reverseDirection-both (mk (l .road)) (l .direction)
 
-  owns : Each (λ l. successorsOf same (repair same (reverseMap same mk m)) (turn l) ≡ successorsOf same (repair same m) l) (repair same m .lanes)
+  all-alike : Each (λ l. successorsOf same (repair same (reverseMap same mk m)) (reversedLane l) ≡ successorsOf same (repair same m) l) (repair same m .lanes)
   unfolding repair
-  owns = each-map own-repaired (m .lanes) (v .placed)
+  all-alike = each-map successorsOf-repaired (m .lanes) (v .placed)
 
-  -- THEOREM 3: every lane's lists, successors and predecessors
+  -- every lane's lists, successors and predecessors
   pub successors-reversed : Each (λ l. successors same (repair same (reverseMap same mk m)) (reverseLane same mk (m .roads) l) ≡ successors same (repair same m) l) (repair same m .lanes)
-  unfolding turn
-  successors-reversed = successors-same same (repair same m) (repair same (reverseMap same mk m)) turn ids ways lanes-repaired owns
+  unfolding reversedLane
+  successors-reversed = successors-same same (repair same m) (repair same (reverseMap same mk m)) reversedLane ids ways lanes-repaired all-alike
 
-  pub before-reversed : (l : Lane) → predecessors same (repair same (reverseMap same mk m)) (reverseLane same mk (m .roads) l) ≡ predecessors same (repair same m) l
-  unfolding turn
-  before-reversed l = before-same same (repair same m) (repair same (reverseMap same mk m)) turn ids ways lanes-repaired owns l
+  pub predecessors-reversed : (l : Lane) → predecessors same (repair same (reverseMap same mk m)) (reverseLane same mk (m .roads) l) ≡ predecessors same (repair same m) l
+  unfolding reversedLane
+  predecessors-reversed l = predecessors-same same (repair same m) (repair same (reverseMap same mk m)) reversedLane ids ways lanes-repaired all-alike l

@@ -1,15 +1,14 @@
--- Repair's warning rows on a reversed map. 
-use mathlib.Core.Path.{_≡_, refl, sym, _∙_, ap, ap₂, subst}
-use mathlib.Core.Bool.{Bool, true, false, not, _&&_, _||_, cond, true≢false, false≢true}
-use mathlib.Core.List.{List, [], _∷_, _++_, map}
+-- Repair's warning rows on a reversed map: the same, but for the end of a marked road.
+use mathlib.Core.Path.{_≡_, refl, sym, _∙_, ap}
+use mathlib.Core.Bool.{Bool, true, false, cond, false≢true}
+use mathlib.Core.List.{List, [], _∷_, map, map-map}
 use Prim.Native.Nat.{ℕ, zero, suc}
 use native.Mathlib.Omega.{arith}
 use lib.Dec.{eqb, leb}
-use lib.Ieee.{Float}
-use lib.ListN.{length, getD}
+use lib.ListN.{length}
 use Rattle.model.specs.Calls.{repairContent, rowNamed, warningRow}
 use Rattle.model.specs.Claim.{reversedWarning}
-use Rattle.model.specs.Lists.{_⊕_, every, gather}
+use Rattle.model.specs.Lists.{_⊕_, gather}
 use Rattle.model.specs.Records.{EdgedLane, Map, Road, Span}
 use Rattle.model.specs.Repair.{Warning, warnings}
 use Rattle.model.specs.Reversal.{marked, reverseEdged, reverseMap, reverseRoad, reverseWarning}
@@ -18,13 +17,15 @@ use Rattle.model.specs.Rules.{same}
 use Rattle.model.specs.Sequence.{toggledMark}
 use Rattle.model.specs.Tables.{Tables, bit, mapOf, roadsOf, tablesOf}
 use Rattle.model.specs.Text.{sameIn}
-use Rattle.laws.proofs.Admitted.{Sound}
-use Rattle.laws.proofs.Basics.{each, map-ext, map-id, map-map}
+use Rattle.laws.proofs.Basics.{map-ext, map-id}
 use Rattle.laws.proofs.ByBytes.{alike-in}
+use Rattle.laws.proofs.ForEach.{each}
 use Rattle.laws.proofs.Lay.{table-even}
-use Rattle.laws.proofs.RulesReversed.{and-right, marked-sound}
+use Rattle.laws.proofs.ListTests.{and-right}
+use Rattle.laws.proofs.RulesReversed.{marked-steady}
 use Rattle.laws.proofs.SameFound.{repaired-is, repairedOf, warnRow}
-use Rattle.laws.proofs.StaySound.{sound-turn}
+use Rattle.laws.proofs.SoundMaps.{Sound}
+use Rattle.laws.proofs.StaySound.{sound-reversed}
 use Rattle.laws.proofs.Valid.{markFor}
 use Rattle.laws.proofs.WarningsReversed.{warnings-reversed}
 
@@ -38,8 +39,8 @@ marked-at alike (r ∷ rs) (k ∷ ks) n h = go (alike (r .name) n) (marked-at al
     go true ih = refl
     go false ih = ih
 
-turned-bit : (e : Bool) (k : ℕ) → toggledMark (bit e) k ≡ bit (eqb k 1 ⊕ e)
-turned-bit e k = go (eqb k 1) e
+toggled-bit : (e : Bool) (k : ℕ) → toggledMark (bit e) k ≡ bit (eqb k 1 ⊕ e)
+toggled-bit e k = go (eqb k 1) e
   where
     go : (b e : Bool) → cond b (cond (eqb (bit e) 1) 0 1) (bit e) ≡ bit (b ⊕ e)
     go true true = refl
@@ -47,10 +48,10 @@ turned-bit e k = go (eqb k 1) e
     go false true = refl
     go false false = refl
 
-rows-turn : (alike : Span → Span → Bool) (s : Span → Bool) (rs : List Road) (n : Span) → rowNamed alike (map (reverseRoad s) rs) n ≡ rowNamed alike rs n
+rows-reversed : (alike : Span → Span → Bool) (s : Span → Bool) (rs : List Road) (n : Span) → rowNamed alike (map (reverseRoad s) rs) n ≡ rowNamed alike rs n
 unfolding reverseRoad
-rows-turn alike s [] n = refl
-rows-turn alike s (r ∷ rs) n = ap (λ (k : ℕ). cond (alike (r .name) n) 0 (suc k)) (rows-turn alike s rs n)
+rows-reversed alike s [] n = refl
+rows-reversed alike s (r ∷ rs) n = ap (λ (k : ℕ). cond (alike (r .name) n) 0 (suc k)) (rows-reversed alike s rs n)
 
 warn-width : (text : List ℕ) (rs : List Road) (w : Warning) → length (warnRow text rs w) ≡ 4
 unfolding warnRow
@@ -59,23 +60,23 @@ warn-width text rs w = refl
 warnings-of : (text : List ℕ) (m : Map) (xs : List EdgedLane) → Sound text m xs → table 4 (repairContent (tablesOf text m xs) .warnings) ≡ map (warnRow text (m .roads)) (warnings (sameIn text) m)
 warnings-of text m xs h = ap (λ c. table 4 (c .warnings)) (repaired-is text m xs h) ∙ (unfold repairedOf in table-even 4 (warnRow text (m .roads)) (warnings (sameIn text) m) (omega arith) (each (warn-width text (m .roads)) (warnings (sameIn text) m)))
 
-pub warned-turn : (text : List ℕ) (m : Map) (xs : List EdgedLane) (h : Sound text m xs) (set : List ℕ) → markFor (m .roads) set ≡ true →
+pub warned-reversed : (text : List ℕ) (m : Map) (xs : List EdgedLane) (h : Sound text m xs) (set : List ℕ) → markFor (m .roads) set ≡ true →
     table 4 (repairContent (tablesOf text (reverseMap (sameIn text) (marked (sameIn text) (m .roads) set) m) (map (reverseEdged (sameIn text) (marked (sameIn text) (m .roads) set) (m .roads)) xs)) .warnings)
     ≡ map (reversedWarning set) (table 4 (repairContent (tablesOf text m xs) .warnings))
-warned-turn text m xs h set k =
-    warnings-of text (reverseMap (sameIn text) s m) (map (reverseEdged (sameIn text) s (m .roads)) xs) (sound-turn text s (marked-sound (sameIn text) (alike-in text) (m .roads) set) m xs h)
-    ∙ ap (map (warnRow text (reverseMap (sameIn text) s m .roads))) (warnings-reversed (sameIn text) (alike-in text) s (marked-sound (sameIn text) (alike-in text) (m .roads) set) m)
-    ∙ map-map (reverseWarning s) (warnRow text (reverseMap (sameIn text) s m .roads)) (warnings (sameIn text) m)
+warned-reversed text m xs h set k =
+    warnings-of text (reverseMap (sameIn text) s m) (map (reverseEdged (sameIn text) s (m .roads)) xs) (sound-reversed text s (marked-steady (sameIn text) (alike-in text) (m .roads) set) m xs h)
+    ∙ ap (map (warnRow text (reverseMap (sameIn text) s m .roads))) (warnings-reversed (sameIn text) (alike-in text) s (marked-steady (sameIn text) (alike-in text) (m .roads) set) m)
+    ∙ map-map (warnRow text (reverseMap (sameIn text) s m .roads)) (reverseWarning s) (warnings (sameIn text) m)
     ∙ map-ext (λ w. warnRow text (reverseMap (sameIn text) s m .roads) (reverseWarning s w)) (λ w. reversedWarning set (warnRow text (m .roads) w)) (warnings (sameIn text) m) (each one (warnings (sameIn text) m))
-    ∙ sym (map-map (warnRow text (m .roads)) (reversedWarning set) (warnings (sameIn text) m))
+    ∙ sym (map-map (reversedWarning set) (warnRow text (m .roads)) (warnings (sameIn text) m))
     ∙ ap (map (reversedWarning set)) (sym (warnings-of text m xs h))
   where
     s : Span → Bool
     s = marked (sameIn text) (m .roads) set
 
     one : (w : Warning) → warnRow text (reverseMap (sameIn text) (marked (sameIn text) (m .roads) set) m .roads) (reverseWarning (marked (sameIn text) (m .roads) set) w) ≡ reversedWarning set (warnRow text (m .roads) w)
-    one w = unfold warnRow reverseWarning reversedWarning reverseMap in λ i. 3 ∷ w .junctionRow ∷ rows-turn (sameIn text) (marked (sameIn text) (m .roads) set) (m .roads) (w .road) i
-        ∷ sym (turned-bit (w .atEnd) (word set (rowNamed (sameIn text) (m .roads) (w .road))) ∙ ap (λ b. bit (b ⊕ w .atEnd)) (marked-at (sameIn text) (m .roads) set (w .road) k)) i ∷ []
+    one w = unfold warnRow reverseWarning reversedWarning reverseMap in λ i. 3 ∷ w .junctionRow ∷ rows-reversed (sameIn text) (marked (sameIn text) (m .roads) set) (m .roads) (w .road) i
+        ∷ sym (toggled-bit (w .atEnd) (word set (rowNamed (sameIn text) (m .roads) (w .road))) ∙ ap (λ b. bit (b ⊕ w .atEnd)) (marked-at (sameIn text) (m .roads) set (w .road) k)) i ∷ []
 
 -- an empty set leaves every warning row
 zero-at : (rs : List Road) (k : ℕ) → word (map (λ r. 0) rs) k ≡ 0
@@ -86,9 +87,9 @@ zero-at (r ∷ rs) (suc k) = zero-at rs k
 pub warned-empty : (t : Tables) (rs : List Road) → table 4 (repairContent t .warnings) ≡ map (reversedWarning (map (λ r. 0) rs)) (table 4 (repairContent t .warnings))
 unfolding repairContent
 warned-empty t rs = rows-are ∙ sym (map-id (λ w. w) (map (warningRow t) ws) (each (λ w. refl) (map (warningRow t) ws)))
-    ∙ map-map (warningRow t) (λ w. w) ws
+    ∙ map-map (λ w. w) (warningRow t) ws
     ∙ map-ext (λ w. warningRow t w) (λ w. reversedWarning (map (λ (r : Road). 0) rs) (warningRow t w)) ws (each one ws)
-    ∙ sym (map-map (warningRow t) (reversedWarning (map (λ (r : Road). 0) rs)) ws) ∙ ap (map (reversedWarning (map (λ (r : Road). 0) rs))) (sym rows-are)
+    ∙ sym (map-map (reversedWarning (map (λ (r : Road). 0) rs)) (warningRow t) ws) ∙ ap (map (reversedWarning (map (λ (r : Road). 0) rs))) (sym rows-are)
   where
     ws : List Warning
     ws = warnings (same t) (mapOf t)

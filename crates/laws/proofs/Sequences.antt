@@ -1,24 +1,34 @@
--- A sequence of reversal calls: its answers and its tables by the set alone.
+-- A sequence of reversal calls: its answers and its tables are told by the set alone.
 use mathlib.Core.Path.{_≡_, refl, sym, _∙_, ap, ap₂, subst, fun-ext}
-use mathlib.Core.Bool.{Bool, true, false, _&&_, _||_, cond, false≢true, true≢false}
+use mathlib.Core.Bool.{Bool, true, false, _&&_, _||_, cond, false≢true, true≢false, not}
 use mathlib.Core.Option.{Option, none, some}
 use mathlib.Core.List.{List, [], _∷_, _++_, map}
 use Prim.Native.Nat.{ℕ}
-use Rattle.model.specs.Calls.{Answer, ReversalOutputs, putReversed, refused, reversalCall, reversalContent, reversalCounts, reversalLengths, reversalRefusal, settled, tableRules}
-use Rattle.model.specs.Lists.{every}
+use Rattle.model.specs.Calls.{Answer, ReversalOutputs, putReversed, reversalCall, reversalContent, reversalCounts, reversalLengths, reversalRefusal, settled, tableRules}
+use Rattle.model.specs.Lists.{every, isSome}
 use Rattle.model.specs.Records.{Span}
-use Rattle.model.specs.Reversal.{marked, reverseMap}
-use Rattle.model.specs.Rules.{Rule, firstBroken, laneFine, rule}
+use Rattle.model.specs.Reversal.{marked, reverseEdged, reverseMap}
+use Rattle.model.specs.Rules.{Rule, firstBroken, laneFine}
 use Rattle.model.specs.Sequence.{Call, after, answers, answersBySet, anyAccepted, emptySet, fed, isAccepted, isEmpty, oddMarks, reversedBy, reversedOnceBy, run, setAfter, setBy, toggledMarks}
-use Rattle.model.specs.Tables.{Tables, mapOf, roadsOf}
+use Rattle.model.specs.Tables.{Tables, edgedLanesOf, mapOf, roadsOf}
 use Rattle.model.specs.Text.{sameIn}
+use Rattle.laws.proofs.Basics.{no-some}
 use Rattle.laws.proofs.ByBytes.{alike-in}
-use Rattle.laws.proofs.Held.{Held, compose-tables, edged-placed, idle-tables, marked-known, nobody-once}
-use Rattle.laws.proofs.Names.{no-some}
-use Rattle.laws.proofs.RulesReversed.{Passes, all-pass, broken-append, good-valid, marked-sound, marked-turn, noneTwice-toggled, pass-all, unbroken-append}
+use Rattle.laws.proofs.Held.{Held, compose-model, edged-placed, idle-model, marked-known, nobody-once}
+use Rattle.laws.proofs.RulesReversed.{Passes, all-pass, broken-append, good-valid, marked-reversed, marked-steady, noneTwice-toggled, pass-all, unbroken-append}
 use Rattle.laws.proofs.Sets.{empty-empty, empty-for, empty-is, toggled-for, toggled-is}
-use Rattle.laws.proofs.Valid.{Each, Model, Placed, Steady, Valid, junctionFine, markFor, noneTwice, reverseModel}
-use Rattle.laws.proofs.WordsReversed.{Fine, SoundModel, accepted-leaves, callRules, callRules-are, fine-rules, fine-sound, fine-words, modelOf, modelRules, named, refusal-split, refusal-turn, refused-leaves, reversedOnceBy-is, sound-model, wordsOf}
+use Rattle.laws.proofs.SoundMaps.{is-edged, is-map}
+use Rattle.laws.proofs.Valid.{Model, Steady, Valid, junctionFine, markFor, noneTwice, reverseModel}
+use Rattle.laws.proofs.WordsReversed.{Fine, SoundModel, accepted-leaves, callRules, callRules-are, fine-rules, fine-sound, fine-words, modelOf, modelRules, named, refusal-reversed, refusal-split, refused-leaves, reversedOnceBy-is, sound-model, wordsOf}
+
+-- a call is accepted where it has no refusal
+pub accepted-is : (t : Tables) (marks : List ℕ) (outs : ReversalOutputs) → isAccepted (reversalCall t marks outs .answer) ≡ not (isSome (reversalRefusal t marks (reversalLengths outs)))
+unfolding reversalCall
+accepted-is t marks outs = go (reversalRefusal t marks (reversalLengths outs))
+  where
+    go : (o : Option ℕ) → isAccepted (settled o (reversalCounts (reversalContent t marks)) (putReversed (reversalContent t marks) outs) outs .answer) ≡ not (isSome o)
+    go none = refl
+    go (some k) = refl
 
 -- ---- tables that rules 1 to 8 or 10 refuse: every call is refused, with one number
 module _ (t : Tables) (k : ℕ) (bad : firstBroken (tableRules t) ≡ some k) where
@@ -54,26 +64,19 @@ module _ (t : Tables) (k : ℕ) (bad : firstBroken (tableRules t) ≡ some k) wh
       (ap (λ u. answers u cs) (refused-leaves t c k (always (c .marks) (reversalLengths (c .outs)))) ∙ stuck-said cs
       ∙ ap (λ s. answersBySet t s cs) (sym (ap (λ u. setBy (reversalRefusal u (c .marks) (reversalLengths (c .outs))) (emptySet t) (c .marks)) same-tables ∙ ap (λ r. setBy r (emptySet t) (c .marks)) (always (c .marks) (reversalLengths (c .outs))))))
 
+  not-accepted : (c : Call) → isAccepted (reversalCall t (c .marks) (c .outs) .answer) ≡ false
+  not-accepted c = accepted-is t (c .marks) (c .outs) ∙ ap (λ o. not (isSome o)) (always (c .marks) (reversalLengths (c .outs)))
+
   pub stuck-odd : (cs : List Call) (set : List ℕ) → oddMarks set (answers t cs) cs ≡ set
-  unfolding reversalCall
   stuck-odd [] set = refl
-  stuck-odd (c ∷ cs) set = ap₂ (λ r u. oddMarks (cond (isAccepted (settled r (reversalCounts (reversalContent t (c .marks))) (putReversed (reversalContent t (c .marks)) (c .outs)) (c .outs) .answer)) (toggledMarks set (c .marks)) set) (answers u cs) cs)
-      (always (c .marks) (reversalLengths (c .outs))) (refused-leaves t c k (always (c .marks) (reversalLengths (c .outs)))) ∙ stuck-odd cs set
+  stuck-odd (c ∷ cs) set = ap₂ (λ b u. oddMarks (cond b (toggledMarks set (c .marks)) set) (answers u cs) cs) (not-accepted c) (refused-leaves t c k (always (c .marks) (reversalLengths (c .outs)))) ∙ stuck-odd cs set
 
   pub stuck-none : (cs : List Call) → anyAccepted (answers t cs) ≡ false
-  unfolding reversalCall
   stuck-none [] = refl
-  stuck-none (c ∷ cs) = ap₂ (λ a b. a || b) (ap (λ r. isAccepted (settled r (reversalCounts (reversalContent t (c .marks))) (putReversed (reversalContent t (c .marks)) (c .outs)) (c .outs) .answer)) (always (c .marks) (reversalLengths (c .outs))))
-      (ap (λ u. anyAccepted (answers u cs)) (refused-leaves t c k (always (c .marks) (reversalLengths (c .outs)))) ∙ stuck-none cs)
+  stuck-none (c ∷ cs) = ap₂ (λ a b. a || b) (not-accepted c) (ap (λ u. anyAccepted (answers u cs)) (refused-leaves t c k (always (c .marks) (reversalLengths (c .outs)))) ∙ stuck-none cs)
 
 -- ---- tables that they let pass
 module _ (t : Tables) (f : Fine t) where
-  abbrev text : List ℕ
-  text = t .text
-
-  abbrev x : Model
-  x = modelOf t
-
   h : SoundModel (t .text) (modelOf t)
   h = fine-sound t f
 
@@ -85,25 +88,25 @@ module _ (t : Tables) (f : Fine t) where
   inSet set = named (t .text) (modelOf t) set
 
   pub steady : (set : List ℕ) → Steady (sameIn (t .text)) (inSet set)
-  steady set = marked-sound (sameIn (t .text)) (alike-in (t .text)) (modelOf t .map .roads) set
+  steady set = marked-steady (sameIn (t .text)) (alike-in (t .text)) (modelOf t .map .roads) set
 
-  pub turned-as : (set : List ℕ) → reversedOnceBy set t ≡ wordsOf (t .text) (reverseModel (sameIn (t .text)) (inSet set) (modelOf t))
-  turned-as set = ap (reversedOnceBy set) (sym (fine-words t f)) ∙ reversedOnceBy-is (t .text) (modelOf t) h set
+  pub reversedOnceBy-words : (set : List ℕ) → reversedOnceBy set t ≡ wordsOf (t .text) (reverseModel (sameIn (t .text)) (inSet set) (modelOf t))
+  reversedOnceBy-words set = ap (reversedOnceBy set) (sym (fine-words t f)) ∙ reversedOnceBy-is (t .text) (modelOf t) h set
 
-  empty-turn : (set : List ℕ) → isEmpty set ≡ true → reversedOnceBy set t ≡ t
-  empty-turn set e = turned-as set ∙ ap (λ s. wordsOf (t .text) (reverseModel (sameIn (t .text)) s (modelOf t))) (empty-is (sameIn (t .text)) (modelOf t .map .roads) set e)
-      ∙ ap (wordsOf (t .text)) (idle-tables (sameIn (t .text)) (modelOf t)) ∙ fine-words t f
+  pub empty-reversed : (set : List ℕ) → isEmpty set ≡ true → reversedOnceBy set t ≡ t
+  empty-reversed set e = reversedOnceBy-words set ∙ ap (λ s. wordsOf (t .text) (reverseModel (sameIn (t .text)) s (modelOf t))) (empty-is (sameIn (t .text)) (modelOf t .map .roads) set e)
+      ∙ ap (wordsOf (t .text)) (idle-model (sameIn (t .text)) (modelOf t)) ∙ fine-words t f
 
-  pub reversed-as : (set : List ℕ) → reversedBy set t ≡ reversedOnceBy set t
+  pub reversedBy-is : (set : List ℕ) → reversedBy set t ≡ reversedOnceBy set t
   unfolding reversedBy
-  reversed-as set = go (isEmpty set) refl
+  reversedBy-is set = go (isEmpty set) refl
     where
       go : (b : Bool) → isEmpty set ≡ b → cond b t (reversedOnceBy set t) ≡ reversedOnceBy set t
-      go true e = sym (empty-turn set e)
+      go true e = sym (empty-reversed set e)
       go false e = refl
 
   pub refusal-same : (set marks lengths : List ℕ) → reversalRefusal (reversedOnceBy set t) marks lengths ≡ reversalRefusal t marks lengths
-  refusal-same set marks lengths = ap (λ u. reversalRefusal u marks lengths) (turned-as set) ∙ refusal-turn (t .text) (inSet set) (steady set) (modelOf t) h fine-x marks lengths ∙ ap (λ u. reversalRefusal u marks lengths) (fine-words t f)
+  refusal-same set marks lengths = ap (λ u. reversalRefusal u marks lengths) (reversedOnceBy-words set) ∙ refusal-reversed (t .text) (inSet set) (steady set) (modelOf t) h fine-x marks lengths ∙ ap (λ u. reversalRefusal u marks lengths) (fine-words t f)
 
   -- what an accepted call's marks are
   pub accepted-rules : (marks lengths : List ℕ) → reversalRefusal t marks lengths ≡ none → Passes (modelRules (t .text) (modelOf t) marks lengths)
@@ -114,33 +117,46 @@ module _ (t : Tables) (f : Fine t) where
   rules-accepted marks lengths p = refusal-split t marks lengths ∙ broken-append (tableRules t) (callRules t marks lengths) (fine-rules t f)
       ∙ pass-all (callRules t marks lengths) (subst (λ rs. Passes rs) (sym (ap (λ u. callRules u marks lengths) (sym (fine-words t f)) ∙ callRules-are (t .text) (modelOf t) h marks lengths)) p)
 
-  -- an accepted call on the map reversed by a set leaves the map reversed by the set fed its marks
-  accepted-next : (set : List ℕ) (c : Call) → markFor (modelOf t .map .roads) set ≡ true → reversalRefusal t (c .marks) (reversalLengths (c .outs)) ≡ none → after (reversedOnceBy set t) c ≡ reversedOnceBy (toggledMarks set (c .marks)) t
-  unfolding modelRules
-  accepted-next set c m q =
-      ap (λ u. after u c) (turned-as set)
-      ∙ accepted-leaves (t .text) y sound-y c (ap (λ u. reversalRefusal u (c .marks) (reversalLengths (c .outs))) (sym (turned-as set)) ∙ refusal-same set (c .marks) (reversalLengths (c .outs)) ∙ q)
-      ∙ reversedOnceBy-is (t .text) y sound-y (c .marks)
-      ∙ ap (wordsOf (t .text)) (ap (λ s. reverseModel (sameIn (t .text)) s y) marks-are ∙ compose-tables (sameIn (t .text)) (inSet set) (inSet (c .marks)) (steady set) (modelOf t) valid placed)
-      ∙ ap (λ s. wordsOf (t .text) (reverseModel (sameIn (t .text)) s (modelOf t))) (sym (toggled-is (sameIn (t .text)) (modelOf t .map .roads) set (c .marks) m (accepted-rules (c .marks) (reversalLengths (c .outs)) q .0)))
-      ∙ sym (turned-as (toggledMarks set (c .marks)))
+  -- what a reversal writes means the map reversed, and its lanes with their edges
+  sound-by-set : (set : List ℕ) → SoundModel (t .text) (reverseModel (sameIn (t .text)) (inSet set) (modelOf t))
+  sound-by-set set = sound-model (t .text) (inSet set) (steady set) (modelOf t) h
+
+  pub reversed-map : (set : List ℕ) → mapOf (reversedOnceBy set t) ≡ reverseMap (sameIn (t .text)) (inSet set) (modelOf t .map)
+  unfolding reverseModel
+  reversed-map set = ap mapOf (reversedOnceBy-words set) ∙ is-map (t .text) (reverseMap (sameIn (t .text)) (inSet set) (modelOf t .map)) (map (reverseEdged (sameIn (t .text)) (inSet set) (modelOf t .map .roads)) (modelOf t .edged)) (sound-by-set set)
+
+  pub reversed-edged : (set : List ℕ) → edgedLanesOf (reversedOnceBy set t) ≡ map (reverseEdged (sameIn (t .text)) (inSet set) (modelOf t .map .roads)) (modelOf t .edged)
+  unfolding reverseModel
+  reversed-edged set = ap edgedLanesOf (reversedOnceBy-words set) ∙ is-edged (t .text) (reverseMap (sameIn (t .text)) (inSet set) (modelOf t .map)) (map (reverseEdged (sameIn (t .text)) (inSet set) (modelOf t .map .roads)) (modelOf t .edged)) (sound-by-set set)
+
+  -- reversed by a set and then by marks: reversed once by the roads that are in just one of them
+  pub reversed-twice : (set marks : List ℕ) → markFor (modelOf t .map .roads) set ≡ true → markFor (modelOf t .map .roads) marks ≡ true → reversedOnceBy marks (reversedOnceBy set t) ≡ reversedOnceBy (toggledMarks set marks) t
+  reversed-twice set marks m k =
+      ap (reversedOnceBy marks) (reversedOnceBy-words set)
+      ∙ reversedOnceBy-is (t .text) y (sound-by-set set) marks
+      ∙ ap (wordsOf (t .text)) (ap (λ s. reverseModel (sameIn (t .text)) s y) marks-are ∙ compose-model (sameIn (t .text)) (inSet set) (inSet marks) (steady set) (modelOf t) valid (edged-placed (sameIn (t .text)) (modelOf t) (h .match) valid))
+      ∙ ap (λ s. wordsOf (t .text) (reverseModel (sameIn (t .text)) s (modelOf t))) (sym (toggled-is (sameIn (t .text)) (modelOf t .map .roads) set marks m k))
+      ∙ sym (reversedOnceBy-words (toggledMarks set marks))
     where
       y : Model
       y = reverseModel (sameIn (t .text)) (inSet set) (modelOf t)
 
-      sound-y : SoundModel (t .text) (reverseModel (sameIn (t .text)) (inSet set) (modelOf t))
-      sound-y = sound-model (t .text) (inSet set) (steady set) (modelOf t) h
-
-      marks-are : marked (sameIn (t .text)) (reverseModel (sameIn (t .text)) (inSet set) (modelOf t) .map .roads) (c .marks) ≡ inSet (c .marks)
-      marks-are = unfold reverseModel reverseMap in fun-ext (marked-turn (sameIn (t .text)) (inSet set) (modelOf t .map .roads) (c .marks))
+      marks-are : marked (sameIn (t .text)) (reverseModel (sameIn (t .text)) (inSet set) (modelOf t) .map .roads) marks ≡ inSet marks
+      marks-are = unfold reverseModel reverseMap in fun-ext (marked-reversed (sameIn (t .text)) (inSet set) (modelOf t .map .roads) marks)
 
       valid : Valid (sameIn (t .text)) (modelOf t .map)
       valid = good-valid (sameIn (t .text)) (modelOf t .map) (h .good)
 
-      placed : Each (λ y. Placed (sameIn (t .text)) (modelOf t .map .roads) (y .lane)) (modelOf t .edged)
-      placed = edged-placed (sameIn (t .text)) (modelOf t) (h .match) (good-valid (sameIn (t .text)) (modelOf t .map) (h .good))
+  -- an accepted call on the map reversed by a set leaves the map reversed by the set fed its marks
+  accepted-next : (set : List ℕ) (c : Call) → markFor (modelOf t .map .roads) set ≡ true → reversalRefusal t (c .marks) (reversalLengths (c .outs)) ≡ none → after (reversedOnceBy set t) c ≡ reversedOnceBy (toggledMarks set (c .marks)) t
+  unfolding modelRules
+  accepted-next set c m q =
+      ap (λ u. after u c) (reversedOnceBy-words set)
+      ∙ accepted-leaves (t .text) (reverseModel (sameIn (t .text)) (inSet set) (modelOf t)) (sound-by-set set) c (ap (λ u. reversalRefusal u (c .marks) (reversalLengths (c .outs))) (sym (reversedOnceBy-words set)) ∙ refusal-same set (c .marks) (reversalLengths (c .outs)) ∙ q)
+      ∙ ap (reversedOnceBy (c .marks)) (sym (reversedOnceBy-words set))
+      ∙ reversed-twice set (c .marks) m (accepted-rules (c .marks) (reversalLengths (c .outs)) q .0)
 
-  -- what every set on the way has: a mark for each road, and no road of it that namesJunction one direct junction at Both ends
+  -- what every set on the way has: a mark for each road, and no road of it that names one direct junction at both ends
   pub record Ready (set : List ℕ) : Type 0 where
     pub marks-for : markFor (modelOf t .map .roads) set ≡ true
     pub once : noneTwice (sameIn (t .text)) (inSet set) (modelOf t .map) ≡ true
@@ -164,7 +180,7 @@ module _ (t : Tables) (f : Fine t) where
 
   fed-is : (set marks lengths : List ℕ) → fed t set marks lengths ≡ setBy (reversalRefusal t marks lengths) set marks
   unfolding fed
-  fed-is set marks lengths = ap (λ r. setBy r set marks) (ap (λ u. reversalRefusal u marks lengths) (reversed-as set) ∙ refusal-same set marks lengths)
+  fed-is set marks lengths = ap (λ r. setBy r set marks) (ap (λ u. reversalRefusal u marks lengths) (reversedBy-is set) ∙ refusal-same set marks lengths)
 
   pub ready-after : (cs : List Call) (set : List ℕ) → Ready set → Ready (setAfter t set cs)
   ready-after [] set r = r
@@ -185,7 +201,7 @@ module _ (t : Tables) (f : Fine t) where
 
   pub answers-by : (cs : List Call) (set : List ℕ) → Ready set → answers (reversedOnceBy set t) cs ≡ answersBySet t set cs
   answers-by [] set r = refl
-  answers-by (c ∷ cs) set r = ap₂ {C = List Answer} (λ a l. a ∷ l) (ap (λ u. reversalCall u (c .marks) (c .outs) .answer) (sym (reversed-as set)))
+  answers-by (c ∷ cs) set r = ap₂ {C = List Answer} (λ a l. a ∷ l) (ap (λ u. reversalCall u (c .marks) (c .outs) .answer) (sym (reversedBy-is set)))
       (go (reversalRefusal t (c .marks) (reversalLengths (c .outs))) refl (answers-by cs) ∙ ap (λ s. answersBySet t s cs) (sym (fed-is set (c .marks) (reversalLengths (c .outs)))))
     where
       go : (o : Option ℕ) → reversalRefusal t (c .marks) (reversalLengths (c .outs)) ≡ o → ((s : List ℕ) → Ready s → answers (reversedOnceBy s t) cs ≡ answersBySet t s cs) →
@@ -193,72 +209,60 @@ module _ (t : Tables) (f : Fine t) where
       go none q ih = ap (λ u. answers u cs) (accepted-next set c (r .marks-for) q) ∙ ih (toggledMarks set (c .marks)) (ready-next set c r q)
       go (some k) q ih = ap (λ u. answers u cs) (refused-leaves (reversedOnceBy set t) c k (refusal-same set (c .marks) (reversalLengths (c .outs)) ∙ q)) ∙ ih set r
 
-  abbrev pub Turnable13 : Type 0
-  Turnable13 = every laneFine (modelOf t .map .lanes) && every junctionFine (modelOf t .map .junctions) ≡ true
+  abbrev pub Rule13 : Type 0
+  Rule13 = every laneFine (modelOf t .map .lanes) && every junctionFine (modelOf t .map .junctions) ≡ true
 
-  accepted-call : (u : Tables) (c : Call) → reversalCall u (c .marks) (c .outs) .answer ≡ settled (reversalRefusal u (c .marks) (reversalLengths (c .outs))) (reversalCounts (reversalContent u (c .marks))) (putReversed (reversalContent u (c .marks)) (c .outs)) (c .outs) .answer
-  unfolding reversalCall
-  accepted-call u c = refl
+  -- a call on the map reversed by a set is accepted as on the map
+  accepted-same : (set : List ℕ) (c : Call) → isAccepted (reversalCall (reversedOnceBy set t) (c .marks) (c .outs) .answer) ≡ not (isSome (reversalRefusal t (c .marks) (reversalLengths (c .outs))))
+  accepted-same set c = accepted-is (reversedOnceBy set t) (c .marks) (c .outs) ∙ ap (λ o. not (isSome o)) (refusal-same set (c .marks) (reversalLengths (c .outs)))
 
   -- a call that was accepted shows that rule 13 passes; with none the set and the tables are as at first
-  pub any-numbers : (cs : List Call) (set : List ℕ) → Ready set → anyAccepted (answers (reversedOnceBy set t) cs) ≡ true → Turnable13
+  pub any-numbers : (cs : List Call) (set : List ℕ) → Ready set → anyAccepted (answers (reversedOnceBy set t) cs) ≡ true → Rule13
   unfolding modelRules
   any-numbers [] set r a = absurd (false≢true a)
   any-numbers (c ∷ cs) set r a = go (reversalRefusal t (c .marks) (reversalLengths (c .outs))) refl (any-numbers cs)
-      (ap (λ v. isAccepted v || anyAccepted (answers (after (reversedOnceBy set t) c) cs)) (sym (accepted-call (reversedOnceBy set t) c ∙ ap (λ o. settled o (counts) new (c .outs) .answer) (refusal-same set (c .marks) (reversalLengths (c .outs))))) ∙ a)
+      (ap (λ b. b || anyAccepted (answers (after (reversedOnceBy set t) c) cs)) (sym (accepted-same set c)) ∙ a)
     where
-      counts : List ℕ
-      counts = reversalCounts (reversalContent (reversedOnceBy set t) (c .marks))
-
-      new : ReversalOutputs
-      new = putReversed (reversalContent (reversedOnceBy set t) (c .marks)) (c .outs)
-
-      go : (o : Option ℕ) → reversalRefusal t (c .marks) (reversalLengths (c .outs)) ≡ o → ((s : List ℕ) → Ready s → anyAccepted (answers (reversedOnceBy s t) cs) ≡ true → Turnable13) →
-          isAccepted (settled o counts new (c .outs) .answer) || anyAccepted (answers (after (reversedOnceBy set t) c) cs) ≡ true → Turnable13
+      go : (o : Option ℕ) → reversalRefusal t (c .marks) (reversalLengths (c .outs)) ≡ o → ((s : List ℕ) → Ready s → anyAccepted (answers (reversedOnceBy s t) cs) ≡ true → Rule13) →
+          not (isSome o) || anyAccepted (answers (after (reversedOnceBy set t) c) cs) ≡ true → Rule13
       go none q ih a = accepted-rules (c .marks) (reversalLengths (c .outs)) q .1 .0
       go (some k) q ih a = ih set r (ap (λ u. anyAccepted (answers u cs)) (sym (refused-leaves (reversedOnceBy set t) c k (refusal-same set (c .marks) (reversalLengths (c .outs)) ∙ q))) ∙ a)
 
   pub none-set : (cs : List Call) (set : List ℕ) → Ready set → anyAccepted (answers (reversedOnceBy set t) cs) ≡ false → setAfter t set cs ≡ set
   none-set [] set r a = refl
   none-set (c ∷ cs) set r a = ap (λ s. setAfter t s cs) (fed-is set (c .marks) (reversalLengths (c .outs))) ∙ go (reversalRefusal t (c .marks) (reversalLengths (c .outs))) refl (none-set cs)
-      (ap (λ v. isAccepted v || anyAccepted (answers (after (reversedOnceBy set t) c) cs)) (sym (accepted-call (reversedOnceBy set t) c ∙ ap (λ o. settled o (counts) new (c .outs) .answer) (refusal-same set (c .marks) (reversalLengths (c .outs))))) ∙ a)
+      (ap (λ b. b || anyAccepted (answers (after (reversedOnceBy set t) c) cs)) (sym (accepted-same set c)) ∙ a)
     where
-      counts : List ℕ
-      counts = reversalCounts (reversalContent (reversedOnceBy set t) (c .marks))
-
-      new : ReversalOutputs
-      new = putReversed (reversalContent (reversedOnceBy set t) (c .marks)) (c .outs)
-
       go : (o : Option ℕ) → reversalRefusal t (c .marks) (reversalLengths (c .outs)) ≡ o → ((s : List ℕ) → Ready s → anyAccepted (answers (reversedOnceBy s t) cs) ≡ false → setAfter t s cs ≡ s) →
-          isAccepted (settled o counts new (c .outs) .answer) || anyAccepted (answers (after (reversedOnceBy set t) c) cs) ≡ false → setAfter t (setBy o set (c .marks)) cs ≡ set
+          not (isSome o) || anyAccepted (answers (after (reversedOnceBy set t) c) cs) ≡ false → setAfter t (setBy o set (c .marks)) cs ≡ set
       go none q ih a = absurd (true≢false a)
       go (some k) q ih a = ih set r (ap (λ u. anyAccepted (answers u cs)) (sym (refused-leaves (reversedOnceBy set t) c k (refusal-same set (c .marks) (reversalLengths (c .outs)) ∙ q))) ∙ a)
 
+  -- the set is the roads marked an odd number of times in accepted calls
   pub odd-by : (cs : List Call) (set : List ℕ) → Ready set → setAfter t set cs ≡ oddMarks set (answers (reversedOnceBy set t) cs) cs
   odd-by [] set r = refl
   odd-by (c ∷ cs) set r = ap (λ s. setAfter t s cs) (fed-is set (c .marks) (reversalLengths (c .outs))) ∙ go (reversalRefusal t (c .marks) (reversalLengths (c .outs))) refl (odd-by cs)
-      ∙ ap (λ v. oddMarks (cond (isAccepted v) (toggledMarks set (c .marks)) set) (answers (after (reversedOnceBy set t) c) cs) cs) (sym (accepted-call (reversedOnceBy set t) c ∙ ap (λ o. settled o (counts) new (c .outs) .answer) (refusal-same set (c .marks) (reversalLengths (c .outs)))))
+      ∙ ap (λ b. oddMarks (cond b (toggledMarks set (c .marks)) set) (answers (after (reversedOnceBy set t) c) cs) cs) (sym (accepted-same set c))
     where
-      counts : List ℕ
-      counts = reversalCounts (reversalContent (reversedOnceBy set t) (c .marks))
-
-      new : ReversalOutputs
-      new = putReversed (reversalContent (reversedOnceBy set t) (c .marks)) (c .outs)
-
       go : (o : Option ℕ) → reversalRefusal t (c .marks) (reversalLengths (c .outs)) ≡ o → ((s : List ℕ) → Ready s → setAfter t s cs ≡ oddMarks s (answers (reversedOnceBy s t) cs) cs) →
-          setAfter t (setBy o set (c .marks)) cs ≡ oddMarks (cond (isAccepted (settled o counts new (c .outs) .answer)) (toggledMarks set (c .marks)) set) (answers (after (reversedOnceBy set t) c) cs) cs
+          setAfter t (setBy o set (c .marks)) cs ≡ oddMarks (cond (not (isSome o)) (toggledMarks set (c .marks)) set) (answers (after (reversedOnceBy set t) c) cs) cs
       go none q ih = ih (toggledMarks set (c .marks)) (ready-next set c r q) ∙ ap (λ u. oddMarks (toggledMarks set (c .marks)) (answers u cs) cs) (sym (accepted-next set c (r .marks-for) q))
       go (some k) q ih = ih set r ∙ ap (λ u. oddMarks set (answers u cs) cs) (sym (refused-leaves (reversedOnceBy set t) c k (refusal-same set (c .marks) (reversalLengths (c .outs)) ∙ q)))
 
   pub empty-same : reversedOnceBy (emptySet t) t ≡ t
-  empty-same = empty-turn (emptySet t) (empty-empty (roadsOf t))
+  empty-same = empty-reversed (emptySet t) (empty-empty (roadsOf t))
 
-  -- the model's successorsOf hold on a set
-  pub held-set : (set : List ℕ) → Ready set → Turnable13 → Held (sameIn (t .text)) (modelOf t .map) (inSet set)
+  -- what the laws on a reversed map ask of a set
+  pub held-set : (set : List ℕ) → Ready set → Rule13 → Held (sameIn (t .text)) (modelOf t .map) (inSet set)
   held-set set r n = record {
     is-good = h .good;
-    is-sound = steady set;
+    is-steady = steady set;
     is-fine = n;
     is-once = r .once;
     is-known = λ name w. marked-known (sameIn (t .text)) (modelOf t .map .roads) set name w;
   }
+
+  -- and so on the marks of an accepted call
+  pub held-accepted : (marks lengths : List ℕ) → reversalRefusal t marks lengths ≡ none → Held (sameIn (t .text)) (modelOf t .map) (inSet marks)
+  unfolding modelRules
+  held-accepted marks lengths q = let p = accepted-rules marks lengths q in held-set marks (record { marks-for = p .0; once = p .1 .1 .0 }) (p .1 .0)

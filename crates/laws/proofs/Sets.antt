@@ -1,15 +1,15 @@
--- Sets of roads as marks. 
-use mathlib.Core.Path.{_≡_, refl, sym, _∙_, ap, ap₂, subst, fun-ext}
-use mathlib.Core.Bool.{Bool, true, false, not, _&&_, _||_, cond, false≢true, true≢false}
-use mathlib.Core.List.{List, [], _∷_, _++_, map}
-use Prim.Native.Nat.{ℕ, zero, suc}
+-- Sets of roads as marks: a set fed marks, and the empty set.
+use mathlib.Core.Path.{_≡_, refl, sym, ap, fun-ext}
+use mathlib.Core.Bool.{Bool, true, false, cond, false≢true}
+use mathlib.Core.List.{List, [], _∷_, map}
+use Prim.Native.Nat.{ℕ}
 use lib.Dec.{eqb, leb}
 use borrow.Author.Tests.{eqb-true}
 use Rattle.model.specs.Lists.{_⊕_, every}
 use Rattle.model.specs.Records.{Road, Span}
 use Rattle.model.specs.Reversal.{marked}
 use Rattle.model.specs.Sequence.{isEmpty, toggledMark, toggledMarks}
-use Rattle.laws.proofs.RulesReversed.{and-both, and-left, and-right}
+use Rattle.laws.proofs.ListTests.{and-both, and-left, and-right}
 use Rattle.laws.proofs.Valid.{markFor, nobody, toggled}
 
 mark-bit : (s k : ℕ) → eqb (toggledMark s k) 1 ≡ eqb s 1 ⊕ eqb k 1

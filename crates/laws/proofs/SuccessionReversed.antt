@@ -1,8 +1,8 @@
--- Succession on a reversed map: the same lists. 
-use mathlib.Core.Path.{_≡_, refl, sym, _∙_, ap, ap₂, subst, fun-ext}
-use mathlib.Core.Bool.{Bool, true, false, not, _&&_, _||_, cond, true≢false, false≢true}
+-- Succession on a reversed map: a lane's exits are the same entries reversed, so it finds the same successors; and where all lanes do, the finished lists are the same.
+use mathlib.Core.Path.{_≡_, refl, sym, _∙_, ap, ap₂, subst}
+use mathlib.Core.Bool.{Bool, true, false, not, _&&_, cond}
 use mathlib.Core.Option.{Option, none, some}
-use mathlib.Core.List.{List, [], _∷_, _++_, map, map-append}
+use mathlib.Core.List.{List, [], _∷_, _++_, map, map-append, map-map}
 use Prim.Native.Nat.{ℕ, _+_, _≤_}
 use lib.Dec.{eqb}
 use Rattle.geometry.specs.declared.gap.Direction.{Direction}
@@ -12,10 +12,12 @@ use Rattle.model.specs.Records.{Connection, Junction, Lane, Map, Pair, Road, Sp
 use Rattle.model.specs.Repair.{roadOf}
 use Rattle.model.specs.Reversal.{leadsBy, leadsTo, marks, mirror, mirrored, reverseConnection, reverseDirection, reverseJunction, reverseLane, reverseLink, reversePair, reverseRoad, reverseTarget, roadNamed, roadward, signed}
 use Rattle.model.specs.Succession.{Entry, backLinks, cross, endSection, entryId, exits, exitsBy, findsBack, isBoth, junctionOf, lookup, lookupAtEnd, nextSection, predecessors, runsAway, sectionsOf, standsAt, successors, successorsBy, successorsOf, throughJunction, throughPairs}
-use Rattle.laws.proofs.Basics.{each, each-map, final-map, gather-ext, gather-map, keep-append, keep-ext, keep-map, map-ext, map-gather, map-map, ⊕-not, ⊕-self}
-use Rattle.laws.proofs.Mirror.{beyond-bound, endSection-bound, endSection-mirrored, mirror-eqb, signed-eqb, turned-away}
+use Rattle.laws.proofs.Basics.{final-map, gather-ext, gather-map, keep-append, keep-ext, keep-map, map-ext, map-gather, ⊕-not, ⊕-self}
+use Rattle.laws.proofs.ForEach.{each, each-map}
+use Rattle.laws.proofs.ListTests.{and-left}
+use Rattle.laws.proofs.Mirror.{endSection-bound, endSection-mirrored, mirror-eqb, nextSection-bound, reverseDirection-away, signed-eqb}
 use Rattle.laws.proofs.Names.{placed-bound, roadOf-name, sectionsOf-ascend, sectionsOf-same}
-use Rattle.laws.proofs.Reverse.{beyond-turn, linkAt-turn, roadOf-turn, sectionsOf-turn, targetAt-turn}
+use Rattle.laws.proofs.Reverse.{linkAt-reversed, nextSection-reversed, roadOf-reversed, sectionsOf-reversed, targetAt-reversed}
 use Rattle.laws.proofs.Sorting.{sort-swap}
 use Rattle.laws.proofs.Valid.{Alike, Ascends, Each, Placed, Steady}
 
@@ -26,10 +28,6 @@ keep-each {A} p (x ∷ xs) = go (p x) refl (keep-each p xs)
     go : (b : Bool) → p x ≡ b → Each (λ x. p x ≡ true) (keep p xs) → Each (λ x. p x ≡ true) (cond b (x ∷ keep p xs) (keep p xs))
     go true q h = (q, h)
     go false q h = h
-
-and-left : (a b : Bool) → a && b ≡ true → a ≡ true
-and-left true b q = refl
-and-left false b q = q
 
 -- a section number on the reversed road
 pub section-eqb : (b : Bool) (ss : List ℕ) (i s : ℕ) → i ≤ headOr 0 ss + lastOr 0 ss → s ≤ headOr 0 ss + lastOr 0 ss → eqb (cond b (mirror ss i) i) (cond b (mirror ss s) s) ≡ eqb i s
@@ -42,29 +40,29 @@ section-end false ss i e m = refl
 
 module _ (same : Span → Span → Bool) (A : Alike same) (mk : Span → Bool) (S : Steady same mk)
     (R : List Road) (asc : Each (λ r. Ascends (r .sections)) R) where
-  unfoldable pub turnEntry : Entry → Entry
-  turnEntry x = record { lane = reverseLane same mk R (x .lane); contact = mk (x .lane .road) ⊕ x .contact }
+  unfoldable pub reverseEntry : Entry → Entry
+  reverseEntry x = record { lane = reverseLane same mk R (x .lane); contact = mk (x .lane .road) ⊕ x .contact }
 
-  stands-turn : (n : Span) (s s′ k : ℕ) (l : Lane) → (same (l .road) n ≡ true → eqb (reverseLane same mk R l .section) s′ ≡ eqb (l .section) s) →
+  standsAt-reversed : (n : Span) (s s′ k : ℕ) (l : Lane) → (same (l .road) n ≡ true → eqb (reverseLane same mk R l .section) s′ ≡ eqb (l .section) s) →
       standsAt same n s′ (signed (mk n) k) (reverseLane same mk R l) ≡ standsAt same n s k l
   unfolding standsAt reverseLane
-  stands-turn n s s′ k l h = go (same (l .road) n) refl
+  standsAt-reversed n s s′ k l h = go (same (l .road) n) refl
     where
       go : (b : Bool) → same (l .road) n ≡ b → b && eqb (reverseLane same mk R l .section) s′ && eqb (signed (mk (l .road)) (l .number)) (signed (mk n) k) ≡ b && eqb (l .section) s && eqb (l .number) k
       go false q = refl
       go true q = ap₂ (λ x y. x && y) (h q) (ap (λ b. eqb (signed b (l .number)) (signed (mk n) k)) (S (l .road) n q) ∙ signed-eqb (mk n) (l .number) k)
 
-  enter-turn : (L : List Lane) (n : Span) (s s′ : ℕ) (e : Bool) (k : ℕ) → Each (λ l. same (l .road) n ≡ true → eqb (reverseLane same mk R l .section) s′ ≡ eqb (l .section) s) L →
-      lookup same (map (reverseLane same mk R) L) n s′ (mk n ⊕ e) (signed (mk n) k) ≡ map turnEntry (lookup same L n s e k)
-  unfolding lookup turnEntry
-  enter-turn L n s s′ e k h =
+  lookup-reversed : (L : List Lane) (n : Span) (s s′ : ℕ) (e : Bool) (k : ℕ) → Each (λ l. same (l .road) n ≡ true → eqb (reverseLane same mk R l .section) s′ ≡ eqb (l .section) s) L →
+      lookup same (map (reverseLane same mk R) L) n s′ (mk n ⊕ e) (signed (mk n) k) ≡ map reverseEntry (lookup same L n s e k)
+  unfolding lookup reverseEntry
+  lookup-reversed L n s s′ e k h =
       ap (map (λ l. record { lane = l; contact = mk n ⊕ e }))
       (keep-map (reverseLane same mk R) (standsAt same n s′ (signed (mk n) k)) L
-      ∙ ap (map (reverseLane same mk R)) (keep-ext (λ l. standsAt same n s′ (signed (mk n) k) (reverseLane same mk R l)) (standsAt same n s k) L (each-map (stands-turn n s s′ k) L h)))
-      ∙ map-map (reverseLane same mk R) (λ l. record { lane = l; contact = mk n ⊕ e }) (keep (standsAt same n s k) L)
+      ∙ ap (map (reverseLane same mk R)) (keep-ext (λ l. standsAt same n s′ (signed (mk n) k) (reverseLane same mk R l)) (standsAt same n s k) L (each-map (standsAt-reversed n s s′ k) L h)))
+      ∙ map-map (λ l. record { lane = l; contact = mk n ⊕ e }) (reverseLane same mk R) (keep (standsAt same n s k) L)
       ∙ map-ext _ _ (keep (standsAt same n s k) L)
       (each-map (λ l q. λ i. record { lane = reverseLane same mk R l; contact = sym (S (l .road) n (stands l q)) i ⊕ e }) (keep (standsAt same n s k) L) (keep-each (standsAt same n s k) L))
-      ∙ sym (map-map (λ l. record { lane = l; contact = e }) turnEntry (keep (standsAt same n s k) L))
+      ∙ sym (map-map reverseEntry (λ l. record { lane = l; contact = e }) (keep (standsAt same n s k) L))
     where
       stands : (l : Lane) → standsAt same n s k l ≡ true → same (l .road) n ≡ true
       stands l q = unfold standsAt in and-left (same (l .road) n) (eqb (l .section) s) (and-left (same (l .road) n && eqb (l .section) s) (eqb (l .number) k) q)
@@ -90,72 +88,72 @@ module _ (same : Span → Span → Bool) (A : Alike same) (mk : Span → Bool) (
     over = record { roads = map (reverseRoad mk) Q; junctions = map (reverseJunction mk) J; lanes = map (reverseLane same mk R) L }
 
     sections-over : (n : Span) → sectionsOf same (map (reverseRoad mk) Q) n ≡ cond (mk n) (mirrored (sectionsOf same R n)) (sectionsOf same R n)
-    sections-over n = sectionsOf-turn same mk S Q n ∙ ap (λ ss. cond (mk n) (mirrored ss) ss) (sections-kept n)
+    sections-over n = sectionsOf-reversed same mk S Q n ∙ ap (λ ss. cond (mk n) (mirrored ss) ss) (sections-kept n)
 
-    lookupAtEnd-turn : (n : Span) (e : Bool) (k : ℕ) → lookupAtEnd same over n (mk n ⊕ e) (signed (mk n) k) ≡ map turnEntry (lookupAtEnd same plain n e k)
+    lookupAtEnd-reversed : (n : Span) (e : Bool) (k : ℕ) → lookupAtEnd same over n (mk n ⊕ e) (signed (mk n) k) ≡ map reverseEntry (lookupAtEnd same plain n e k)
     unfolding lookupAtEnd plain over
-    lookupAtEnd-turn n e k = enter-turn L n (endSection (sectionsOf same Q n) e) (endSection (sectionsOf same (map (reverseRoad mk) Q) n) (mk n ⊕ e)) e k
+    lookupAtEnd-reversed n e k = lookup-reversed L n (endSection (sectionsOf same Q n) e) (endSection (sectionsOf same (map (reverseRoad mk) Q) n) (mk n ⊕ e)) e k
         (each-map (λ l p q.
         ap₂ eqb (lane-section n l q) (ap (λ ss. endSection ss (mk n ⊕ e)) (sections-over n) ∙ section-end (mk n) (sectionsOf same R n) (l .section) e (member-at n l p q))
         ∙ section-eqb (mk n) (sectionsOf same R n) (l .section) (endSection (sectionsOf same R n) e) (bound-at n l p q) (endSection-bound (sectionsOf same R n) e)
         ∙ ap (λ ss. eqb (l .section) (endSection ss e)) (sym (sections-kept n))) L placed)
 
-    throughPairs-turn : (c : Connection) (k : ℕ) → throughPairs same over (reverseConnection mk c) (signed (mk (c .incoming)) k) ≡ map turnEntry (throughPairs same plain c k)
+    throughPairs-reversed : (c : Connection) (k : ℕ) → throughPairs same over (reverseConnection mk c) (signed (mk (c .incoming)) k) ≡ map reverseEntry (throughPairs same plain c k)
     unfolding throughPairs reverseConnection reversePair
-    throughPairs-turn c k =
+    throughPairs-reversed c k =
         ap (gather (λ p. lookupAtEnd same over (c .connecting) (mk (c .connecting) ⊕ c .contact) (p .to)))
         (keep-map (reversePair mk (c .incoming) (c .connecting)) (λ p. eqb (p .from) (signed (mk (c .incoming)) k)) (c .pairs)
         ∙ ap (map (reversePair mk (c .incoming) (c .connecting))) (keep-ext _ (λ p. eqb (p .from) k) (c .pairs) (each (λ p. signed-eqb (mk (c .incoming)) (p .from) k) (c .pairs))))
         ∙ gather-map (reversePair mk (c .incoming) (c .connecting)) (λ p. lookupAtEnd same over (c .connecting) (mk (c .connecting) ⊕ c .contact) (p .to)) kept
-        ∙ gather-ext _ (λ p. map turnEntry (lookupAtEnd same plain (c .connecting) (c .contact) (p .to))) kept (each (λ p. lookupAtEnd-turn (c .connecting) (c .contact) (p .to)) kept)
-        ∙ sym (map-gather (λ p. lookupAtEnd same plain (c .connecting) (c .contact) (p .to)) turnEntry kept)
+        ∙ gather-ext _ (λ p. map reverseEntry (lookupAtEnd same plain (c .connecting) (c .contact) (p .to))) kept (each (λ p. lookupAtEnd-reversed (c .connecting) (c .contact) (p .to)) kept)
+        ∙ sym (map-gather (λ p. lookupAtEnd same plain (c .connecting) (c .contact) (p .to)) reverseEntry kept)
       where
         kept : List Pair
         kept = keep (λ p. eqb (p .from) k) (c .pairs)
 
-    throughJunction-turn : (n : Span) (k : ℕ) (j : Junction) → throughJunction same over n (signed (mk n) k) (reverseJunction mk j) ≡ map turnEntry (throughJunction same plain n k j)
+    throughJunction-reversed : (n : Span) (k : ℕ) (j : Junction) → throughJunction same over n (signed (mk n) k) (reverseJunction mk j) ≡ map reverseEntry (throughJunction same plain n k j)
     unfolding throughJunction reverseJunction reverseConnection
-    throughJunction-turn n k j =
+    throughJunction-reversed n k j =
         ap (gather (λ c. throughPairs same over c (signed (mk n) k))) (keep-map (reverseConnection mk) (λ c. same (c .incoming) n) (j .connections))
         ∙ gather-map (reverseConnection mk) (λ c. throughPairs same over c (signed (mk n) k)) kept
-        ∙ gather-ext _ (λ c. map turnEntry (throughPairs same plain c k)) kept
-        (each-map (λ c q. ap (λ b. throughPairs same over (reverseConnection mk c) (signed b k)) (sym (S (c .incoming) n q)) ∙ throughPairs-turn c k) kept (keep-each (λ c. same (c .incoming) n) (j .connections)))
-        ∙ sym (map-gather (λ c. throughPairs same plain c k) turnEntry kept)
+        ∙ gather-ext _ (λ c. map reverseEntry (throughPairs same plain c k)) kept
+        (each-map (λ c q. ap (λ b. throughPairs same over (reverseConnection mk c) (signed b k)) (sym (S (c .incoming) n q)) ∙ throughPairs-reversed c k) kept (keep-each (λ c. same (c .incoming) n) (j .connections)))
+        ∙ sym (map-gather (λ c. throughPairs same plain c k) reverseEntry kept)
       where
         kept : List Connection
         kept = keep (λ c. same (c .incoming) n) (j .connections)
 
-    junctionOf-turn : (n : Span) → junctionOf same (map (reverseJunction mk) J) n ≡ mapO (reverseJunction mk) (junctionOf same J n)
+    junctionOf-reversed : (n : Span) → junctionOf same (map (reverseJunction mk) J) n ≡ mapO (reverseJunction mk) (junctionOf same J n)
     unfolding junctionOf reverseJunction
-    junctionOf-turn n = final-map (reverseJunction mk) (λ j. same (j .name) n) J
+    junctionOf-reversed n = final-map (reverseJunction mk) (λ j. same (j .name) n) J
 
-    follow-turn : (l : Lane) (o o′ : Option ℕ) (t : Target) → (t .isJunction ≡ false → o′ ≡ mapO (signed (mk (t .name))) o) →
-        cross same over (reverseLane same mk R l) o′ (reverseTarget mk t) ≡ map turnEntry (cross same plain l o t)
+    cross-reversed : (l : Lane) (o o′ : Option ℕ) (t : Target) → (t .isJunction ≡ false → o′ ≡ mapO (signed (mk (t .name))) o) →
+        cross same over (reverseLane same mk R l) o′ (reverseTarget mk t) ≡ map reverseEntry (cross same plain l o t)
     unfolding reverseTarget reverseLane over plain
-    follow-turn l o o′ t h = go (t .isJunction) refl
+    cross-reversed l o o′ t h = go (t .isJunction) refl
       where
-        through : (x : Option Junction) → listO (mapO (reverseJunction mk) x) (throughJunction same over (l .road) (signed (mk (l .road)) (l .number))) ≡ map turnEntry (listO x (throughJunction same plain (l .road) (l .number)))
+        through : (x : Option Junction) → listO (mapO (reverseJunction mk) x) (throughJunction same over (l .road) (signed (mk (l .road)) (l .number))) ≡ map reverseEntry (listO x (throughJunction same plain (l .road) (l .number)))
         through none = refl
-        through (some j) = throughJunction-turn (l .road) (l .number) j
+        through (some j) = throughJunction-reversed (l .road) (l .number) j
 
-        along : (x : Option ℕ) → listO (mapO (signed (mk (t .name))) x) (lookupAtEnd same over (t .name) (mk (t .name) ⊕ t .contact)) ≡ map turnEntry (listO x (lookupAtEnd same plain (t .name) (t .contact)))
+        along : (x : Option ℕ) → listO (mapO (signed (mk (t .name))) x) (lookupAtEnd same over (t .name) (mk (t .name) ⊕ t .contact)) ≡ map reverseEntry (listO x (lookupAtEnd same plain (t .name) (t .contact)))
         along none = refl
-        along (some k) = lookupAtEnd-turn (t .name) (t .contact) k
+        along (some k) = lookupAtEnd-reversed (t .name) (t .contact) k
 
         go : (b : Bool) → t .isJunction ≡ b →
             cond b (listO (junctionOf same (map (reverseJunction mk) J) (t .name)) (throughJunction same over (l .road) (signed (mk (l .road)) (l .number))))
             (listO o′ (lookupAtEnd same over (t .name) (cond b (t .contact) (mk (t .name) ⊕ t .contact))))
-            ≡ map turnEntry (cond b (listO (junctionOf same J (t .name)) (throughJunction same plain (l .road) (l .number))) (listO o (lookupAtEnd same plain (t .name) (t .contact))))
-        go true q = ap (λ x. listO x (throughJunction same over (l .road) (signed (mk (l .road)) (l .number)))) (junctionOf-turn (t .name)) ∙ through (junctionOf same J (t .name))
+            ≡ map reverseEntry (cond b (listO (junctionOf same J (t .name)) (throughJunction same plain (l .road) (l .number))) (listO o (lookupAtEnd same plain (t .name) (t .contact))))
+        go true q = ap (λ x. listO x (throughJunction same over (l .road) (signed (mk (l .road)) (l .number)))) (junctionOf-reversed (t .name)) ∙ through (junctionOf same J (t .name))
         go false q = ap (λ x. listO x (lookupAtEnd same over (t .name) (mk (t .name) ⊕ t .contact))) (h q) ∙ along o
 
-    link-turn : (l : Lane) (e : Bool) → linkAt (mk (l .road) ⊕ e) (reverseLane same mk R l) ≡ reverseLink same mk R l e
-    link-turn l e = linkAt-turn same mk S R asc l (mk (l .road) ⊕ e) ∙ ap (reverseLink same mk R l) (⊕-self (mk (l .road)) e)
+    link-reversed : (l : Lane) (e : Bool) → linkAt (mk (l .road) ⊕ e) (reverseLane same mk R l) ≡ reverseLink same mk R l e
+    link-reversed l e = linkAt-reversed same mk S R asc l (mk (l .road) ⊕ e) ∙ ap (reverseLink same mk R l) (⊕-self (mk (l .road)) e)
 
-    -- THEOREM 3, exits
-    pub exits-turn : (l : Lane) (e : Bool) → Placed same R l → exits same over (reverseLane same mk R l) (mk (l .road) ⊕ e) ≡ map turnEntry (exits same plain l e)
+    -- the exits of a lane of the reversed map
+    pub exits-reversed : (l : Lane) (e : Bool) → Placed same R l → exits same over (reverseLane same mk R l) (mk (l .road) ⊕ e) ≡ map reverseEntry (exits same plain l e)
     unfolding exits over plain
-    exits-turn l e p = ap (exitsBy same over (reverseLane same mk R l) (mk (l .road) ⊕ e)) next ∙ go (nextSection (sectionsOf same Q (l .road)) (l .section) e) refl
+    exits-reversed l e p = ap (exitsBy same over (reverseLane same mk R l) (mk (l .road) ⊕ e)) next ∙ go (nextSection (sectionsOf same Q (l .road)) (l .section) e) refl
       where
         n : Span
         n = l .road
@@ -164,107 +162,107 @@ module _ (same : Span → Span → Bool) (A : Alike same) (mk : Span → Bool) (
             ≡ mapO (λ i. cond (mk (l .road)) (mirror (sectionsOf same R (l .road)) i) i) (nextSection (sectionsOf same Q (l .road)) (l .section) e)
         next = unfold reverseLane in
             (ap (λ ss. nextSection ss (cond (mk (l .road)) (mirror (sectionsOf same R (l .road)) (l .section)) (l .section)) (mk (l .road) ⊕ e)) (sections-over (l .road))
-            ∙ beyond-turn (mk (l .road)) (sectionsOf same R (l .road)) (l .section) e (sectionsOf-ascend same R (l .road) asc) (placed-bound same R l asc p)
+            ∙ nextSection-reversed (mk (l .road)) (sectionsOf same R (l .road)) (l .section) e (sectionsOf-ascend same R (l .road) asc) (placed-bound same R l asc p)
             ∙ ap (λ ss. mapO (λ i. cond (mk (l .road)) (mirror (sectionsOf same R (l .road)) i) i) (nextSection ss (l .section) e)) (sym (sections-kept (l .road))))
 
         kept : (o : Option ℕ) → nextSection (sectionsOf same Q (l .road)) (l .section) e ≡ o → leadsTo same R l e ≡ leadsBy same R l e o
         kept o q = unfold leadsTo in ap (leadsBy same R l e) (ap (λ ss. nextSection ss (l .section) e) (sym (sections-kept (l .road))) ∙ q)
 
         linked : (x : Option Span) → leadsTo same R l e ≡ x → linkAt (mk (l .road) ⊕ e) (reverseLane same mk R l) ≡ mapO (signed (marks mk x)) (linkAt e l)
-        linked x q = link-turn l e ∙ (unfold reverseLink in ap (λ y. mapO (signed (marks mk y)) (linkAt e l)) q)
+        linked x q = link-reversed l e ∙ (unfold reverseLink in ap (λ y. mapO (signed (marks mk y)) (linkAt e l)) q)
 
         inner : (s : ℕ) → nextSection (sectionsOf same Q (l .road)) (l .section) e ≡ some s → (o : Option ℕ) →
             listO (mapO (signed (mk (l .road))) o) (lookup same (map (reverseLane same mk R) L) (l .road) (cond (mk (l .road)) (mirror (sectionsOf same R (l .road)) s) s) (mk (l .road) ⊕ not e))
-            ≡ map turnEntry (listO o (lookup same L (l .road) s (not e)))
+            ≡ map reverseEntry (listO o (lookup same L (l .road) s (not e)))
         inner s q none = refl
-        inner s q (some k) = enter-turn L (l .road) s (cond (mk (l .road)) (mirror (sectionsOf same R (l .road)) s) s) (not e) k
+        inner s q (some k) = lookup-reversed L (l .road) s (cond (mk (l .road)) (mirror (sectionsOf same R (l .road)) s) s) (not e) k
             (each-map (λ a pa qa. ap (λ x. eqb x (cond (mk (l .road)) (mirror (sectionsOf same R (l .road)) s) s)) (lane-section (l .road) a qa)
             ∙ section-eqb (mk (l .road)) (sectionsOf same R (l .road)) (a .section) s (bound-at (l .road) a pa qa)
-            (beyond-bound (sectionsOf same R (l .road)) (l .section) e s (sectionsOf-ascend same R (l .road) asc) (ap (λ ss. nextSection ss (l .section) e) (sym (sections-kept (l .road))) ∙ q))) L placed)
+            (nextSection-bound (sectionsOf same R (l .road)) (l .section) e s (sectionsOf-ascend same R (l .road) asc) (ap (λ ss. nextSection ss (l .section) e) (sym (sections-kept (l .road))) ∙ q))) L placed)
 
         outer : (o : Option Road) → roadOf same Q (l .road) ≡ o → nextSection (sectionsOf same Q (l .road)) (l .section) e ≡ none →
             listO (bindO (mapO (reverseRoad mk) o) (targetAt (mk (l .road) ⊕ e))) (cross same over (reverseLane same mk R l) (linkAt (mk (l .road) ⊕ e) (reverseLane same mk R l)))
-            ≡ map turnEntry (listO (bindO o (targetAt e)) (cross same plain l (linkAt e l)))
+            ≡ map reverseEntry (listO (bindO o (targetAt e)) (cross same plain l (linkAt e l)))
         outer none q w = refl
         outer (some r) q w =
             ap (λ x. listO x (cross same over (reverseLane same mk R l) (linkAt (mk (l .road) ⊕ e) (reverseLane same mk R l))))
-            (targetAt-turn mk (mk (l .road) ⊕ e) r ∙ ap (λ b. mapO (reverseTarget mk) (targetAt b r)) (ap (λ x. x ⊕ (mk (l .road) ⊕ e)) (S (r .name) (l .road) (roadOf-name same Q (l .road) r q)) ∙ ⊕-self (mk (l .road)) e))
+            (targetAt-reversed mk (mk (l .road) ⊕ e) r ∙ ap (λ b. mapO (reverseTarget mk) (targetAt b r)) (ap (λ x. x ⊕ (mk (l .road) ⊕ e)) (S (r .name) (l .road) (roadOf-name same Q (l .road) r q)) ∙ ⊕-self (mk (l .road)) e))
             ∙ leaf (targetAt e r) refl
           where
             leaf : (t : Option Target) → targetAt e r ≡ t →
-                listO (mapO (reverseTarget mk) t) (cross same over (reverseLane same mk R l) (linkAt (mk (l .road) ⊕ e) (reverseLane same mk R l))) ≡ map turnEntry (listO t (cross same plain l (linkAt e l)))
+                listO (mapO (reverseTarget mk) t) (cross same over (reverseLane same mk R l) (linkAt (mk (l .road) ⊕ e) (reverseLane same mk R l))) ≡ map reverseEntry (listO t (cross same plain l (linkAt e l)))
             leaf none v = refl
-            leaf (some t) v = follow-turn l (linkAt e l) (linkAt (mk (l .road) ⊕ e) (reverseLane same mk R l)) t
+            leaf (some t) v = cross-reversed l (linkAt e l) (linkAt (mk (l .road) ⊕ e) (reverseLane same mk R l)) t
                 (λ z. linked (some (t .name)) (kept none w ∙ roadward-kept (l .road) (t .name) e
                 (unfold roadward in (ap (λ o. bindO (bindO o (targetAt e)) roadNamed) q ∙ ap (λ o. bindO o roadNamed) v ∙ ap {B = Option Span} (λ b. cond b none (some (t .name))) z))))
 
         go : (o : Option ℕ) → nextSection (sectionsOf same Q (l .road)) (l .section) e ≡ o →
-            exitsBy same over (reverseLane same mk R l) (mk (l .road) ⊕ e) (mapO (λ i. cond (mk (l .road)) (mirror (sectionsOf same R (l .road)) i) i) o) ≡ map turnEntry (exitsBy same plain l e o)
+            exitsBy same over (reverseLane same mk R l) (mk (l .road) ⊕ e) (mapO (λ i. cond (mk (l .road)) (mirror (sectionsOf same R (l .road)) i) i) o) ≡ map reverseEntry (exitsBy same plain l e o)
         go (some s) q = unfold reverseLane in
             (ap₂ (λ x b. listO x (lookup same (map (reverseLane same mk R) L) (l .road) (cond (mk (l .road)) (mirror (sectionsOf same R (l .road)) s) s) b)) (linked (some (l .road)) (kept (some s) q)) (sym (⊕-not (mk (l .road)) e))
             ∙ inner s q (linkAt e l))
         go none q = unfold reverseLane in
-            (ap (λ x. listO (bindO x (targetAt (mk (l .road) ⊕ e))) (cross same over (reverseLane same mk R l) (linkAt (mk (l .road) ⊕ e) (reverseLane same mk R l)))) (roadOf-turn same mk S Q (l .road))
+            (ap (λ x. listO (bindO x (targetAt (mk (l .road) ⊕ e))) (cross same over (reverseLane same mk R l) (linkAt (mk (l .road) ⊕ e) (reverseLane same mk R l)))) (roadOf-reversed same mk S Q (l .road))
             ∙ outer (roadOf same Q (l .road)) refl q)
 
-    entries-turn : (xs : List Entry) → map entryId (map turnEntry xs) ≡ map entryId xs
-    unfolding entryId turnEntry reverseLane
-    entries-turn xs = map-map turnEntry entryId xs
+    entryId-reversed : (xs : List Entry) → map entryId (map reverseEntry xs) ≡ map entryId xs
+    unfolding entryId reverseEntry reverseLane
+    entryId-reversed xs = map-map entryId reverseEntry xs
 
-    away-turn : (x : Entry) → runsAway (turnEntry x) ≡ runsAway x
-    unfolding runsAway turnEntry reverseLane
-    away-turn x = turned-away (mk (x .lane .road)) (x .lane .direction) (x .contact)
+    runsAway-reversed : (x : Entry) → runsAway (reverseEntry x) ≡ runsAway x
+    unfolding runsAway reverseEntry reverseLane
+    runsAway-reversed x = reverseDirection-away (mk (x .lane .road)) (x .lane .direction) (x .contact)
 
-    -- THEOREM 3, successorsOf successors
-    pub own-turn : (l : Lane) → Placed same R l → successorsOf same over (reverseLane same mk R l) ≡ successorsOf same plain l
+    -- the successors that it finds by its own links
+    pub successorsOf-reversed : (l : Lane) → Placed same R l → successorsOf same over (reverseLane same mk R l) ≡ successorsOf same plain l
     unfolding successorsOf
-    own-turn l p = unfold reverseLane in go (mk (l .road)) (l .direction) (λ e. ap (exits same over (reverseLane same mk R l)) (sym (⊕-self (mk (l .road)) e)) ∙ exits-turn l (mk (l .road) ⊕ e) p)
+    successorsOf-reversed l p = unfold reverseLane in go (mk (l .road)) (l .direction) (λ e. ap (exits same over (reverseLane same mk R l)) (sym (⊕-self (mk (l .road)) e)) ∙ exits-reversed l (mk (l .road) ⊕ e) p)
       where
         X : Bool → List Entry
         X e = exits same plain l e
 
-        ids : (e : Bool) → map entryId (map turnEntry (X e)) ≡ map entryId (X e)
-        ids e = entries-turn (X e)
+        ids : (e : Bool) → map entryId (map reverseEntry (X e)) ≡ map entryId (X e)
+        ids e = entryId-reversed (X e)
 
-        kept : (xs : List Entry) → map entryId (keep runsAway (map turnEntry xs)) ≡ map entryId (keep runsAway xs)
-        kept xs = ap (map entryId) (keep-map turnEntry runsAway xs ∙ ap (map turnEntry) (keep-ext (λ x. runsAway (turnEntry x)) runsAway xs (each away-turn xs))) ∙ entries-turn (keep runsAway xs)
+        kept : (xs : List Entry) → map entryId (keep runsAway (map reverseEntry xs)) ≡ map entryId (keep runsAway xs)
+        kept xs = ap (map entryId) (keep-map reverseEntry runsAway xs ∙ ap (map reverseEntry) (keep-ext (λ x. runsAway (reverseEntry x)) runsAway xs (each runsAway-reversed xs))) ∙ entryId-reversed (keep runsAway xs)
 
         split : (xs ys : List Entry) → map entryId (keep runsAway (xs ++ ys)) ≡ map entryId (keep runsAway xs) ++ map entryId (keep runsAway ys)
         split xs ys = ap (map entryId) (keep-append runsAway xs ys) ∙ map-append entryId (keep runsAway xs) (keep runsAway ys)
 
-        go : (b : Bool) (d : Direction) → ((e : Bool) → exits same over (reverseLane same mk R l) e ≡ map turnEntry (X (b ⊕ e))) → successorsBy same over (reverseLane same mk R l) (reverseDirection b d) ≡ successorsBy same plain l d
+        go : (b : Bool) (d : Direction) → ((e : Bool) → exits same over (reverseLane same mk R l) e ≡ map reverseEntry (X (b ⊕ e))) → successorsBy same over (reverseLane same mk R l) (reverseDirection b d) ≡ successorsBy same plain l d
         go false Forward h = ap sort (ap (map entryId) (h true) ∙ ids true)
         go false Backward h = ap sort (ap (map entryId) (h false) ∙ ids false)
-        go false Both h = ap (λ x. once (sort x)) (ap₂ (λ x y. map entryId (keep runsAway (x ++ y))) (h true) (h false) ∙ split (map turnEntry (X true)) (map turnEntry (X false))
+        go false Both h = ap (λ x. once (sort x)) (ap₂ (λ x y. map entryId (keep runsAway (x ++ y))) (h true) (h false) ∙ split (map reverseEntry (X true)) (map reverseEntry (X false))
             ∙ ap₂ (λ x y. x ++ y) (kept (X true)) (kept (X false)) ∙ sym (split (X true) (X false)))
         go true Forward h = ap sort (ap (map entryId) (h false) ∙ ids true)
         go true Backward h = ap sort (ap (map entryId) (h true) ∙ ids false)
-        go true Both h = ap once (ap sort (ap₂ (λ x y. map entryId (keep runsAway (x ++ y))) (h true) (h false) ∙ split (map turnEntry (X false)) (map turnEntry (X true))
+        go true Both h = ap once (ap sort (ap₂ (λ x y. map entryId (keep runsAway (x ++ y))) (h true) (h false) ∙ split (map reverseEntry (X false)) (map reverseEntry (X true))
             ∙ ap₂ (λ x y. x ++ y) (kept (X false)) (kept (X true))) ∙ sort-swap (map entryId (keep runsAway (X false))) (map entryId (keep runsAway (X true))) ∙ ap sort (sym (split (X true) (X false))))
 
--- the finished lists cross from the successorsOf successors
+-- the finished lists follow from the successors that each lane finds
 module _ (same : Span → Span → Bool) (m m′ : Map) (f : Lane → Lane)
     (ids : (l : Lane) → f l .identity ≡ l .identity) (ways : (l : Lane) → isBoth (f l .direction) ≡ isBoth (l .direction))
-    (lanes : m′ .lanes ≡ map f (m .lanes)) (owns : Each (λ l. successorsOf same m′ (f l) ≡ successorsOf same m l) (m .lanes)) where
-  back-same : (l b : Lane) → successorsOf same m′ (f l) ≡ successorsOf same m l → successorsOf same m′ (f b) ≡ successorsOf same m b → findsBack same m′ (f l) (f b) ≡ findsBack same m l b
+    (lanes : m′ .lanes ≡ map f (m .lanes)) (all-alike : Each (λ l. successorsOf same m′ (f l) ≡ successorsOf same m l) (m .lanes)) where
+  findsBack-same : (l b : Lane) → successorsOf same m′ (f l) ≡ successorsOf same m l → successorsOf same m′ (f b) ≡ successorsOf same m b → findsBack same m′ (f l) (f b) ≡ findsBack same m l b
   unfolding findsBack
-  back-same l b p q = ap₂ (λ x y. x && y) (ap₂ (λ x y. x && y) (ways b) (ap₂ member (ids l) q)) (ap not (ap₂ member (ids b) p))
+  findsBack-same l b p q = ap₂ (λ x y. x && y) (ap₂ (λ x y. x && y) (ways b) (ap₂ member (ids l) q)) (ap not (ap₂ member (ids b) p))
 
-  added-same : (l : Lane) → successorsOf same m′ (f l) ≡ successorsOf same m l → backLinks same m′ (f l) ≡ backLinks same m l
+  backLinks-same : (l : Lane) → successorsOf same m′ (f l) ≡ successorsOf same m l → backLinks same m′ (f l) ≡ backLinks same m l
   unfolding backLinks
-  added-same l p = ap₂ (λ b xs. cond b xs []) (ways l)
+  backLinks-same l p = ap₂ (λ b xs. cond b xs []) (ways l)
       (ap (λ x. map (λ b. b .identity) (keep (findsBack same m′ (f l)) x)) lanes
-      ∙ ap (map (λ b. b .identity)) (keep-map f (findsBack same m′ (f l)) (m .lanes) ∙ ap (map f) (keep-ext (λ b. findsBack same m′ (f l) (f b)) (findsBack same m l) (m .lanes) (each-map (λ b q. back-same l b p q) (m .lanes) owns)))
-      ∙ map-map f (λ b. b .identity) (keep (findsBack same m l) (m .lanes))
+      ∙ ap (map (λ b. b .identity)) (keep-map f (findsBack same m′ (f l)) (m .lanes) ∙ ap (map f) (keep-ext (λ b. findsBack same m′ (f l) (f b)) (findsBack same m l) (m .lanes) (each-map (λ b q. findsBack-same l b p q) (m .lanes) all-alike)))
+      ∙ map-map (λ b. b .identity) f (keep (findsBack same m l) (m .lanes))
       ∙ map-ext _ _ (keep (findsBack same m l) (m .lanes)) (each ids (keep (findsBack same m l) (m .lanes))))
 
   pub successors-same : Each (λ l. successors same m′ (f l) ≡ successors same m l) (m .lanes)
   unfolding successors
-  successors-same = each-map (λ l p. ap₂ (λ x y. sort (x ++ y)) p (added-same l p)) (m .lanes) owns
+  successors-same = each-map (λ l p. ap₂ (λ x y. sort (x ++ y)) p (backLinks-same l p)) (m .lanes) all-alike
 
-  pub before-same : (l : Lane) → predecessors same m′ (f l) ≡ predecessors same m l
+  pub predecessors-same : (l : Lane) → predecessors same m′ (f l) ≡ predecessors same m l
   unfolding predecessors
-  before-same l = ap sort (ap (gather (λ a. map (λ i. a .identity) (keep (eqb (f l .identity)) (successors same m′ a)))) lanes
+  predecessors-same l = ap sort (ap (gather (λ a. map (λ i. a .identity) (keep (eqb (f l .identity)) (successors same m′ a)))) lanes
       ∙ gather-map f (λ a. map (λ i. a .identity) (keep (eqb (f l .identity)) (successors same m′ a))) (m .lanes)
       ∙ gather-ext _ (λ a. map (λ i. a .identity) (keep (eqb (l .identity)) (successors same m a))) (m .lanes)
       (each-map (λ a q. ap₂ (λ x y. map (λ i. x) y) (ids a) (ap₂ (λ x y. keep (eqb x) y) (ids l) q)) (m .lanes) successors-same))

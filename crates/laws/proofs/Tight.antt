@@ -8,22 +8,21 @@ use native.Mathlib.Omega.{arith}
 use lib.Dec.{eqb, ltb}
 use lib.ListN.{length, length-append, length-map}
 use borrow.Author.Tests.{eqb-true, eq-eqb, ltb-false}
-use Rattle.geometry.specs.declared.gap.Direction.{Direction}
-use Rattle.geometry.specs.declared.gap.Direction.the-variants.{Backward, Both, Forward}
-use Rattle.model.specs.Lists.{bindO, distinct, final, first, gather, keep, lastOr, listO, member, orElse, sort}
+use Rattle.model.specs.Lists.{bindO, distinct, final, first, gather, keep, lastOr, listO, member, orElse}
 use Rattle.model.specs.Records.{Connection, Junction, Lane, Map, Pair, Span, Target, linkAt, targetAt}
 use Rattle.model.specs.Repair.{roadOf}
 use Rattle.model.specs.Rules.{sameKey}
-use Rattle.model.specs.Succession.{Entry, backLinks, cross, endSection, entryId, exits, exitsBy, findsBack, isBoth, junctionOf, lookup, lookupAtEnd, nextSection, runsAway, sectionsOf, standsAt, successorLists, successors, successorsBy, successorsOf, throughJunction, throughPairs}
+use Rattle.model.specs.Succession.{Entry, backLinks, cross, endSection, exits, exitsBy, findsBack, isBoth, junctionOf, lookup, lookupAtEnd, nextSection, sectionsOf, standsAt, successorLists, successors, successorsOf, throughJunction, throughPairs}
 use Rattle.model.specs.Tables.{bit}
-use Rattle.laws.proofs.Basics.{each, each-map, each-member, gather-map}
-use Rattle.laws.proofs.Bound.{enter-one, found-few, gather-sum, length-keep, length-once, length-sort, sum-ext, sum-le, sum-plus, sum-swap, sumOf}
+use Rattle.laws.proofs.Basics.{gather-map, no-some}
+use Rattle.laws.proofs.Bound.{found-few, gather-sum, length-sort, lookup-one, successorsOf-exits, sum-ext, sum-le, sum-plus, sum-swap, sumOf}
+use Rattle.laws.proofs.ForEach.{each-map, each-member}
+use Rattle.laws.proofs.ListTests.{and-both}
 use Rattle.laws.proofs.Mirror.{below-last}
-use Rattle.laws.proofs.Names.{no-some, sectionsOf-ascends, sectionsOf-same}
-use Rattle.laws.proofs.RulesReversed.{and-both}
+use Rattle.laws.proofs.Names.{sectionsOf-ascends, sectionsOf-same}
 use Rattle.laws.proofs.Valid.{Alike, Ascends, Each, Placed, Valid}
 
--- ---- a lane with no section nextSection stands in the section at that end
+-- ---- a lane with no further section stands in the section at that end
 first-none : (p : ℕ → Bool) (xs : List ℕ) → first p xs ≡ none → Each (λ x. p x ≡ false) xs
 first-none p [] h = tt
 first-none p (x ∷ xs) h = go (p x) refl h (first-none p xs)
@@ -129,7 +128,7 @@ module _ (same : Span → Span → Bool) (A : Alike same) (m : Map) (v : Valid s
     where
       one : (c : Connection) → same (c .incoming) (l .road) ≡ true → length (throughPairs same m c (l .number)) ≤ sumOf (λ p. serves e c p l) (c .pairs)
       one c q = kept-sum (λ p. eqb (p .from) (l .number)) (λ p. lookupAtEnd same m (c .connecting) (c .contact) (p .to)) (λ p. serves e c p l) (c .pairs)
-          (λ p r. let a = enter-one same A m keys (c .connecting) (endSection (sectionsOf same (m .roads) (c .connecting)) (c .contact)) (c .contact) (p .to) in let b = one-served e l w h c p q r in omega arith)
+          (λ p r. let a = lookup-one same A m keys (c .connecting) (endSection (sectionsOf same (m .roads) (c .connecting)) (c .contact)) (c .contact) (p .to) in let b = one-served e l w h c p q r in omega arith)
 
   listO-one : (o : Option ℕ) (f : ℕ → List Entry) → ((k : ℕ) → length (f k) ≤ 1) → length (listO o f) ≤ 1
   listO-one none f h = omega arith
@@ -141,21 +140,21 @@ module _ (same : Span → Span → Bool) (A : Alike same) (m : Map) (v : Valid s
     where
       by : nextSection (sectionsOf same (m .roads) (l .road)) (l .section) e ≡ none → (t : Target) (b : Bool) → length (cond b (listO (junctionOf same (m .junctions) (t .name)) (throughJunction same m (l .road) (l .number))) (listO (linkAt e l) (lookupAtEnd same m (t .name) (t .contact)))) ≤ 1 + sumOf (served e l) (m .junctions)
       by h t true = let a = final-sum (λ j. same (j .name) (t .name)) (throughJunction same m (l .road) (l .number)) (served e l) (m .junctions) (junction-served e l w h) in omega arith
-      by h t false = let a = listO-one (linkAt e l) (lookupAtEnd same m (t .name) (t .contact)) (λ k. enter-one same A m keys (t .name) (endSection (sectionsOf same (m .roads) (t .name)) (t .contact)) (t .contact) k) in omega arith
+      by h t false = let a = listO-one (linkAt e l) (lookupAtEnd same m (t .name) (t .contact)) (λ k. lookup-one same A m keys (t .name) (endSection (sectionsOf same (m .roads) (t .name)) (t .contact)) (t .contact) k) in omega arith
 
       on : nextSection (sectionsOf same (m .roads) (l .road)) (l .section) e ≡ none → (o : Option Target) → length (listO o (cross same m l (linkAt e l))) ≤ 1 + sumOf (served e l) (m .junctions)
       on h none = omega arith
       on h (some t) = by h t (t .isJunction)
 
       go : (o : Option ℕ) → nextSection (sectionsOf same (m .roads) (l .road)) (l .section) e ≡ o → length (exitsBy same m l e o) ≤ 1 + sumOf (served e l) (m .junctions)
-      go (some s) h = let a = listO-one (linkAt e l) (lookup same (m .lanes) (l .road) s (not e)) (λ k. enter-one same A m keys (l .road) s (not e) k) in omega arith
+      go (some s) h = let a = listO-one (linkAt e l) (lookup same (m .lanes) (l .road) s (not e)) (λ k. lookup-one same A m keys (l .road) s (not e) k) in omega arith
       go none h = on h (bindO (roadOf same (m .roads) (l .road)) (targetAt e))
 
   -- a pair serves one lane at an end
   pair-once : (e : Bool) (c : Connection) (p : Pair) → sumOf (λ l. serves e c p l) (m .lanes) ≤ 1
   unfolding serves
   pair-once e c p = let a = keep-sum (standsAt same (c .incoming) (endSection (sectionsOf same (m .roads) (c .incoming)) e) (p .from)) (m .lanes) in
-      let b = enter-one same A m keys (c .incoming) (endSection (sectionsOf same (m .roads) (c .incoming)) e) e (p .from) in
+      let b = lookup-one same A m keys (c .incoming) (endSection (sectionsOf same (m .roads) (c .incoming)) e) e (p .from) in
       let d = entered in omega arith
     where
       entered : length (lookup same (m .lanes) (c .incoming) (endSection (sectionsOf same (m .roads) (c .incoming)) e) e (p .from)) ≡ length (keep (standsAt same (c .incoming) (endSection (sectionsOf same (m .roads) (c .incoming)) e) (p .from)) (m .lanes))
@@ -192,31 +191,15 @@ module _ (same : Span → Span → Bool) (A : Alike same) (m : Map) (v : Valid s
       let c = sum-one (m .lanes) in
       let d = all-served e in omega arith
 
-  own-all : sumOf (λ l. length (successorsOf same m l)) (m .lanes) ≤ (length (m .lanes) + pairsIn) + (length (m .lanes) + pairsIn)
-  own-all =
-      let a = sum-le (λ (l : Lane). length (successorsOf same m l)) (λ l. length (exits same m l true) + length (exits same m l false)) (m .lanes) one in
+  successorsOf-all : sumOf (λ l. length (successorsOf same m l)) (m .lanes) ≤ (length (m .lanes) + pairsIn) + (length (m .lanes) + pairsIn)
+  successorsOf-all =
+      let a = sum-le (λ (l : Lane). length (successorsOf same m l)) (λ l. length (exits same m l true) + length (exits same m l false)) (m .lanes) (successorsOf-exits same m) in
       let b = sum-plus (λ (l : Lane). length (exits same m l true)) (λ l. length (exits same m l false)) (m .lanes) in
       let c = exits-all true in let d = exits-all false in omega arith
-    where
-      one : (l : Lane) → length (successorsOf same m l) ≤ length (exits same m l true) + length (exits same m l false)
-      one l = unfold successorsOf in go (l .direction)
-        where
-          side : (e : Bool) → length (sort (map entryId (exits same m l e))) ≡ length (exits same m l e)
-          side e = length-sort (map entryId (exits same m l e)) ∙ length-map (exits same m l e) entryId
-
-          go : (d : Direction) → length (successorsBy same m l d) ≤ length (exits same m l true) + length (exits same m l false)
-          go Forward = let a = side true in omega arith
-          go Backward = let a = side false in omega arith
-          go Both =
-              let a = length-once (sort (map entryId (keep runsAway (exits same m l true ++ exits same m l false)))) in
-              let b = length-sort (map entryId (keep runsAway (exits same m l true ++ exits same m l false))) in
-              let c = length-map (keep runsAway (exits same m l true ++ exits same m l false)) entryId in
-              let d = length-keep runsAway (exits same m l true ++ exits same m l false) in
-              let e = length-append (exits same m l true) (exits same m l false) in omega arith
 
   module _ (ids : distinct (λ (a b : Lane). eqb (a .identity) (b .identity)) (m .lanes) ≡ true) where
-    added-all : sumOf (λ l. length (backLinks same m l)) (m .lanes) ≤ sumOf (λ l. length (successorsOf same m l)) (m .lanes)
-    added-all =
+    backLinks-all : sumOf (λ l. length (backLinks same m l)) (m .lanes) ≤ sumOf (λ l. length (successorsOf same m l)) (m .lanes)
+    backLinks-all =
         let a = sum-le (λ (l : Lane). length (backLinks same m l)) (λ l. sumOf (λ (b : Lane). length (keep (eqb (l .identity)) (successorsOf same m b))) (m .lanes)) (m .lanes) one in
         let b = sum-swap (λ (l b : Lane). length (keep (eqb (l .identity)) (successorsOf same m b))) (m .lanes) (m .lanes) in
         let c = sum-le (λ (b : Lane). sumOf (λ (l : Lane). length (keep (eqb (l .identity)) (successorsOf same m b))) (m .lanes)) (λ b. length (successorsOf same m b)) (m .lanes) (λ b. found-few (m .lanes) ids (successorsOf same m b)) in
@@ -252,7 +235,7 @@ module _ (same : Span → Span → Bool) (A : Alike same) (m : Map) (v : Valid s
     ids-tight =
         let a = ap length (gather-map (successors same m) (λ (l : List ℕ). l) (m .lanes)) ∙ gather-sum (successors same m) (m .lanes) ∙ sum-ext (λ l. length (successors same m l)) (λ l. length (successorsOf same m l) + length (backLinks same m l)) (m .lanes) one in
         let b = sum-plus (λ (l : Lane). length (successorsOf same m l)) (λ l. length (backLinks same m l)) (m .lanes) in
-        let c = own-all in let d = added-all in omega arith
+        let c = successorsOf-all in let d = backLinks-all in omega arith
       where
         one : (l : Lane) → length (successors same m l) ≡ length (successorsOf same m l) + length (backLinks same m l)
         one l = unfold successors in (length-sort (successorsOf same m l ++ backLinks same m l) ∙ length-append (successorsOf same m l) (backLinks same m l))

@@ -5,10 +5,10 @@ use mathlib.Core.List.{List, [], _∷_, map}
 use Prim.Native.Nat.{ℕ, _<_}
 use lib.Dec.{leb}
 use Rattle.model.specs.Lists.{_⊕_, every, member}
-use Rattle.model.specs.Records.{Span, Road, Junction, Lane, Map, EdgedLane}
+use Rattle.model.specs.Records.{EdgedLane, Junction, Lane, Map, Road, Span}
+use Rattle.model.specs.Reversal.{reverseEdged, reverseMap}
+use Rattle.model.specs.Rules.{isDirect, namesTwice, pairFine}
 use Rattle.model.specs.Succession.{sectionsOf}
-use Rattle.model.specs.Reversal.{reverseMap, reverseEdged}
-use Rattle.model.specs.Rules.{pairFine, isDirect, namesTwice}
 
 -- P of every element
 abbrev pub Each : {A : Type 0} → (A → Type 0) → List A → Type 0
@@ -42,8 +42,8 @@ abbrev pub Single : (Span → Span → Bool) → (Span → Bool) → List Road �
 Single same mk rs j = Each (λ r. mk (r .name) ≡ true → namesTwice same j r ≡ false) rs
 
 -- no marked road names one direct junction at both ends
-abbrev pub Turnable : (Span → Span → Bool) → (Span → Bool) → Map → Type 0
-Turnable same mk m = Each (λ j. isDirect (j .kind) ≡ true → Single same mk (m .roads) (j .name)) (m .junctions)
+abbrev pub Reversible : (Span → Span → Bool) → (Span → Bool) → Map → Type 0
+Reversible same mk m = Each (λ j. isDirect (j .kind) ≡ true → Single same mk (m .roads) (j .name)) (m .junctions)
 
 -- the same, as a test by junctions
 unfoldable pub noneTwice : (Span → Span → Bool) → (Span → Bool) → Map → Bool

@@ -1,6 +1,6 @@
--- Repair's warnings on the reversed map: the same, but for the end of a marked road. 
+-- Repair's warnings on the reversed map: the same, but for the end of a marked road.
 use mathlib.Core.Path.{_≡_, refl, sym, _∙_, ap, ap₂}
-use mathlib.Core.Bool.{Bool, true, false}
+use mathlib.Core.Bool.{Bool}
 use mathlib.Core.Option.{Option, none, some}
 use mathlib.Core.List.{List, [], _∷_, _++_, map, map-append}
 use Prim.Native.Nat.{ℕ, suc}
@@ -8,24 +8,24 @@ use Rattle.model.specs.Lists.{_⊕_, listO, mapO}
 use Rattle.model.specs.Records.{Connection, Junction, JunctionKind, Map, Road, Span, common, direct, virtual}
 use Rattle.model.specs.Repair.{missingEnd, missingLink, repairRoads, startRoads, warnAfter, warnAll, warnOne, warnOver, warnings}
 use Rattle.model.specs.Reversal.{reverseConnection, reverseJunction, reverseMap, reverseWarning}
-use Rattle.laws.proofs.RepairReversed.{Turned, missing-both, missingLink-both, repairRoads-both, start-both}
+use Rattle.laws.proofs.RepairReversed.{AsReversed, missingEnd-both, missingLink-both, repairRoads-both, startRoads-both}
 use Rattle.laws.proofs.Valid.{Alike, Steady}
 
 module _ (same : Span → Span → Bool) (A : Alike same) (mk : Span → Bool) (S : Steady same mk) where
-  one-both : (i : ℕ) (j : Span) (c : Connection) (rs rs′ : List Road) → Turned same A mk S rs rs′ → warnOne same i j (reverseConnection mk c) rs′ ≡ map (reverseWarning mk) (warnOne same i j c rs)
+  one-both : (i : ℕ) (j : Span) (c : Connection) (rs rs′ : List Road) → AsReversed same A mk S rs rs′ → warnOne same i j (reverseConnection mk c) rs′ ≡ map (reverseWarning mk) (warnOne same i j c rs)
   unfolding warnOne reverseConnection reverseWarning
-  one-both i j c rs rs′ T = ap (λ o. listO o (λ e. record { junctionRow = i; road = c .incoming; atEnd = e } ∷ [])) (missing-both same A mk S rs rs′ j c T) ∙ go (missingEnd same rs j c)
+  one-both i j c rs rs′ T = ap (λ o. listO o (λ e. record { junctionRow = i; road = c .incoming; atEnd = e } ∷ [])) (missingEnd-both same A mk S rs rs′ j c T) ∙ go (missingEnd same rs j c)
     where
       go : (o : Option Bool) → listO (mapO (λ e. mk (c .incoming) ⊕ e) o) (λ e. record { junctionRow = i; road = c .incoming; atEnd = e } ∷ []) ≡ map (reverseWarning mk) (listO o (λ e. record { junctionRow = i; road = c .incoming; atEnd = e } ∷ []))
       go none = refl
       go (some e) = refl
 
-  all-both : (i : ℕ) (j : Span) (cs : List Connection) (rs rs′ : List Road) → Turned same A mk S rs rs′ → warnAll same i j (map (reverseConnection mk) cs) rs′ ≡ map (reverseWarning mk) (warnAll same i j cs rs)
+  all-both : (i : ℕ) (j : Span) (cs : List Connection) (rs rs′ : List Road) → AsReversed same A mk S rs rs′ → warnAll same i j (map (reverseConnection mk) cs) rs′ ≡ map (reverseWarning mk) (warnAll same i j cs rs)
   all-both i j [] rs rs′ T = refl
   all-both i j (c ∷ cs) rs rs′ T = ap₂ (λ x y. x ++ y) (one-both i j c rs rs′ T) (all-both i j cs (missingLink same j c rs) (missingLink same j (reverseConnection mk c) rs′) (missingLink-both same A mk S rs rs′ j c T))
       ∙ sym (map-append (reverseWarning mk) (warnOne same i j c rs) (warnAll same i j cs (missingLink same j c rs)))
 
-  over-both : (i : ℕ) (js : List Junction) (rs rs′ : List Road) → Turned same A mk S rs rs′ → warnOver same i (map (reverseJunction mk) js) rs′ ≡ map (reverseWarning mk) (warnOver same i js rs)
+  over-both : (i : ℕ) (js : List Junction) (rs rs′ : List Road) → AsReversed same A mk S rs rs′ → warnOver same i (map (reverseJunction mk) js) rs′ ≡ map (reverseWarning mk) (warnOver same i js rs)
   unfolding reverseJunction
   over-both i [] rs rs′ T = refl
   over-both i (j ∷ js) rs rs′ T = ap₂ (λ x y. x ++ y) (go (j .kind)) (over-both (suc i) js (repairRoads same j rs) (repairRoads same (reverseJunction mk j) rs′) (repairRoads-both same A mk S j rs rs′ T))
@@ -36,7 +36,7 @@ module _ (same : Span → Span → Bool) (A : Alike same) (mk : Span → Bool) (
       go direct = refl
       go virtual = refl
 
-  -- THEOREM 2, warnings
+  -- all warnings, in the order of repair
   pub warnings-reversed : (m : Map) → warnings same (reverseMap same mk m) ≡ map (reverseWarning mk) (warnings same m)
   unfolding warnings
-  warnings-reversed m = unfold reverseMap in over-both 0 (m .junctions) (startRoads same m) (startRoads same (reverseMap same mk m)) (start-both same A mk S m)
+  warnings-reversed m = unfold reverseMap in over-both 0 (m .junctions) (startRoads same m) (startRoads same (reverseMap same mk m)) (startRoads-both same A mk S m)

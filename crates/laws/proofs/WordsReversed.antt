@@ -1,4 +1,4 @@
--- Reversal at the word level: what a reversed map's words are, that the rules judge it as the map, and what an accepted call leaves.
+-- Reversal at the word level: what a reversed map's words are, that the rules judge them as the map's, and what an accepted call leaves.
 use mathlib.Core.Path.{_≡_, refl, sym, _∙_, ap, ap₂}
 use mathlib.Core.Bool.{Bool, true, _&&_}
 use mathlib.Core.Option.{none, some}
@@ -8,24 +8,25 @@ use native.Mathlib.Nat.{mul-div-cancel}
 use native.Mathlib.Omega.{arith}
 use lib.Dec.{leb}
 use lib.ListN.{length, getD, length-map}
-use Rattle.model.specs.Calls.{ReversalOutputs, laneRules, longEnough, markRules, putReversed, refused, reversalCall, reversalContent, reversalCounts, reversalLengths, reversalRefusal, reversalRules, rulesTo5, settled, tableRules}
+use Rattle.model.specs.Calls.{ReversalOutputs, laneRules, longEnough, markRules, putReversed, reversalCall, reversalContent, reversalCounts, reversalLengths, reversalRefusal, reversalRules, rulesTo5, settled, tableRules}
 use Rattle.model.specs.Lists.{every, gather}
 use Rattle.model.specs.Records.{Connection, EdgedLane, Junction, Lane, Map, Road, Span}
 use Rattle.model.specs.Reversal.{marked, reverseConnection, reverseEdged, reverseJunction, reverseLane, reverseMap, reverseRoad}
-use Rattle.model.specs.Rows.{rowsFrom, table, word}
-use Rattle.model.specs.Rules.{Rule, edgesSized, firstBroken, fits, laneFine, lanesSized, mapSized, numbersFine, oneEnded, oneEndedIn, pairFine, rule, same, sized}
+use Rattle.model.specs.Rows.{rowsFrom}
+use Rattle.model.specs.Rules.{Rule, edgesSized, firstBroken, fits, laneFine, lanesSized, mapSized, numbersFine, oneEnded, oneEndedIn, pairFine, rule, sized}
 use Rattle.model.specs.Sequence.{Call, after, next, reversedOnceBy, reversedRows, withReversed}
 use Rattle.model.specs.Tables.{Tables, allConnections, allPairs, connectionRow, connectionWords, edgeRow, edgeWords, edgedLanesOf, junctionRow, junctionWords, kindWord, laneRow, laneWords, mapOf, pairRow, pairWords, pairsIn, roadRow, roadWords, sectionWords, tablesOf}
 use Rattle.model.specs.Text.{sameIn}
-use Rattle.laws.proofs.Admitted.{Passed, Sound, Whole, forth, is-edged, is-junctions, is-lanes, is-map, is-roads, is-sound, passed, whole}
-use Rattle.laws.proofs.Basics.{each, each-map}
+use Rattle.laws.proofs.Admitted.{Whole, forth, is-sound, whole}
 use Rattle.laws.proofs.ByBytes.{alike-in}
 use Rattle.laws.proofs.Decoded.{and3}
 use Rattle.laws.proofs.Encoded.{Six, connection-width, edge-width, junction-width, lane-width, pair-width, pairs-back, road-width}
+use Rattle.laws.proofs.ForEach.{each, each-map}
 use Rattle.laws.proofs.Lay.{length-even, length-rowsFrom, take-written}
 use Rattle.laws.proofs.MarkRules.{ends-form, marks-form, pairs-form}
-use Rattle.laws.proofs.RulesReversed.{all-pass, broken-append, ends-reversed, marked-sound, marks-reversed, numbers-reversed, pass-all, sizes, sizes-turn}
-use Rattle.laws.proofs.StaySound.{sound-turn}
+use Rattle.laws.proofs.RulesReversed.{all-pass, broken-append, ends-reversed, marked-steady, marks-reversed, numbers-reversed, pass-all, sizes, sizes-reversed}
+use Rattle.laws.proofs.SoundMaps.{Passed, Sound, is-edged, is-junctions, is-lanes, is-map, is-roads, passed}
+use Rattle.laws.proofs.StaySound.{sound-reversed}
 use Rattle.laws.proofs.Valid.{Each, Model, Steady, junctionFine, markFor, noneTwice, reverseModel}
 
 -- ---- tables of the same lengths
@@ -111,8 +112,8 @@ pub allPairs-nested : (js : List Junction) → allPairs js ≡ gather (λ j. gat
 unfolding allPairs allConnections
 allPairs-nested js = gather-gather (λ j. j .connections) (λ c. c .pairs) js
 
-pub counted-turn : (alike : Span → Span → Bool) (s : Span → Bool) (m : Map) (xs : List EdgedLane) → Counted (reverseMap alike s m) m (map (reverseEdged alike s (m .roads)) xs) xs
-counted-turn alike s m xs = record {
+pub counted-reversed : (alike : Span → Span → Bool) (s : Span → Bool) (m : Map) (xs : List EdgedLane) → Counted (reverseMap alike s m) m (map (reverseEdged alike s (m .roads)) xs) xs
+counted-reversed alike s m xs = record {
   roads = at 0;
   sections = (unfold sectionWords in at 1);
   junctions = (unfold reverseMap in length-map (m .junctions) (reverseJunction s));
@@ -126,7 +127,7 @@ counted-turn alike s m xs = record {
         ∷ length (gather (λ (j : Junction). gather (λ (c : Connection). c .pairs) (j .connections)) (reverseMap alike s m .junctions)) ∷ length (reverseMap alike s m .lanes) ∷ length (reverseMap alike s m .lanes) ∷ []) k 0
         ≡ getD (length (m .roads) ∷ length (gather (λ (r : Road). r .sections) (m .roads)) ∷ length (gather (λ (j : Junction). j .connections) (m .junctions))
         ∷ length (gather (λ (j : Junction). gather (λ (c : Connection). c .pairs) (j .connections)) (m .junctions)) ∷ length (m .lanes) ∷ length (m .lanes) ∷ []) k 0
-    at k = unfold sizes in ap (λ (l : List ℕ). getD l k 0) (sizes-turn alike s m)
+    at k = unfold sizes in ap (λ (l : List ℕ). getD l k 0) (sizes-reversed alike s m)
 
 -- ---- the junction table of a reversed map
 junction-rows : (s : Span → Bool) (i : ℕ) (js : List Junction) → rowsFrom junctionRow (λ j. j .connections) i (map (reverseJunction s) js) ≡ rowsFrom junctionRow (λ j. j .connections) i js
@@ -135,11 +136,11 @@ junction-rows s i [] = refl
 junction-rows s i (j ∷ js) = λ k. (j .name .start ∷ j .name .size ∷ kindWord (j .kind) ∷ i ∷ length-map (j .connections) (reverseConnection s) k ∷ [])
     ++ (ap (λ (n : ℕ). rowsFrom junctionRow (λ (j : Junction). j .connections) (i + n) (map (reverseJunction s) js)) (length-map (j .connections) (reverseConnection s)) ∙ junction-rows s (i + length (j .connections)) js) k
 
-pub junctionWords-turn : (s : Span → Bool) (js : List Junction) → junctionWords (map (reverseJunction s) js) ≡ junctionWords js
+pub junctionWords-reversed : (s : Span → Bool) (js : List Junction) → junctionWords (map (reverseJunction s) js) ≡ junctionWords js
 unfolding junctionWords
-junctionWords-turn s js = junction-rows s 0 js
+junctionWords-reversed s js = junction-rows s 0 js
 
--- ---- the words of a map with its ends
+-- ---- the words of a map with its edges
 abbrev pub wordsOf : List ℕ → Model → Tables
 wordsOf text x = tablesOf text (x .map) (x .edged)
 
@@ -148,12 +149,12 @@ SoundModel text x = Sound text (x .map) (x .edged)
 
 pub sound-model : (text : List ℕ) (s : Span → Bool) → Steady (sameIn text) s → (x : Model) → SoundModel text x → SoundModel text (reverseModel (sameIn text) s x)
 unfolding reverseModel
-sound-model text s S x h = sound-turn text s S (x .map) (x .edged) h
+sound-model text s S x h = sound-reversed text s S (x .map) (x .edged) h
 
 pub even-model : (text : List ℕ) (s : Span → Bool) → Steady (sameIn text) s → (x : Model) → SoundModel text x → Even (wordsOf text (reverseModel (sameIn text) s x)) (wordsOf text x)
 unfolding reverseModel
 even-model text s S x h = even-tables text (reverseMap (sameIn text) s (x .map)) (x .map) (map (reverseEdged (sameIn text) s (x .map .roads)) (x .edged)) (x .edged)
-    (sound-turn text s S (x .map) (x .edged) h .six) (h .six) (counted-turn (sameIn text) s (x .map) (x .edged))
+    (sound-reversed text s S (x .map) (x .edged) h .six) (h .six) (counted-reversed (sameIn text) s (x .map) (x .edged))
 
 -- the roads that marks name on a map
 abbrev pub named : List ℕ → Model → List ℕ → Span → Bool
@@ -184,7 +185,7 @@ module _ (text : List ℕ) (x : Model) (h : SoundModel text x) (marks : List ℕ
     text = text;
     roads = roadWords (map (reverseRoad (named text x marks)) (x .map .roads));
     sections = sectionWords (map (reverseRoad (named text x marks)) (x .map .roads));
-    junctions = sym (junctionWords-turn (named text x marks) (x .map .junctions)) i;
+    junctions = sym (junctionWords-reversed (named text x marks) (x .map .junctions)) i;
     connections = connectionWords (map (reverseJunction (named text x marks)) (x .map .junctions));
     pairs = pairWords (map (reverseJunction (named text x marks)) (x .map .junctions));
     lanes = laneWords (map (reverseLane (sameIn text) (named text x marks) (x .map .roads)) (x .map .lanes));
@@ -248,7 +249,7 @@ refusal-split t marks lengths = refl
 module _ (text : List ℕ) (x : Model) (h : SoundModel text x) (marks : List ℕ) where
   pub lengths-are : reversalLengths (reversalContent (wordsOf text x) marks) ≡ sixLengths (wordsOf text x)
   lengths-are = ap reversalLengths (content-is text x h marks) ∙ six-of text (reverseModel (sameIn text) (named text x marks) x)
-      ∙ six-even (wordsOf text (reverseModel (sameIn text) (named text x marks) x)) (wordsOf text x) (even-model text (named text x marks) (marked-sound (sameIn text) (alike-in text) (x .map .roads) marks) x h)
+      ∙ six-even (wordsOf text (reverseModel (sameIn text) (named text x marks) x)) (wordsOf text x) (even-model text (named text x marks) (marked-steady (sameIn text) (alike-in text) (x .map .roads) marks) x h)
 
   pub callRules-are : (lengths : List ℕ) → callRules (wordsOf text x) marks lengths ≡ modelRules text x marks lengths
   unfolding callRules markRules modelRules numbersFine tablesOf
@@ -264,10 +265,10 @@ module _ (text : List ℕ) (x : Model) (h : SoundModel text x) (marks : List ℕ
       ends-are : oneEnded (wordsOf text x) marks ≡ oneEndedIn (sameIn text) (named text x marks) (x .map .junctions) (x .map .roads)
       ends-are = unfold tablesOf in ap₂ (λ js rs. oneEndedIn (sameIn text) (marked (sameIn text) rs marks) js rs) (is-junctions text (x .map) (x .edged) h) (is-roads text (x .map) (x .edged) h)
 
-pub modelRules-turn : (text : List ℕ) (s : Span → Bool) → Steady (sameIn text) s → (x : Model) → SoundModel text x → (marks lengths : List ℕ) →
+pub modelRules-reversed : (text : List ℕ) (s : Span → Bool) → Steady (sameIn text) s → (x : Model) → SoundModel text x → (marks lengths : List ℕ) →
     modelRules text (reverseModel (sameIn text) s x) marks lengths ≡ modelRules text x marks lengths
 unfolding modelRules
-modelRules-turn text s S x h marks lengths = λ i.
+modelRules-reversed text s S x h marks lengths = λ i.
     rule 12 (at12 i) ∷ rule 13 (at13 i) ∷ rule 14 (at14 i)
     ∷ rule 9 (ap (λ l. fits l lengths) (six-even (wordsOf text (reverseModel (sameIn text) s x)) (wordsOf text x) (even-model text s S x h)) i) ∷ []
   where
@@ -282,8 +283,8 @@ modelRules-turn text s S x h marks lengths = λ i.
 
 -- ---- a sound map that passes, reversed
 module _ (text : List ℕ) (s : Span → Bool) (S : Steady (sameIn text) s) (x : Model) (h : SoundModel text x) (f : Fine (wordsOf text x)) where
-  pub fine-turn : Fine (wordsOf text (reverseModel (sameIn text) s x))
-  fine-turn = record {
+  pub fine-reversed : Fine (wordsOf text (reverseModel (sameIn text) s x))
+  fine-reversed = record {
     sizes = ap₂ (λ a b. a && b) (ap₂ (λ a b. a && b) (mapSized-even (wordsOf text (reverseModel (sameIn text) s x)) (wordsOf text x) e 16384) (lanesSized-even (wordsOf text (reverseModel (sameIn text) s x)) (wordsOf text x) e))
         (edgesSized-even (wordsOf text (reverseModel (sameIn text) s x)) (wordsOf text x) e) ∙ f .sizes;
     rest = passed text (reverseModel (sameIn text) s x .map) (reverseModel (sameIn text) s x .edged) (sound-model text s S x h);
@@ -293,11 +294,11 @@ module _ (text : List ℕ) (s : Span → Bool) (S : Steady (sameIn text) s) (x :
       e = even-model text s S x h
 
   -- a call is refused on the reversed map as on the map
-  pub refusal-turn : (marks lengths : List ℕ) → reversalRefusal (wordsOf text (reverseModel (sameIn text) s x)) marks lengths ≡ reversalRefusal (wordsOf text x) marks lengths
-  refusal-turn marks lengths =
+  pub refusal-reversed : (marks lengths : List ℕ) → reversalRefusal (wordsOf text (reverseModel (sameIn text) s x)) marks lengths ≡ reversalRefusal (wordsOf text x) marks lengths
+  refusal-reversed marks lengths =
       refusal-split (wordsOf text (reverseModel (sameIn text) s x)) marks lengths
-      ∙ broken-append (tableRules (wordsOf text (reverseModel (sameIn text) s x))) (callRules (wordsOf text (reverseModel (sameIn text) s x)) marks lengths) (fine-rules (wordsOf text (reverseModel (sameIn text) s x)) fine-turn)
-      ∙ ap firstBroken (callRules-are text (reverseModel (sameIn text) s x) (sound-model text s S x h) marks lengths ∙ modelRules-turn text s S x h marks lengths ∙ sym (callRules-are text x h marks lengths))
+      ∙ broken-append (tableRules (wordsOf text (reverseModel (sameIn text) s x))) (callRules (wordsOf text (reverseModel (sameIn text) s x)) marks lengths) (fine-rules (wordsOf text (reverseModel (sameIn text) s x)) fine-reversed)
+      ∙ ap firstBroken (callRules-are text (reverseModel (sameIn text) s x) (sound-model text s S x h) marks lengths ∙ modelRules-reversed text s S x h marks lengths ∙ sym (callRules-are text x h marks lengths))
       ∙ sym (broken-append (tableRules (wordsOf text x)) (callRules (wordsOf text x) marks lengths) (fine-rules (wordsOf text x) f))
       ∙ sym (refusal-split (wordsOf text x) marks lengths)
 
@@ -332,7 +333,7 @@ accepted-leaves text x h c q =
     e = content-is text x h (c .marks)
 
     six : Each Six (reverseModel (sameIn text) (named text x (c .marks)) x .edged)
-    six = sound-model text (named text x (c .marks)) (marked-sound (sameIn text) (alike-in text) (x .map .roads) (c .marks)) x h .six
+    six = sound-model text (named text x (c .marks)) (marked-steady (sameIn text) (alike-in text) (x .map .roads) (c .marks)) x h .six
 
 pub refused-leaves : (t : Tables) (c : Call) (k : ℕ) → reversalRefusal t (c .marks) (reversalLengths (c .outs)) ≡ some k → after t c ≡ t
 unfolding after reversalCall

@@ -1,24 +1,23 @@
--- An accepted reversal writes words, where the tables are words. 
-use mathlib.Core.Path.{_≡_, refl, sym, _∙_, ap, ap₂, subst}
-use mathlib.Core.Bool.{Bool, true, false, _&&_}
-use mathlib.Core.List.{List, [], _∷_, map}
-use Prim.Native.Nat.{ℕ, _+_, _*_, _%_, _<_, _≤_}
+-- An accepted reversal writes words, where the tables are words.
+use mathlib.Core.Path.{_≡_, sym, _∙_, ap}
+use mathlib.Core.List.{List, map}
+use Prim.Native.Nat.{ℕ, _*_, _≤_}
 use native.Mathlib.Omega.{arith}
-use lib.Dec.{eqb, leb}
 use lib.ListN.{length}
-use borrow.Author.Tests.{leb-true}
 use Rattle.model.specs.Calls.{ReversalOutputs, markedBy, reversalContent}
 use Rattle.model.specs.Records.{Map}
 use Rattle.model.specs.Reversal.{reverseMap}
-use Rattle.model.specs.Rules.{edgesSized, lanesSized, mapSized, sized}
+use Rattle.model.specs.Rules.{edgesSized, lanesSized, mapSized}
 use Rattle.model.specs.Tables.{Tables, allPairs, edgedLanesOf, mapOf, sectionWords, tablesOf}
 use Rattle.model.specs.Text.{sameIn}
-use Rattle.laws.proofs.AllWords.{MapW, TablesW, connections-written, lanes-written, means-words, pairs-written, roads-written, sections-written, turn-words}
-use Rattle.laws.proofs.Decoded.{and3, and6}
+use Rattle.laws.proofs.Admitted.{sized-most, sizes-of}
+use Rattle.laws.proofs.AllWords.{MapW, TablesW, connections-written, lanes-written, means-words, pairs-written, roads-written, sections-written}
+use Rattle.laws.proofs.Decoded.{and3}
 use Rattle.laws.proofs.Numbers.{Word}
-use Rattle.laws.proofs.RulesReversed.{and-right, good-valid}
+use Rattle.laws.proofs.RulesReversed.{good-valid}
 use Rattle.laws.proofs.Valid.{Each, Valid}
-use Rattle.laws.proofs.WordsReversed.{Fine, counted-turn, fine-sound, fine-words, length-pairs, modelOf}
+use Rattle.laws.proofs.WordsKept.{reverse-words}
+use Rattle.laws.proofs.WordsReversed.{Fine, counted-reversed, fine-sound, fine-words, length-pairs, modelOf}
 
 pub record ReversedW (c : ReversalOutputs) : Type 0 where
   pub roads : Each Word (c .roads)
@@ -34,19 +33,13 @@ module _ (t : Tables) (f : Fine t) (w : TablesW t) (marks : List ℕ) where
   valid : Valid (sameIn (t .text)) (mapOf t)
   valid = unfold modelOf in good-valid (sameIn (t .text)) (modelOf t .map) (fine-sound t f .good)
 
-  reverseDirection : MapW (reverseMap (sameIn (t .text)) (markedBy t marks) (mapOf t))
-  reverseDirection = turn-words (sameIn (t .text)) (markedBy t marks) (mapOf t) valid (means-words t w)
-
-  at-most : (w most n : ℕ) → sized w most n ≡ true → n ≤ most * w
-  unfolding sized
-  at-most w most n q = leb-true n (most * w) (and-right (eqb (n % w) 0) (leb n (most * w)) q)
+  reversed-words : MapW (reverseMap (sameIn (t .text)) (markedBy t marks) (mapOf t))
+  reversed-words = reverse-words (sameIn (t .text)) (markedBy t marks) (mapOf t) valid (means-words t w)
 
   limits : (length (t .sections) ≤ 16384 * 1) × (length (t .connections) ≤ 16384 * 7) × (length (t .pairs) ≤ 16384 * 2)
-  unfolding mapSized
   limits =
-      let p = and6 (leb (length (t .text)) 1048576) (sized 20 16384 (length (t .roads))) (sized 1 16384 (length (t .sections))) (sized 5 16384 (length (t .junctions))) (sized 7 16384 (length (t .connections))) (sized 2 16384 (length (t .pairs)))
-      (and3 (mapSized 16384 t) (lanesSized t) (edgesSized t) (f .sizes) .0) in
-      (at-most 1 16384 (length (t .sections)) (p .2), at-most 7 16384 (length (t .connections)) (p .4), at-most 2 16384 (length (t .pairs)) (p .5))
+      let p = sizes-of 16384 t (and3 (mapSized 16384 t) (lanesSized t) (edgesSized t) (f .sizes) .0) in
+      (sized-most 1 16384 (length (t .sections)) (p .2), sized-most 7 16384 (length (t .connections)) (p .4), sized-most 2 16384 (length (t .pairs)) (p .5))
 
   words-are : tablesOf (t .text) (mapOf t) (edgedLanesOf t) ≡ t
   unfolding modelOf
@@ -64,9 +57,9 @@ module _ (t : Tables) (f : Fine t) (w : TablesW t) (marks : List ℕ) where
   pub reversal-words : ReversedW (reversalContent t marks)
   unfolding reversalContent
   reversal-words = record {
-    roads = roads-written n reverseDirection (let a = counted-turn (sameIn (t .text)) (markedBy t marks) (mapOf t) (edgedLanesOf t) .sections in let b = sections-are in let c = limits .0 in omega arith);
-    sections = sections-written n reverseDirection;
-    connections = connections-written n reverseDirection (let a = counted-turn (sameIn (t .text)) (markedBy t marks) (mapOf t) (edgedLanesOf t) .pairs in let b = pairs-are in let c = limits .2 in omega arith);
-    pairs = pairs-written n reverseDirection;
-    lanes = lanes-written n reverseDirection;
+    roads = roads-written n reversed-words (let a = counted-reversed (sameIn (t .text)) (markedBy t marks) (mapOf t) (edgedLanesOf t) .sections in let b = sections-are in let c = limits .0 in omega arith);
+    sections = sections-written n reversed-words;
+    connections = connections-written n reversed-words (let a = counted-reversed (sameIn (t .text)) (markedBy t marks) (mapOf t) (edgedLanesOf t) .pairs in let b = pairs-are in let c = limits .2 in omega arith);
+    pairs = pairs-written n reversed-words;
+    lanes = lanes-written n reversed-words;
   }

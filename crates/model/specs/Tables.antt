@@ -48,6 +48,19 @@ laneTables text roads sections junctions connections pairs lanes = record {
   edges = [];
 }
 
+-- all tables, as a call reads them
+abbrev pub allTables : (text roads sections junctions connections pairs lanes : List ℕ) → List Float → Tables
+allTables text roads sections junctions connections pairs lanes edges = record {
+  text = text;
+  roads = roads;
+  sections = sections;
+  junctions = junctions;
+  connections = connections;
+  pairs = pairs;
+  lanes = lanes;
+  edges = edges;
+}
+
 -- ---- how many words a row has
 abbrev pub roadWidth : ℕ
 roadWidth = 20

@@ -1,4 +1,4 @@
--- The maps of the bench cards, by their records, and their tables. The text is "abj": roads a and b, and junction j.
+-- The maps of the bench cards, by their records, and their tables. The text is "abcjk": roads a, b and c, and junctions j and k.
 use mathlib.Core.Bool.{Bool, true, false}
 use mathlib.Core.Option.{Option, none, some}
 use mathlib.Core.List.{List, [], _∷_, map}
@@ -6,11 +6,11 @@ use Prim.Native.Nat.{ℕ}
 use lib.Ieee.{Float, binary32, ofBits}
 use Rattle.geometry.specs.declared.gap.Direction.{Direction}
 use Rattle.geometry.specs.declared.gap.Direction.the-variants.{Both, Forward}
 use Rattle.model.specs.Records.{Connection, EdgedLane, Junction, JunctionKind, Lane, Map, Pair, Road, Span, Target, common}
 use Rattle.model.specs.Tables.{Tables, tablesOf}
 
 abbrev pub text : List ℕ
-text = 97 ∷ 98 ∷ 106 ∷ []
+text = 97 ∷ 98 ∷ 99 ∷ 106 ∷ 107 ∷ []
 
 abbrev pub a : Span
 a = record { start = 0; size = 1 }
@@ -18,8 +18,14 @@ a = record { start = 0; size = 1 }
 abbrev pub b : Span
 b = record { start = 1; size = 1 }
 
+abbrev pub c : Span
+c = record { start = 2; size = 1 }
+
 abbrev pub j : Span
-j = record { start = 2; size = 1 }
+j = record { start = 3; size = 1 }
+
+abbrev pub k : Span
+k = record { start = 4; size = 1 }
 
 -- lane number -1
 abbrev pub minus1 : ℕ
@@ -30,6 +36,10 @@ toRoad n contact = some (record { isJunction = false; name = n; contact = contac
 
 abbrev pub toJunction : Span → Option Target
 toJunction n = some (record { isJunction = true; name = n; contact = false; given = true; along = false })
+
+-- junction j, with a contact
+abbrev pub jAt : Bool → Option Target
+jAt contact = some (record { isJunction = true; name = j; contact = contact; given = true; along = false })
 
 abbrev pub road : Span → Option Target → Option Target → List ℕ → Road
 road n before after sections = record { name = n; junction = none; predecessor = before; successor = after; sections = sections }
