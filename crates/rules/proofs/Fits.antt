@@ -1,0 +1,94 @@
+-- Parts and the numbers in them.
+use Prim.Native.Nat.{ℕ, zero, suc, _+_, _*_, _/_, _<_, _≤_}
+use mathlib.Core.Path.{_≡_, refl, sym, ap, ap₂, _∙_, subst}
+use mathlib.Core.List.{List, [], _∷_}
+use mathlib.Core.Bool.{Bool, true, false, _&&_, _||_}
+use native.Mathlib.Nat.{le-of-suc-le-suc, not-suc-le-zero, div-add-mod'}
+use native.Mathlib.Numerals.{add-one}
+use native.Mathlib.Omega.{arith}
+use lib.ListN.{length, getD, drop, drop-of-length-le}
+use lib.Seq.{drop-cons}
+use lib.Dec.{eqb, ltb}
+use borrow.Author.Tests.{eqb-true, lt-ltb, le-ltb, ltb-true}
+use Rattle.model.specs.Lists.{ascends, every, member}
+use Rattle.model.specs.Rows.{partsFit, table, word}
+use Rattle.laws.proofs.Lay.{fit-le, length-table}
+use Rattle.laws.proofs.RowTests.{word-at}
+use Rattle.words.proofs.Scans.{and-off, and-step, left-on, right-on, row-fits}
+
+pub in-row : (n w i k : ℕ) → i < n / w → k < w → i * w + k < n
+in-row n w i k h l = let a = row-fits (n / w) w i h in let b = div-add-mod' n w in omega arith
+
+pub fit-over : (kf kc i n : ℕ) (rs : List (List ℕ)) → n < i → partsFit kf kc i n rs ≡ false
+fit-over kf kc i n rs h = go (partsFit kf kc i n rs) refl
+  where
+    go : (b : Bool) → partsFit kf kc i n rs ≡ b → partsFit kf kc i n rs ≡ false
+    go false e = e
+    go true e = let z = fit-le kf kc i n rs e in absurd (omega arith)
+
+module _ (w kf kc n : ℕ) (ws : List ℕ) (lf : kf < w) (lc : kc < w) where
+  pub fit-step : (at i : ℕ) → i < length ws / w
+      → partsFit kf kc at n (drop i (table w ws)) ≡ eqb (getD ws (i * w + kf) 0) at && partsFit kf kc (at + getD ws (i * w + kc) 0) n (drop (i + 1) (table w ws))
+  fit-step at i h =
+      let len : i < length (table w ws) = subst (λ (m : ℕ). i < m) (sym (length-table w ws)) h in
+      ap (partsFit kf kc at n) (drop-cons (table w ws) i [] len)
+      ∙ ap₂ (λ (f c : ℕ). eqb f at && partsFit kf kc (at + c) n (drop (suc i) (table w ws))) (word-at w ws i kf h lf) (word-at w ws i kc h lc)
+      ∙ ap (λ (k : ℕ). eqb (getD ws (i * w + kf) 0) at && partsFit kf kc (at + getD ws (i * w + kc) 0) n (drop k (table w ws))) (sym (add-one i))
+
+  pub fit-end : (at i : ℕ) → length ws / w ≤ i → partsFit kf kc at n (drop i (table w ws)) ≡ eqb at n
+  fit-end at i h = ap (partsFit kf kc at n) (drop-of-length-le (table w ws) (subst (λ (m : ℕ). m ≤ i) (sym (length-table w ws)) h))
+
+-- each part lies in the table
+parts-within : (kf kc i n : ℕ) (rs : List (List ℕ)) → partsFit kf kc i n rs ≡ true → (r : ℕ) → r < length rs → word (getD rs r []) kf + word (getD rs r []) kc ≤ n
+parts-within kf kc i n [] e r h = absurd (not-suc-le-zero h)
+parts-within kf kc i n (x ∷ rs) e zero h =
+    let f : word x kf ≡ i = eqb-true (word x kf) i (left-on (eqb (word x kf) i) (partsFit kf kc (i + word x kc) n rs) e) in
+    let l = fit-le kf kc (i + word x kc) n rs (right-on (eqb (word x kf) i) (partsFit kf kc (i + word x kc) n rs) e) in
+    omega arith
+parts-within kf kc i n (x ∷ rs) e (suc r) h = parts-within kf kc (i + word x kc) n rs (right-on (eqb (word x kf) i) (partsFit kf kc (i + word x kc) n rs) e) r (le-of-suc-le-suc h)
+
+pub part-in : (w kf kc n : ℕ) (ws : List ℕ) → kf < w → kc < w → partsFit kf kc 0 n (table w ws) ≡ true → (r : ℕ) → r < length ws / w → getD ws (r * w + kf) 0 + getD ws (r * w + kc) 0 ≤ n
+part-in w kf kc n ws lf lc e r h =
+    let a = parts-within kf kc 0 n (table w ws) e r (subst (λ (m : ℕ). r < m) (sym (length-table w ws)) h) in
+    let f = word-at w ws r kf h lf in
+    let c = word-at w ws r kc h lc in
+    omega arith
+
+-- ---- numbers that ascend
+lower : (x y : ℕ) (ys : List ℕ) → x < y → every (ltb y) ys ≡ true → every (ltb x) ys ≡ true
+lower x y [] h e = refl
+lower x y (z ∷ zs) h e =
+    let a = ltb-true y z (left-on (ltb y z) (every (ltb y) zs) e) in
+    and-step (lt-ltb x z (omega arith)) (lower x y zs h (right-on (ltb y z) (every (ltb y) zs) e))
+
+pub ascend-on : (ns : List ℕ) → ((k : ℕ) → k + 1 < length ns → getD ns k 0 < getD ns (k + 1) 0) → ascends ns ≡ true
+ascend-on [] h = refl
+ascend-on (x ∷ []) h = refl
+ascend-on (x ∷ y ∷ ys) h =
+    let ih : ascends (y ∷ ys) ≡ true = ascend-on (y ∷ ys) (λ k l. later k l) in
+    let lt : x < y = h 0 (omega arith) in
+    and-step (and-step (lt-ltb x y lt) (lower x y ys lt (left-on (every (ltb y) ys) (ascends ys) ih))) ih
+  where
+    later : (k : ℕ) → k + 1 < length (y ∷ ys) → getD (y ∷ ys) k 0 < getD (y ∷ ys) (k + 1) 0
+    later k l = subst (λ (m : ℕ). getD (y ∷ ys) k 0 < getD (x ∷ y ∷ ys) m 0) (move k) (h (suc k) (subst (λ (m : ℕ). m < length (x ∷ y ∷ ys)) (sym (move k)) (Prim.Native.Nat.suc-le-suc l)))
+      where
+        move : (k : ℕ) → suc k + 1 ≡ suc (k + 1)
+        move k = omega arith
+
+pub ascend-off : (ns : List ℕ) (k : ℕ) → k + 1 < length ns → getD ns (k + 1) 0 ≤ getD ns k 0 → ascends ns ≡ false
+ascend-off [] k h e = absurd (not-suc-le-zero h)
+ascend-off (x ∷ []) k h e = absurd (omega arith)
+ascend-off (x ∷ y ∷ ys) zero h e = ap (λ b. b && every (ltb x) ys && ascends (y ∷ ys)) (le-ltb x y e)
+ascend-off (x ∷ y ∷ ys) (suc k) h e =
+    and-off (every (ltb x) (y ∷ ys)) (ascends (y ∷ ys))
+    (ascend-off (y ∷ ys) k (le-of-suc-le-suc (subst (λ (m : ℕ). m < length (x ∷ y ∷ ys)) (move k) h)) (subst (λ (m : ℕ). getD (x ∷ y ∷ ys) m 0 ≤ getD (y ∷ ys) k 0) (move k) e))
+  where
+    move : (k : ℕ) → suc k + 1 ≡ suc (k + 1)
+    move k = omega arith
+
+-- ---- a number among others
+pub member-step : (n : ℕ) (xs : List ℕ) (k : ℕ) → k < length xs → member n (drop k xs) ≡ eqb n (getD xs k 0) || member n (drop (k + 1) xs)
+member-step n xs k h = ap (member n) (drop-cons xs k 0 h) ∙ ap (λ (m : ℕ). eqb n (getD xs k 0) || member n (drop m xs)) (sym (add-one k))
+
+pub member-end : (n : ℕ) (xs : List ℕ) (k : ℕ) → length xs ≤ k → member n (drop k xs) ≡ false
+member-end n xs k h = ap (member n) (drop-of-length-le xs h)

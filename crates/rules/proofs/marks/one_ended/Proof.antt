@@ -1,0 +1,42 @@
+use lib.ListN.{length-replicate, getD-replicate}
+use lib.ListN.{length}
+use native.Mathlib.Omega.{arith}
+use mathlib.Core.Path.{_∙_}
+use Prim.Native.Nat.{ℕ}
+use borrow.Author.Needs.{needs}
+use Rattle.words.proofs.KeyLaws.{rows-in}
+use Rattle.rules.proofs.marks.one_ended.Statement.{statement}
+use Rattle.rules.proofs.marks.one_ended.Tie as tie
+
+slice-aggregate-link-names : tie.Need-slice-aggregate-link-names
+slice-aggregate-link-names c = search needs
+
+slice-aggregate-link-names-2 : tie.Need-slice-aggregate-link-names-2
+slice-aggregate-link-names-2 c = search needs
+
+link-names-requires : tie.Need-link-names-requires
+link-names-requires c κs = ((omega arith, omega arith, rows-in (length (c .before .before .before .before .before .before .args .junctions .now)) 5, c .before .before .before .before .before .before .pre .1, length-replicate {A = ℕ} 16384 0, length-replicate {A = ℕ} 16384 0), λ b h. getD-replicate {A = ℕ} 16384 b 0 0 h)
+
+slice-aggregate-none-twice : tie.Need-slice-aggregate-none-twice
+slice-aggregate-none-twice c = search needs
+
+slice-aggregate-none-twice-2 : tie.Need-slice-aggregate-none-twice-2
+slice-aggregate-none-twice-2 c = search needs
+
+none-twice-requires : tie.Need-none-twice-requires
+none-twice-requires c κs = ((c .before .before .before .before .before .before .before .before .before .before .before .pre .0, c .before .before .before .before .before .before .before .before .before .before .before .pre .1, c .before .before .before .before .link-names .kept .1 .1 .1 .1 .1 .0 ∙ length-replicate {A = ℕ} 16384 0, c .before .before .before .before .link-names .kept .1 .1 .1 .1 .1 .1 .0 ∙ length-replicate {A = ℕ} 16384 0), c .before .before .before .before .link-names .ensures .1)
+
+returns : tie.Need-returns
+returns c = search needs
+
+pub one-ended-spec : {M : Type 1} → statement M
+one-ended-spec =
+    tie.close
+    (tie.spec
+    slice-aggregate-link-names
+    slice-aggregate-link-names-2
+    link-names-requires
+    slice-aggregate-none-twice
+    slice-aggregate-none-twice-2
+    none-twice-requires
+    returns)

@@ -1,0 +1,69 @@
+use Prim.Native.Nat.{ℕ, _-_, _*_, _/_, _≤_}
+use mathlib.Core.Path.{_≡_, sym, ap, _∙_}
+use mathlib.Core.Bool.{Bool, true}
+use mathlib.Core.List.{List}
+use native.Mathlib.Omega.{arith}
+use borrow.Author.Needs.{needs}
+use borrow.Author.Tests.{not-true, not-false}
+use lib.ListN.{length, drop}
+use Rattle.model.specs.Rules.{connectionWorded}
+use Rattle.words.specs.Rows.{all}
+use Rattle.words.proofs.Scans.{all-miss, all-none, all-step, every-rows}
+use Rattle.rules.proofs.Locals.{connection-local}
+use Rattle.rules.proofs.worded.connections_worded.Statement.{statement}
+use Rattle.rules.proofs.worded.connections_worded.Tie as tie
+
+abbrev test : List ℕ → List ℕ → ℕ → Bool
+test text ws i = connectionWorded text (drop (i * 7) ws)
+
+abbrev Inv-loop : tie.InvT-loop
+Inv-loop text ws n i₀ i = (i ≤ n) × (all i (test text ws) ≡ true)
+
+abbrev μ-loop : tie.MeasureT-loop
+μ-loop text ws n i₀ i = n - i
+
+loop-holds : tie.Need-loop-holds Inv-loop μ-loop
+loop-holds c = (omega arith, all-none _)
+
+mul-one : tie.Need-mul-connection-worded Inv-loop μ-loop
+mul-one c = search needs
+
+one-requires : tie.Need-connection-worded-requires Inv-loop μ-loop
+one-requires c κs = omega arith
+
+returns : tie.Need-returns Inv-loop μ-loop
+returns c =
+    let s = c .before .before .before .before .before .before .args in
+    let l = c .before .before .before .loop in
+    sym (every-rows 7 (s .ws .now) (connectionWorded (s .text .now)) (connection-local (s .text .now)) ∙ all-miss (length (s .ws .now) / 7) (l .i) (test (s .text .now) (s .ws .now)) (omega arith) (sym (c .before .connection-worded .ensures) ∙ not-true _ (c .if1 .taken)))
+
+add-i : tie.Need-add-i Inv-loop μ-loop
+add-i c = omega arith
+
+loop-less : tie.Need-loop-less Inv-loop μ-loop
+loop-less c = omega arith
+
+loop-again : tie.Need-loop-again Inv-loop μ-loop
+loop-again c = (omega arith, all-step _ _ (c .before .before .before .loop .inv .1) (sym (c .before .connection-worded .ensures) ∙ not-false _ (c .if1 .left)))
+
+returns-2 : tie.Need-returns-2 Inv-loop μ-loop
+returns-2 c =
+    let s = c .before .before .before .before .args in
+    let l = c .before .loop in
+    let past : length (s .ws .now) / 7 ≡ l .i = omega arith in
+    sym (every-rows 7 (s .ws .now) (connectionWorded (s .text .now)) (connection-local (s .text .now)) ∙ ap (λ (k : ℕ). all k (test (s .text .now) (s .ws .now))) past ∙ l .inv .1)
+
+pub connections-worded-spec : {M : Type 1} → statement M
+connections-worded-spec =
+    tie.close
+    (tie.spec
+    Inv-loop
+    μ-loop
+    loop-holds
+    mul-one
+    one-requires
+    returns
+    add-i
+    loop-less
+    loop-again
+    returns-2)

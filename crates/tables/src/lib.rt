@@ -1,0 +1,2 @@
+// The first refusal that applies to a call, and what the calls look up.
+pub mod verdict;

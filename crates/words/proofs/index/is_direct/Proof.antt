@@ -1,0 +1,52 @@
+use borrow.Author.Tests.{eq-eqb, ne-eqb}
+use lib.ListN.{getD}
+use native.Mathlib.Nat.{add-zero}
+use native.Mathlib.Omega.{arith}
+use mathlib.Core.Path.{sym, ap, _∙_}
+use Prim.Native.Nat.{ℕ, _+_, _*_}
+use borrow.Author.Needs.{needs}
+use Rattle.model.specs.Text.{sameIn}
+use Rattle.words.specs.Keys.{isDirectOf}
+use Rattle.words.specs.Rows.{span}
+use Rattle.words.proofs.Scans.{and-off-left, and-on}
+use Rattle.words.proofs.index.is_direct.Statement.{statement}
+use Rattle.words.proofs.index.is_direct.Tie as tie
+
+mul-if1 : tie.Need-mul-if1
+mul-if1 c = search needs
+
+add-if1 : tie.Need-add-if1
+add-if1 c = search needs
+
+mul-if1-2 : tie.Need-mul-if1-2
+mul-if1-2 c = search needs
+
+shared-slice-read-if1 : tie.Need-shared-slice-read-if1
+shared-slice-read-if1 c = search needs
+
+returns : tie.Need-returns
+unfolding isDirectOf
+returns c = sym (and-off-left _ _ (ne-eqb _ _ (c .if1 .taken)))
+
+mul-named : tie.Need-mul-named
+mul-named c = search needs
+
+named-requires : tie.Need-named-requires
+named-requires c κs = (omega arith, c .before .before .before .before .pre .2, c .before .before .before .before .pre .3)
+
+returns-2 : tie.Need-returns-2
+unfolding isDirectOf
+returns-2 c = c .named .ensures ∙ ap (λ (k : ℕ). sameIn (c .before .before .before .before .before .args .text .now) (span (getD (c .before .before .before .before .before .args .junctions .now) k 0) (getD (c .before .before .before .before .before .args .junctions .now) (k + 1) 0)) (span (c .before .before .before .before .before .args .start) (c .before .before .before .before .before .args .size))) (sym (add-zero (c .before .before .before .before .before .args .q * 5))) ∙ sym (and-on _ _ (eq-eqb _ _ (c .before .if1 .left)))
+
+pub is-direct-spec : {M : Type 1} → statement M
+is-direct-spec =
+    tie.close
+    (tie.spec
+    mul-if1
+    add-if1
+    mul-if1-2
+    shared-slice-read-if1
+    returns
+    mul-named
+    named-requires
+    returns-2)

@@ -1,0 +1,17 @@
+use mathlib.Core.Path.{_∙_}
+use borrow.Author.Needs.{needs}
+use Rattle.words.proofs.Laws.{put-all}
+use Rattle.words.proofs.rows.copy.Statement.{statement}
+use Rattle.words.proofs.rows.copy.Tie as tie
+
+put-requires : tie.Need-put-requires
+put-requires c κs = search needs
+
+same-length : tie.Need-same-length
+same-length c = search needs
+
+returns : tie.Need-returns
+returns c = c .before .before .put .ensures ∙ put-all (c .before .before .before .before .before .before .args .table .now) (c .before .before .before .before .before .before .args .out .now)
+
+pub copy-spec : {M : Type 1} → statement M
+copy-spec = tie.close (tie.spec put-requires same-length returns)
