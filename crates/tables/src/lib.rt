@@ -1,2 +1,3 @@
 // The first refusal that applies to a call, and what the calls look up.
+pub mod check;
 pub mod verdict;
