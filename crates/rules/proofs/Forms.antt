@@ -4,7 +4,7 @@ use mathlib.Core.Logic.{⊎-elim}
 use Prim.Native.Nat.{ℕ, zero, suc, _+_, _*_, _/_, _<_, _-_}
 use mathlib.Core.Path.{_≡_, refl, sym, ap, ap₂, _∙_, subst}
 use mathlib.Core.List.{List, [], _∷_, _++_, map}
-use mathlib.Core.Option.{none, some}
+use mathlib.Core.Option.{Option, none, some}
 use mathlib.Core.Bool.{Bool, true, false, not, cond, true≢false}
 use native.Mathlib.Nat.{add-zero, add-assoc, le-refl, le-step, eq-or-lt-of-le, le-of-suc-le-suc}
 use native.Mathlib.Omega.{arith}
@@ -126,6 +126,11 @@ unfolding lastOf
 last-same zero p q h = refl
 last-same (suc n) p q h = ap₂ (λ b (k : ℕ). cond b (suc n) k) (h n) (last-same n p q h)
 
+-- the record of a row plus 1
+abbrev pub recordAt : {R : Type 0} → (ℕ → R) → ℕ → Option R
+recordAt f zero = none
+recordAt f (suc r) = some (f r)
+
 module _ (text roads sections : List ℕ) (m : Span) where
   road-test : (i : ℕ) → sameIn text (roadIn sections (from 20 roads i) .name) m ≡ bears text 20 0 roads m i
   unfolding roadIn bears
@@ -135,25 +140,35 @@ module _ (text roads sections : List ℕ) (m : Span) where
   unfolding roadOf
   roads-first = ap (first (λ r. sameIn text (r .name) m)) (roads-tab roads sections)
 
+  road-none : lastOf (length roads / 20) (bears text 20 0 roads m) ≡ 0 → roadOf (sameIn text) (roadsIn sections roads) m ≡ none
+  road-none e = roads-first ∙ first-none (λ r. sameIn text (r .name) m) (length roads / 20) (λ i. roadIn sections (from 20 roads i))
+      (λ i lt. road-test i ∙ any-at (length roads / 20) i (bears text 20 0 roads m) (last-any (length roads / 20) (bears text 20 0 roads m) e) lt)
+
+  -- where no road name is borne twice, the road of a name is that of the row found
+  pub road-row : any (length roads / 20) (nameBefore text 20 0 roads) ≡ false → roadOf (sameIn text) (roadsIn sections roads) m ≡ recordAt (λ i. roadIn sections (from 20 roads i)) (lastOf (length roads / 20) (bears text 20 0 roads m))
+  unfolding nameBefore
+  road-row once = go (lastOf (length roads / 20) (bears text 20 0 roads m)) refl
+    where
+      one : (i j : ℕ) → i < length roads / 20 → j < i → sameIn text (roadIn sections (from 20 roads i) .name) m ≡ true → sameIn text (roadIn sections (from 20 roads j) .name) m ≡ false
+      one i j li lj q = away (sameIn text (roadIn sections (from 20 roads j) .name) m) refl
+        where
+          away : (b : Bool) → sameIn text (roadIn sections (from 20 roads j) .name) m ≡ b → sameIn text (roadIn sections (from 20 roads j) .name) m ≡ false
+          away false z = z
+          away true z = absurd (true≢false (sym (two-alike text roads m i j (sym (road-test i) ∙ q) (sym (road-test j) ∙ z))
+              ∙ any-at i j (bears text 20 0 roads (nameAt 20 0 roads i)) (any-at (length roads / 20) i (λ r. any r (bears text 20 0 roads (nameAt 20 0 roads r))) once li) lj))
+
+      go : (k : ℕ) → lastOf (length roads / 20) (bears text 20 0 roads m) ≡ k → roadOf (sameIn text) (roadsIn sections roads) m ≡ recordAt (λ i. roadIn sections (from 20 roads i)) k
+      go zero e = road-none e
+      go (suc r) e = roads-first ∙ first-last (λ r. sameIn text (r .name) m) (length roads / 20) (λ i. roadIn sections (from 20 roads i)) one r
+          (last-same (length roads / 20) (λ i. sameIn text (roadIn sections (from 20 roads i) .name) m) (bears text 20 0 roads m) road-test ∙ e)
+
   pub known-none : (s : ℕ) → lastOf (length roads / 20) (bears text 20 0 roads m) ≡ 0 → knownIn text roads sections m s ≡ false
   unfolding knownIn sectionsOf
-  known-none s e = ap (λ o. member s (sectionsFrom o)) (roads-first ∙ first-none (λ r. sameIn text (r .name) m) (length roads / 20) (λ i. roadIn sections (from 20 roads i))
-      (λ i lt. road-test i ∙ any-at (length roads / 20) i (bears text 20 0 roads m) (last-any (length roads / 20) (bears text 20 0 roads m) e) lt))
+  known-none s e = ap (λ o. member s (sectionsFrom o)) (road-none e)
 
   pub known-some : (s r : ℕ) → any (length roads / 20) (nameBefore text 20 0 roads) ≡ false → lastOf (length roads / 20) (bears text 20 0 roads m) ≡ suc r → knownIn text roads sections m s ≡ member s (numbersAt roads sections r)
-  unfolding knownIn sectionsOf nameBefore
-  known-some s r once e = ap (λ o. member s (sectionsFrom o)) (roads-first ∙ first-last (λ r. sameIn text (r .name) m) (length roads / 20) (λ i. roadIn sections (from 20 roads i)) one r (same-last ∙ e))
-      ∙ ap (member s) (numbers-at roads sections r)
-    where
-      same-last : lastOf (length roads / 20) (λ i. sameIn text (roadIn sections (from 20 roads i) .name) m) ≡ lastOf (length roads / 20) (bears text 20 0 roads m)
-      same-last = last-same (length roads / 20) (λ i. sameIn text (roadIn sections (from 20 roads i) .name) m) (bears text 20 0 roads m) road-test
-
-      one : (i j : ℕ) → i < length roads / 20 → j < i → sameIn text (roadIn sections (from 20 roads i) .name) m ≡ true → sameIn text (roadIn sections (from 20 roads j) .name) m ≡ false
-      one i j li lj q = go (sameIn text (roadIn sections (from 20 roads j) .name) m) refl
-        where
-          go : (b : Bool) → sameIn text (roadIn sections (from 20 roads j) .name) m ≡ b → sameIn text (roadIn sections (from 20 roads j) .name) m ≡ false
-          go false z = z
-          go true z = absurd (true≢false (sym (two-alike text roads m i j (sym (road-test i) ∙ q) (sym (road-test j) ∙ z)) ∙ any-at i j (bears text 20 0 roads (nameAt 20 0 roads i)) (any-at (length roads / 20) i (nameBefore text 20 0 roads) once li) lj))
+  unfolding knownIn sectionsOf
+  known-some s r once e = ap (λ o. member s (sectionsFrom o)) (road-row once ∙ ap (recordAt (λ i. roadIn sections (from 20 roads i))) e) ∙ ap (member s) (numbers-at roads sections r)
 
 -- ---- 7: the road found by its row
 pub listed-none : (roads sections : List ℕ) (road s : ℕ) → road ≡ 0 → false ≡ listedBy roads sections road s

@@ -110,9 +110,9 @@ marked-at same own (r ∷ rs) (k ∷ ks) (suc i) d len h e =
         go false q = refl
         go true q = absurd (true≢false (sym (some-found (λ b. same (r .name) (b .name)) rs i d (le-of-suc-le-suc h) q) ∙ none-like))
 
-junction-local : (C : List Connection) → Local 5 (junctionIn C)
+pub junction-in-local : (C : List Connection) → Local 5 (junctionIn C)
 unfolding junctionIn
-junction-local C l = simp (short 5 l)
+junction-in-local C l = simp (short 5 l)
 
 module _ (text roads junctions : List ℕ) (C : List Connection) (sections : List ℕ) where
   first-names : (at : ℕ) (j : Span) → namesJunction (sameIn text) j (roadIn sections (drop at roads) .predecessor) ≡ (toJunction roads (at + 4) && sameIn text (nameFrom roads (at + 6)) j)
@@ -144,7 +144,7 @@ module _ (text roads junctions : List ℕ) (C : List Connection) (sections : Lis
   some-direct at =
       let F : Junction → Bool = λ j. isDirect (j .kind) && namesTwice (sameIn text) (j .name) (roadIn sections (drop at roads)) in
       let c = (toJunction roads (at + 4) && toJunction roads (at + 11)) && sameIn text (nameFrom roads (at + 13)) (nameFrom roads (at + 6)) in
-      ap (some? F) (map-rows 5 junctions (junctionIn C) (junction-local C))
+      ap (some? F) (map-rows 5 junctions (junctionIn C) (junction-in-local C))
       ∙ some-tab F (length junctions / 5) (λ q. junctionIn C (from 5 junctions q))
       ∙ any-same (length junctions / 5) (λ q. F (junctionIn C (from 5 junctions q))) (λ q. c && isDirectOf text junctions (nameFrom roads (at + 6)) q) (λ q lt. one-junction at q)
       ∙ any-factor c (length junctions / 5) (isDirectOf text junctions (nameFrom roads (at + 6)))

@@ -11,50 +11,51 @@ use borrow.Author.Tests.{eq-eqb, ne-eqb}
 use Rattle.model.specs.Lists.{distinct}
 use Rattle.model.specs.Records.{Span}
 use Rattle.model.specs.Rules.{placesOnce, sameKey}
+use Rattle.model.specs.Succession.{standsAt}
 use Rattle.model.specs.Tables.{laneIn, lanesIn}
 use Rattle.model.specs.Text.{sameIn}
 use Rattle.laws.proofs.ByBytes.{alike-in}
 use Rattle.laws.proofs.Names.{same-right}
 use Rattle.words.specs.Keys.{bears, isKey, keyBefore}
-use Rattle.words.specs.Rows.{all, any, from, lastOf, nameAt}
+use Rattle.words.specs.Rows.{all, any, from, nameAt}
 use Rattle.words.proofs.Chains.{last-has}
 use Rattle.words.proofs.Laws.{any-same}
 use Rattle.words.proofs.Scans.{all-at, distinct-tab}
 use Rattle.rules.specs.ByRow.{Owned, listedAt, roadRowOf}
 use Rattle.rules.proofs.Forms.{known-none, lanes-tab, last-same, name-at}
 
+-- names of known roads are equal just where their rows are
+module _ (text roads : List ℕ) where
+  -- one name is found in one row
+  one-row : (a b : Span) → sameIn text a b ≡ true → roadRowOf text roads a ≡ roadRowOf text roads b
+  unfolding roadRowOf bears
+  one-row a b e = last-same (length roads / 20) (λ q. sameIn text (nameAt 20 0 roads q) a) (λ q. sameIn text (nameAt 20 0 roads q) b)
+      (λ q. same-right (sameIn text) (alike-in text) a b (nameAt 20 0 roads q) e)
+
+  named-so : (m : Span) (r : ℕ) → roadRowOf text roads m ≡ suc r → sameIn text (nameAt 20 0 roads r) m ≡ true
+  unfolding roadRowOf bears
+  named-so m r e = last-has (length roads / 20) r (λ q. sameIn text (nameAt 20 0 roads q) m) e
+
+  pub same-row : (a b : Span) → (roadRowOf text roads a ≡ 0 → ⊥) → sameIn text a b ≡ eqb (roadRowOf text roads a) (roadRowOf text roads b)
+  same-row a b known = go (sameIn text a b) refl
+    where
+      -- one row has one name
+      one-name : (w : ℕ) → roadRowOf text roads a ≡ w → roadRowOf text roads b ≡ w → sameIn text a b ≡ true
+      one-name zero p q = absurd (known p)
+      one-name (suc r) p q = alike-in text .same-trans a (nameAt 20 0 roads r) b (alike-in text .same-sym (nameAt 20 0 roads r) a (named-so a r p)) (named-so b r q)
+
+      go : (t : Bool) → sameIn text a b ≡ t → t ≡ eqb (roadRowOf text roads a) (roadRowOf text roads b)
+      go true e = sym (eq-eqb (roadRowOf text roads a) (roadRowOf text roads b) (one-row a b e))
+      go false e = sym (ne-eqb (roadRowOf text roads a) (roadRowOf text roads b) (λ z. true≢false (sym (one-name (roadRowOf text roads b) z refl) ∙ e)))
+
 module _ (text roads sections lanes owner : List ℕ) (listed : all (length lanes / 10) (listedAt text roads sections lanes) ≡ true) (o : Owned text roads lanes (length lanes / 10) owner) where
-  row : Span → ℕ
-  row m = lastOf (length roads / 20) (bears text 20 0 roads m)
-
-  owner-is : (i : ℕ) → i < length lanes / 10 → getD owner i 0 ≡ lastOf (length roads / 20) (bears text 20 0 roads (nameAt 10 1 lanes i))
-  owner-is i lt = unfold roadRowOf in o .at i lt
-
-  known : (i : ℕ) → i < length lanes / 10 → (getD owner i 0 ≡ 0 → ⊥)
+  known : (i : ℕ) → i < length lanes / 10 → roadRowOf text roads (nameAt 10 1 lanes i) ≡ 0 → ⊥
+  unfolding roadRowOf
   known i lt e = true≢false (sym (all-at (length lanes / 10) i (listedAt text roads sections lanes) listed lt)
-      ∙ known-none text roads sections (nameAt 10 1 lanes i) (getD lanes (i * 10 + 3) 0) (sym (owner-is i lt) ∙ e))
+      ∙ known-none text roads sections (nameAt 10 1 lanes i) (getD lanes (i * 10 + 3) 0) e)
 
   same-road : (i j : ℕ) → i < length lanes / 10 → j < length lanes / 10 → sameIn text (nameAt 10 1 lanes j) (nameAt 10 1 lanes i) ≡ eqb (getD owner j 0) (getD owner i 0)
-  same-road i j li lj = go (sameIn text (nameAt 10 1 lanes j) (nameAt 10 1 lanes i)) refl
-    where
-      -- one name is found in one row
-      one-row : sameIn text (nameAt 10 1 lanes j) (nameAt 10 1 lanes i) ≡ true → getD owner j 0 ≡ getD owner i 0
-      one-row e =
-          let alike : (q : ℕ) → bears text 20 0 roads (nameAt 10 1 lanes j) q ≡ bears text 20 0 roads (nameAt 10 1 lanes i) q =
-          λ q. unfold bears in same-right (sameIn text) (alike-in text) (nameAt 10 1 lanes j) (nameAt 10 1 lanes i) (nameAt 20 0 roads q) e
-          in
-          owner-is j lj ∙ last-same (length roads / 20) (bears text 20 0 roads (nameAt 10 1 lanes j)) (bears text 20 0 roads (nameAt 10 1 lanes i)) alike ∙ sym (owner-is i li)
-
-      -- one row has one name
-      one-name : (w : ℕ) → getD owner j 0 ≡ w → getD owner i 0 ≡ w → sameIn text (nameAt 10 1 lanes j) (nameAt 10 1 lanes i) ≡ true
-      one-name zero a b = absurd (known j lj a)
-      one-name (suc r) a b = alike-in text .same-trans (nameAt 10 1 lanes j) (nameAt 20 0 roads r) (nameAt 10 1 lanes i)
-          (alike-in text .same-sym (nameAt 20 0 roads r) (nameAt 10 1 lanes j) (unfold bears in last-has (length roads / 20) r (bears text 20 0 roads (nameAt 10 1 lanes j)) (sym (owner-is j lj) ∙ a)))
-          (unfold bears in last-has (length roads / 20) r (bears text 20 0 roads (nameAt 10 1 lanes i)) (sym (owner-is i li) ∙ b))
-
-      go : (b : Bool) → sameIn text (nameAt 10 1 lanes j) (nameAt 10 1 lanes i) ≡ b → b ≡ eqb (getD owner j 0) (getD owner i 0)
-      go true e = sym (eq-eqb (getD owner j 0) (getD owner i 0) (one-row e))
-      go false e = sym (ne-eqb (getD owner j 0) (getD owner i 0) (λ z. true≢false (sym (one-name (getD owner i 0) z refl) ∙ e)))
+  same-road i j li lj = same-row text roads (nameAt 10 1 lanes j) (nameAt 10 1 lanes i) (known j lj) ∙ ap₂ eqb (sym (o .at j lj)) (sym (o .at i li))
 
   same-key : (i j : ℕ) → i < length lanes / 10 → j < length lanes / 10 → sameKey (sameIn text) (laneIn (from 10 lanes j)) (laneIn (from 10 lanes i))
       ≡ isKey lanes owner (getD owner i 0) (getD lanes (i * 10 + 3) 0) (getD lanes (i * 10 + 4) 0) j
@@ -68,3 +69,9 @@ module _ (text roads sections lanes owner : List ℕ) (listed : all (length lane
   keys-once = ap (distinct (sameKey (sameIn text))) (lanes-tab lanes) ∙ distinct-tab (sameKey (sameIn text)) (length lanes / 10) (λ i. laneIn (from 10 lanes i))
       ∙ ap not (any-same (length lanes / 10) (λ i. any i (λ j. sameKey (sameIn text) (laneIn (from 10 lanes j)) (laneIn (from 10 lanes i)))) (λ i. any i (isKey lanes owner (getD owner i 0) (getD lanes (i * 10 + 3) 0) (getD lanes (i * 10 + 4) 0)))
       (λ i li. any-same i (λ j. sameKey (sameIn text) (laneIn (from 10 lanes j)) (laneIn (from 10 lanes i))) (isKey lanes owner (getD owner i 0) (getD lanes (i * 10 + 3) 0) (getD lanes (i * 10 + 4) 0)) (λ j lj. same-key i j li (lt-trans lj li))))
+
+  -- a lane stands at a place of a known road just where its road's row, section and number are those of the place
+  pub stands-at : (m : Span) (s k i : ℕ) → i < length lanes / 10 → standsAt (sameIn text) m s k (laneIn (from 10 lanes i)) ≡ isKey lanes owner (roadRowOf text roads m) s k i
+  unfolding standsAt laneIn isKey
+  stands-at m s k i li = ap₂ _&&_ (ap₂ _&&_ (ap (λ (n : Span). sameIn text n m) (name-at 10 1 lanes i) ∙ same-row text roads (nameAt 10 1 lanes i) m (known i li) ∙ ap (λ (w : ℕ). eqb w (roadRowOf text roads m)) (sym (o .at i li)))
+      (ap (λ (x : ℕ). eqb x s) (getD-drop (i * 10) lanes 3 0))) (ap (λ (x : ℕ). eqb x k) (getD-drop (i * 10) lanes 4 0))
