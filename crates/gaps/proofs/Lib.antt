@@ -1,0 +1,6 @@
+pub mod Joined
+pub mod Climbs
+pub mod RowLaws
+pub mod LinkLaws
+pub mod CallLaws
+pub mod Bridge

@@ -1,0 +1,83 @@
+-- The words of the links, lane by lane and link by link.
+use Prim.Native.Nat.{ℕ, zero, suc, _+_, _*_, _-_, _/_, _≤_}
+use mathlib.Core.Path.{_≡_, sym, ap, _∙_}
+use mathlib.Core.List.{List, [], _++_}
+use mathlib.Core.Bool.{true}
+use native.Mathlib.Numerals.{add-one}
+use native.Mathlib.Omega.{arith}
+use lib.ListN.{length, getD, length-append}
+use lib.Ieee.{Float}
+use Rattle.geometry.specs.declared.gap.Decision.{Decision}
+use Rattle.words.specs.Keys.{isId}
+use Rattle.words.specs.Rows.{lastOf}
+use Rattle.gaps.specs.Links.{decisionAt, joined, laneRows, linkRow, listsRight, rowOf, rowsAt, rowsBelow}
+use Rattle.gaps.proofs.Climbs.{right-at}
+use Rattle.gaps.proofs.Joined.{joined-le, joined-more, joined-most, joined-none}
+use Rattle.gaps.proofs.RowLaws.{row-most}
+
+module _ (lanes : List ℕ) (edges : List Float) where
+  link-most : (i k : ℕ) → length (linkRow lanes edges i k) ≤ 3
+  unfolding linkRow
+  link-most i k = row-most i (lastOf (length lanes / 10) (isId lanes k) - 1) (decisionAt lanes edges i (lastOf (length lanes / 10) (isId lanes k) - 1))
+
+  -- ---- a lane's links
+  module _ (ids : List ℕ) (i a : ℕ) where
+    pub lane-none : [] ≡ laneRows lanes edges ids i a 0
+    unfolding laneRows
+    lane-none = sym (joined-none (λ k. linkRow lanes edges i (getD ids (a + k) 0)))
+
+    pub lane-most : (n : ℕ) → length (laneRows lanes edges ids i a n) ≤ 3 * n
+    unfolding laneRows
+    lane-most n = joined-most 3 n (λ k. linkRow lanes edges i (getD ids (a + k) 0)) (λ k. link-most i (getD ids (a + k) 0))
+
+    pub lane-le : (n m : ℕ) → n ≤ m → length (laneRows lanes edges ids i a n) ≤ length (laneRows lanes edges ids i a m)
+    unfolding laneRows
+    lane-le n m h = joined-le n m (λ k. linkRow lanes edges i (getD ids (a + k) 0)) h
+
+    -- the row that a turn puts
+    pub lane-more : (k : ℕ) {f : ℕ} {d : Decision} → f ≡ lastOf (length lanes / 10) (isId lanes (getD ids (a + k) 0)) → d ≡ decisionAt lanes edges i (f - 1) → laneRows lanes edges ids i a (k + 1) ≡ laneRows lanes edges ids i a k ++ rowOf i (f - 1) d
+    unfolding laneRows linkRow
+    lane-more k {f} {d} e g = joined-more k (λ k. linkRow lanes edges i (getD ids (a + k) 0))
+        ∙ ap (λ (l : List ℕ). joined k (λ k. linkRow lanes edges i (getD ids (a + k) 0)) ++ l) (sym (ap (λ (d : Decision). rowOf i (f - 1) d) g ∙ ap (λ (m : ℕ). rowOf i (m - 1) (decisionAt lanes edges i (m - 1))) e))
+
+  -- ---- all lanes' links
+  module _ (offsets ids : List ℕ) where
+    pub below-none : [] ≡ rowsBelow lanes edges offsets ids 0
+    unfolding rowsBelow
+    below-none = sym (joined-none (rowsAt lanes edges offsets ids))
+
+    pub below-le : (n m : ℕ) → n ≤ m → length (rowsBelow lanes edges offsets ids n) ≤ length (rowsBelow lanes edges offsets ids m)
+    unfolding rowsBelow
+    below-le n m h = joined-le n m (rowsAt lanes edges offsets ids) h
+
+    pub below-more : (i : ℕ) {a n : ℕ} → a ≡ getD offsets i 0 → n ≡ getD offsets (i + 1) 0 - a → rowsBelow lanes edges offsets ids (i + 1) ≡ rowsBelow lanes edges offsets ids i ++ laneRows lanes edges ids i a n
+    unfolding rowsBelow rowsAt
+    below-more i {a} {n} e f = joined-more i (rowsAt lanes edges offsets ids)
+        ∙ ap (λ (l : List ℕ). joined i (rowsAt lanes edges offsets ids) ++ l) (sym (ap (laneRows lanes edges ids i a) f ∙ ap (λ (b : ℕ). laneRows lanes edges ids i b (getD offsets (i + 1) 0 - b)) e))
+
+    below-step : (i : ℕ) → length (rowsBelow lanes edges offsets ids (suc i)) ≡ length (rowsBelow lanes edges offsets ids i) + length (laneRows lanes edges ids i (getD offsets i 0) (getD offsets (suc i) 0 - getD offsets i 0))
+    unfolding rowsBelow rowsAt joined
+    below-step i = length-append (joined i (rowsAt lanes edges offsets ids)) (rowsAt lanes edges offsets ids i) ∙ rw (add-one i)
+
+    module _ (right : listsRight lanes offsets ids ≡ true) where
+      pub below-most : (i : ℕ) → i ≤ length lanes / 10 → length (rowsBelow lanes edges offsets ids i) ≤ 3 * getD offsets i 0
+      below-most zero h = let e : length (rowsBelow lanes edges offsets ids 0) ≡ 0 = ap length (sym below-none) in omega arith
+      below-most (suc i) h =
+          let ih = below-most i (omega arith) in
+          let e = below-step i in
+          let m = lane-most ids i (getD offsets i 0) (getD offsets (suc i) 0 - getD offsets i 0) in
+          let r = rw (add-one i) at (right-at lanes offsets ids right i (omega arith)) in
+          let r0 = r .0 in
+          omega arith
+
+      -- the words of all links, three for each at most
+      pub total-most : length (rowsBelow lanes edges offsets ids (length lanes / 10)) ≤ 3 * length ids
+      total-most = go (length lanes / 10) (native.Mathlib.Nat.le-refl (length lanes / 10))
+        where
+          go : (i : ℕ) → i ≤ length lanes / 10 → length (rowsBelow lanes edges offsets ids i) ≤ 3 * length ids
+          go zero h = let e : length (rowsBelow lanes edges offsets ids 0) ≡ 0 = ap length (sym below-none) in omega arith
+          go (suc i) h =
+              let m = below-most (suc i) h in
+              let r = rw (add-one i) at (right-at lanes offsets ids right i h) in
+              let r1 = r .1 in
+              omega arith

@@ -1,0 +1,66 @@
+-- The gap rows by row numbers: what the loops over lanes and links write. proofs/ has them as the model's gap rows. Definitions only.
+use mathlib.Core.Bool.{Bool, true, not, _&&_, cond}
+use mathlib.Core.List.{List, [], _∷_, _++_}
+use Prim.Native.Nat.{ℕ, zero, suc, _+_, _*_, _-_, _/_}
+use lib.Dec.{eqb}
+use lib.Ieee.{Float, isNan}
+use lib.ListN.{length, getD}
+use Rattle.geometry.specs.declared.gap.Decision.{Decision}
+use Rattle.geometry.specs.declared.gap.Decision.the-variants.{Passed, Wide}
+use Rattle.geometry.specs.Edges.{endsAt}
+use Rattle.geometry.specs.Gap.{gapOf, decisionOf, rowBits}
+use Rattle.model.specs.Lists.{every}
+use Rattle.model.specs.Tables.{directionOf, lanesIn}
+use Rattle.model.specs.Rules.{climbs, borne}
+use Rattle.words.specs.Rows.{lastOf, spliced}
+use Rattle.words.specs.Keys.{isId}
+
+-- f 0, f 1, .. f (n - 1), joined
+unfoldable pub joined : {A : Type 0} → ℕ → (ℕ → List A) → List A
+joined zero f = []
+joined (suc n) f = joined n f ++ f n
+
+-- an output with words put in from word at on, if it is to be written
+unfoldable pub putIf : Bool → ℕ → List ℕ → List ℕ → List ℕ
+putIf write at ws out = cond write (spliced at ws out) out
+
+-- lane row, successor row and gap bits; no word where the gap is passed
+abbrev pub rowWith : ℕ → ℕ → List ℕ → List ℕ
+rowWith lane next [] = []
+rowWith lane next (b ∷ bs) = lane ∷ next ∷ b ∷ []
+
+abbrev pub rowOf : ℕ → ℕ → Decision → List ℕ
+rowOf lane next d = rowWith lane next (rowBits d)
+
+-- a width that has bits of its own
+abbrev pub isNumber : Decision → Bool
+isNumber Passed = true
+isNumber (Wide w) = not (isNan w)
+
+-- the row of the lane that bears identity k
+abbrev pub rowBearing : List ℕ → ℕ → ℕ
+rowBearing lanes k = lastOf (length lanes / 10) (isId lanes k) - 1
+
+-- the decision for a link from the lane in row i to that in row r
+unfoldable pub decisionAt : List ℕ → List Float → ℕ → ℕ → Decision
+decisionAt lanes edges i r = decisionOf (gapOf (endsAt edges i) (directionOf (getD lanes (i * 10 + 5) 0)) (endsAt edges r) (directionOf (getD lanes (r * 10 + 5) 0)))
+
+-- the words of a link from the lane in row i to the lane of identity k
+unfoldable pub linkRow : List ℕ → List Float → ℕ → ℕ → List ℕ
+linkRow lanes edges i k = rowOf i (rowBearing lanes k) (decisionAt lanes edges i (rowBearing lanes k))
+
+-- the words of the first n links of the lane in row i, whose identities stand from place a on
+unfoldable pub laneRows : List ℕ → List Float → List ℕ → ℕ → ℕ → ℕ → List ℕ
+laneRows lanes edges ids i a n = joined n (λ k. linkRow lanes edges i (getD ids (a + k) 0))
+
+-- those of all its links
+unfoldable pub rowsAt : List ℕ → List Float → (offsets ids : List ℕ) → ℕ → List ℕ
+rowsAt lanes edges offsets ids i = laneRows lanes edges ids i (getD offsets i 0) (getD offsets (i + 1) 0 - getD offsets i 0)
+
+-- those of the first n lanes
+unfoldable pub rowsBelow : List ℕ → List Float → (offsets ids : List ℕ) → ℕ → List ℕ
+rowsBelow lanes edges offsets ids n = joined n (rowsAt lanes edges offsets ids)
+
+-- rule 11, over what it reads
+abbrev pub listsRight : (lanes offsets ids : List ℕ) → Bool
+listsRight lanes offsets ids = eqb (length offsets) (suc (length lanes / 10)) && climbs (length ids) offsets && every (borne (lanesIn lanes)) ids

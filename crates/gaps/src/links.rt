@@ -1,0 +1,140 @@
+// The rows of the links: each link's decision, and its row written or counted.
+use geometry::edges;
+use geometry::gap;
+use geometry::gap::Decision;
+use geometry::gap::Direction;
+use words::index;
+use words::rows;
+ghost use mathlib.Core.Path.{_≡_};
+ghost use mathlib.Core.Bool.{true};
+ghost use Prim.Native.Nat.{_+_, _*_, _/_, _≤_, _<_};
+ghost use lib.ListN.{length};
+ghost use lib.Dec.{T};
+ghost use Rattle.model.specs.Tables.{directionOf, lanesIn};
+ghost use Rattle.model.specs.Lists.{every};
+ghost use Rattle.model.specs.Rules.{borne};
+ghost use Rattle.words.specs.Chain.{Chained};
+ghost use Rattle.words.specs.Keys.{idHash};
+ghost use Rattle.gaps.specs.Links.{putIf, rowOf, isNumber, decisionAt, laneRows, rowsBelow, listsRight};
+
+// Which way a lane's traffic runs, by its word.
+fn direction(word: u32) -> Direction
+    ensures { λ q. ⌜ q ≡ directionOf word ⌝ }
+{
+    match word {
+        0 => Direction::Forward,
+        1 => Direction::Backward,
+        _ => Direction::Both,
+    }
+}
+
+// The decision for a link from the lane in row `lane` to that in row `next`.
+fn link_decision(lanes: &[u32], edges: &[f32], lane: usize, next: usize) -> Decision
+    requires { ⌜ (lane < length (now lanes) / 10) × (next < length (now lanes) / 10) × (length (now edges) ≡ 12 * (length (now lanes) / 10)) ⌝ }
+    ensures { λ q. ⌜ (q ≡ decisionAt (now (lanes .entry)) (now (edges .entry)) lane next) × T (isNumber q) ⌝ }
+{
+    let leaves = direction(lanes[lane * 10 + 5]);
+    let enters = direction(lanes[next * 10 + 5]);
+    let from = edges::ends_at(edges, lane);
+    let to = edges::ends_at(edges, next);
+    gap::gap_decision(gap::least_gap(from, leaves, to, enters))
+}
+
+// The place after the row of a decision, which is put at `at` if it is to be written.
+fn put_row(
+    out: &mut [u32],
+    at: usize,
+    write: bool,
+    lane: u32,
+    next: u32,
+    decision: Decision,
+) -> usize
+    requires { ⌜ (at < 1048576) × (write ≡ true → at + length (rowOf lane next decision) ≤ length (now out)) × T (isNumber decision) ⌝ }
+    ensures { λ q. ⌜ (q ≡ at + length (rowOf lane next decision)) × (now (out .exit) ≡ putIf write at (rowOf lane next decision) (now (out .entry))) ⌝ }
+{
+    match decision {
+        Decision::Passed => at,
+        Decision::Wide(w) => {
+            if !write {
+                return at + 3;
+            }
+            let row = [lane, next, f32::to_bits(w)];
+            rows::put(out, at, &row);
+            at + 3
+        }
+    }
+}
+
+// The place after the rows of one lane's links, whose `count` identities stand from place `first` on.
+fn lane_rows(
+    lanes: &[u32],
+    edges: &[f32],
+    heads: &[u32],
+    next: &[u32],
+    ids: &[u32],
+    lane: usize,
+    first: usize,
+    count: usize,
+    out: &mut [u32],
+    at: usize,
+    write: bool,
+) -> usize
+    requires { ⌜ (length (now lanes) / 10 ≤ 16384) × (length (now edges) ≡ 12 * (length (now lanes) / 10)) × (length (now heads) ≡ 16384) × (length (now next) ≡ 16384) × (length (now ids) ≤ 131072) × (lane < length (now lanes) / 10) × (first + count ≤ length (now ids)) × (at ≤ 3 * first) ⌝ }
+    requires { ⌜ Chained (idHash (now lanes)) (length (now lanes) / 10) (now heads) (now next) ⌝ }
+    requires { ⌜ every (borne (lanesIn (now lanes))) (now ids) ≡ true ⌝ }
+    requires { ⌜ (write ≡ true → at + length (laneRows (now lanes) (now edges) (now ids) lane first count) ≤ length (now out)) ⌝ }
+    ensures { λ q. ⌜ (q ≡ at + length (laneRows (now (lanes .entry)) (now (edges .entry)) (now (ids .entry)) lane first count)) × (now (out .exit) ≡ putIf write at (laneRows (now (lanes .entry)) (now (edges .entry)) (now (ids .entry)) lane first count) (now (out .entry))) ⌝ }
+{
+    let n = lanes.len() / 10;
+    let mut place = at;
+    let mut k = 0;
+    while k < count {
+        let f = index::find_id(lanes, heads, next, n, ids[first + k]);
+        let r = f - 1;
+        let decision = link_decision(lanes, edges, lane, r);
+        place = put_row(out, place, write, lane as u32, r as u32, decision);
+        k += 1;
+    }
+    place
+}
+
+// How many words the rows of all links have; they are written to `out` if they are to be.
+pub fn all_rows(
+    lanes: &[u32],
+    edges: &[f32],
+    heads: &[u32],
+    next: &[u32],
+    offsets: &[u32],
+    ids: &[u32],
+    out: &mut [u32],
+    write: bool,
+) -> usize
+    requires { ⌜ (length (now lanes) / 10 ≤ 16384) × (length (now edges) ≡ 12 * (length (now lanes) / 10)) × (length (now heads) ≡ 16384) × (length (now next) ≡ 16384) × (length (now ids) ≤ 131072) ⌝ }
+    requires { ⌜ Chained (idHash (now lanes)) (length (now lanes) / 10) (now heads) (now next) ⌝ }
+    requires { ⌜ listsRight (now lanes) (now offsets) (now ids) ≡ true ⌝ }
+    requires { ⌜ (write ≡ true → length (rowsBelow (now lanes) (now edges) (now offsets) (now ids) (length (now lanes) / 10)) ≤ length (now out)) ⌝ }
+    ensures { λ q. ⌜ (q ≡ length (rowsBelow (now (lanes .entry)) (now (edges .entry)) (now (offsets .entry)) (now (ids .entry)) (length (now (lanes .entry)) / 10))) × (now (out .exit) ≡ putIf write 0 (rowsBelow (now (lanes .entry)) (now (edges .entry)) (now (offsets .entry)) (now (ids .entry)) (length (now (lanes .entry)) / 10)) (now (out .entry))) ⌝ }
+{
+    let n = lanes.len() / 10;
+    let mut place = 0;
+    let mut i = 0;
+    while i < n {
+        let first = rows::word(offsets, i);
+        let count = rows::word(offsets, i + 1) - first;
+        place = lane_rows(
+            lanes,
+            edges,
+            heads,
+            next,
+            ids,
+            i,
+            first,
+            count,
+            out,
+            place,
+            write,
+        );
+        i += 1;
+    }
+    place
+}
