@@ -1,0 +1,9 @@
+pub mod Ends
+pub mod Found
+pub mod Missing
+pub mod Lays
+pub mod Turns
+pub mod Steps
+pub mod Virtual
+pub mod RoadWords
+pub mod Outcomes

@@ -1,0 +1,46 @@
+use Rattle.repair.proofs.Virtual.{roads-start}
+use Rattle.words.proofs.KeyLaws.{rows-in}
+use lib.ListN.{length, length-replicate, getD-replicate}
+use Prim.Native.Nat.{ℕ, _-_}
+use native.Mathlib.Omega.{arith}
+use mathlib.Core.Path.{_∙_}
+use borrow.Author.Needs.{needs}
+use Rattle.repair.proofs.along.without_along.Statement.{statement}
+use Rattle.repair.proofs.along.without_along.Tie as tie
+
+slice-aggregate-link-names : tie.Need-slice-aggregate-link-names
+slice-aggregate-link-names c = search needs
+
+slice-aggregate-link-names-2 : tie.Need-slice-aggregate-link-names-2
+slice-aggregate-link-names-2 c = search needs
+
+link-names-requires : tie.Need-link-names-requires
+link-names-requires c κs = let s = (c .before .before .before .before .before .before) in ((omega arith, omega arith, rows-in (length (s .args .junctions .now)) 5, s .pre .1, length-replicate {A = ℕ} 16384 0, length-replicate {A = ℕ} 16384 0), λ b h. getD-replicate {A = ℕ} 16384 b 0 0 h)
+
+slice-aggregate-mark-roads : tie.Need-slice-aggregate-mark-roads
+slice-aggregate-mark-roads c = search needs
+
+slice-aggregate-mark-roads-2 : tie.Need-slice-aggregate-mark-roads-2
+slice-aggregate-mark-roads-2 c = search needs
+
+mark-roads-requires : tie.Need-mark-roads-requires
+mark-roads-requires c κs = let s = (c .before .before .before .before .before .before .before .before .before .before .before .before) in (s .pre .0, s .pre .2, record { few = s .pre .1; heads-long = c .before .before .before .before .before .link-names .kept .1 .1 .1 .1 .1 .0 ∙ length-replicate {A = ℕ} 16384 0; next-long = c .before .before .before .before .before .link-names .kept .1 .1 .1 .1 .1 .1 .0 ∙ length-replicate {A = ℕ} 16384 0; chained = c .before .before .before .before .before .link-names .ensures .1 })
+
+same-length : tie.Need-same-length
+same-length c = search needs
+
+returns : tie.Need-returns
+returns c = let s = (c .before .before .before .before .before .before .before .before .before .before .before .before .before .before .before) in λ ss ps cs. roads-start (s .args .text .now) (s .args .roads .now) (s .args .junctions .now) _ (c .before .before .mark-roads .ensures) ss ps cs
+
+pub without-along-spec : {M : Type 1} → statement M
+without-along-spec =
+    tie.close
+    (tie.spec
+    slice-aggregate-link-names
+    slice-aggregate-link-names-2
+    link-names-requires
+    slice-aggregate-mark-roads
+    slice-aggregate-mark-roads-2
+    mark-roads-requires
+    same-length
+    returns)

@@ -1,0 +1,85 @@
+use Rattle.repair.proofs.Outcomes.{ready, start-is, call-refused, call-admitted}
+use Rattle.repair.specs.Answers.{outs}
+use Rattle.tables.proofs.Order.{is-none, is-some}
+use Rattle.tables.specs.Verdicts.{refusalOf}
+use Rattle.model.specs.Tables.{mapTables}
+use borrow.Author.Tests.{not-true, not-false}
+use lib.ListN.{length-replicate, getD-replicate}
+use Prim.Native.Nat.{ℕ, _-_}
+use mathlib.Core.Path.{sym, _∙_}
+use borrow.Author.Needs.{needs}
+use Rattle.repair.proofs.call.repair.Statement.{statement}
+use Rattle.repair.proofs.call.repair.Tie as tie
+
+slice-aggregate-repair-verdict : tie.Need-slice-aggregate-repair-verdict
+slice-aggregate-repair-verdict c = search needs
+
+slice-aggregate-repair-verdict-2 : tie.Need-slice-aggregate-repair-verdict-2
+slice-aggregate-repair-verdict-2 c = search needs
+
+repair-verdict-requires : tie.Need-repair-verdict-requires
+repair-verdict-requires c κs = (length-replicate {A = ℕ} 16384 0, length-replicate {A = ℕ} 16384 0, λ b h. getD-replicate {A = ℕ} 16384 b 0 0 h)
+
+admitted-requires : tie.Need-admitted-requires
+admitted-requires c κs = search needs
+
+returns : tie.Need-returns
+returns c = let s = (c .before .before .before .before .before .before .before .before .before .before .before .before .before .before .before .before .before .before) in call-refused (mapTables (s .args .text .now) (s .args .roads .now) (s .args .sections .now) (s .args .junctions .now) (s .args .connections .now) (s .args .pairs .now)) (outs (s .args .roads-out .now) (s .args .junctions-out .now) (s .args .connections-out .now) (s .args .pairs-out .now) (s .args .warnings-out .now)) (refusalOf (c .before .before .before .before .repair-verdict .result)) (is-some (refusalOf (c .before .before .before .before .repair-verdict .result)) (sym (c .before .admitted .ensures) ∙ not-true _ (c .if1 .taken))) (c .before .before .before .before .repair-verdict .ensures .0)
+
+slice-aggregate-without-along : tie.Need-slice-aggregate-without-along
+slice-aggregate-without-along c = search needs
+
+without-along-requires : tie.Need-without-along-requires
+without-along-requires c κs = let s = (c .before .before .before .before .before .before .before .before .before .before .before .before .before .before .before .before .before .before .before) in let adm = is-none (refusalOf (c .before .before .before .before .before .repair-verdict .result)) (sym (c .before .before .admitted .ensures) ∙ not-false _ (c .before .if1 .left)) in let g = ready (mapTables (s .args .text .now) (s .args .roads .now) (s .args .sections .now) (s .args .junctions .now) (s .args .connections .now) (s .args .pairs .now)) (sym adm ∙ c .before .before .before .before .before .repair-verdict .ensures .0) in (g .few-roads, g .joined .few, length-replicate {A = ℕ} 32768 0)
+
+slice-aggregate-mend : tie.Need-slice-aggregate-mend
+slice-aggregate-mend c = search needs
+
+slice-aggregate-mend-2 : tie.Need-slice-aggregate-mend-2
+slice-aggregate-mend-2 c = search needs
+
+slice-aggregate-mend-3 : tie.Need-slice-aggregate-mend-3
+slice-aggregate-mend-3 c = search needs
+
+mend-requires : tie.Need-mend-requires
+mend-requires c κs = let s = (c .before .before .before .before .before .before .before .before .before .before .before .before .before .before .before .before .before .before .before .before .before .before .before .before .before .before .before .before .before) in let adm = is-none (refusalOf (c .before .before .before .before .before .before .before .before .before .before .before .before .before .before .before .repair-verdict .result)) (sym (c .before .before .before .before .before .before .before .before .before .before .before .before .admitted .ensures) ∙ not-false _ (c .before .before .before .before .before .before .before .before .before .before .before .if1 .left)) in let g = ready (mapTables (s .args .text .now) (s .args .roads .now) (s .args .sections .now) (s .args .junctions .now) (s .args .connections .now) (s .args .pairs .now)) (sym adm ∙ c .before .before .before .before .before .before .before .before .before .before .before .before .before .before .before .repair-verdict .ensures .0) in (g .small, g .joined, record { few = g .few-roads; heads-long = c .before .before .before .before .before .before .before .before .before .before .before .before .before .before .before .repair-verdict .kept .1 .1 .1 .1 .1 .1 .0 ∙ length-replicate {A = ℕ} 16384 0; next-long = c .before .before .before .before .before .before .before .before .before .before .before .before .before .before .before .repair-verdict .kept .1 .1 .1 .1 .1 .1 .1 .0 ∙ length-replicate {A = ℕ} 16384 0; chained = c .before .before .before .before .before .before .before .before .before .before .before .before .before .before .before .repair-verdict .ensures .1 adm; once = g .once }, c .before .before .before .before .before .before .before .before .before .without-along .kept .1 .1 .1 .0 ∙ length-replicate {A = ℕ} 32768 0, g .worded)
+
+same-length : tie.Need-same-length
+same-length c = search needs
+
+same-length-2 : tie.Need-same-length-2
+same-length-2 c = search needs
+
+same-length-3 : tie.Need-same-length-3
+same-length-3 c = search needs
+
+same-length-4 : tie.Need-same-length-4
+same-length-4 c = search needs
+
+same-length-5 : tie.Need-same-length-5
+same-length-5 c = search needs
+
+returns-2 : tie.Need-returns-2
+returns-2 c = let s = (c .before .before .before .before .before .before .before .before .before .before .before .before .before .before .before .before .before .before .before .before .before .before .before .before .before .before .before .before .before .before .before .before .before .before .before .before .before .before .before .before .before) in let adm = is-none (refusalOf (c .before .before .before .before .before .before .before .before .before .before .before .before .before .before .before .before .before .before .before .before .before .before .before .before .before .before .before .repair-verdict .result)) (sym (c .before .before .before .before .before .before .before .before .before .before .before .before .before .before .before .before .before .before .before .before .before .before .before .before .admitted .ensures) ∙ not-false _ (c .before .before .before .before .before .before .before .before .before .before .before .before .before .before .before .before .before .before .before .before .before .before .before .if1 .left)) in let g = ready (mapTables (s .args .text .now) (s .args .roads .now) (s .args .sections .now) (s .args .junctions .now) (s .args .connections .now) (s .args .pairs .now)) (sym adm ∙ c .before .before .before .before .before .before .before .before .before .before .before .before .before .before .before .before .before .before .before .before .before .before .before .before .before .before .before .repair-verdict .ensures .0) in c .before .before .before .before .before .before .before .before .before .before .before .mend .ensures (s .args .sections .now) (g .fit) (start-is (s .args .text .now) (s .args .roads .now) (s .args .sections .now) (s .args .junctions .now) (s .args .connections .now) (s .args .pairs .now) (g .joined) _ (c .before .before .before .before .before .before .before .before .before .before .before .before .before .before .before .before .before .before .before .before .before .without-along .ensures (s .args .sections .now) (s .args .pairs .now) (s .args .connections .now))) ∙ call-admitted (mapTables (s .args .text .now) (s .args .roads .now) (s .args .sections .now) (s .args .junctions .now) (s .args .connections .now) (s .args .pairs .now)) (outs (s .args .roads-out .now) (s .args .junctions-out .now) (s .args .connections-out .now) (s .args .pairs-out .now) (s .args .warnings-out .now)) (sym adm ∙ c .before .before .before .before .before .before .before .before .before .before .before .before .before .before .before .before .before .before .before .before .before .before .before .before .before .before .before .repair-verdict .ensures .0)
+
+pub repair-spec : {M : Type 1} → statement M
+repair-spec =
+    tie.close
+    (tie.spec
+    slice-aggregate-repair-verdict
+    slice-aggregate-repair-verdict-2
+    repair-verdict-requires
+    admitted-requires
+    returns
+    slice-aggregate-without-along
+    without-along-requires
+    slice-aggregate-mend
+    slice-aggregate-mend-2
+    slice-aggregate-mend-3
+    mend-requires
+    same-length
+    same-length-2
+    same-length-3
+    same-length-4
+    same-length-5
+    returns-2)

@@ -1,0 +1,44 @@
+use Rattle.words.specs.Rows.{span}
+use Rattle.model.specs.Text.{sameIn}
+use Prim.Native.Nat.{_-_}
+use mathlib.Core.Path.{_∙_}
+use borrow.Author.Needs.{needs}
+use Rattle.repair.proofs.reversed.same_at.Statement.{statement}
+use Rattle.repair.proofs.reversed.same_at.Tie as tie
+
+at-requires : tie.Need-at-requires
+at-requires c κs = search needs
+
+add-at : tie.Need-add-at
+add-at c = search needs
+
+at-requires-2 : tie.Need-at-requires-2
+at-requires-2 c κs = search needs
+
+at-requires-3 : tie.Need-at-requires-3
+at-requires-3 c κs = search needs
+
+add-at-2 : tie.Need-add-at-2
+add-at-2 c = search needs
+
+at-requires-4 : tie.Need-at-requires-4
+at-requires-4 c κs = search needs
+
+alike-requires : tie.Need-alike-requires
+alike-requires c κs = search needs
+
+returns : tie.Need-returns
+returns c = let s = (c .before .before .before .before .before .before .before) in c .alike .ensures ∙ (λ i. sameIn (s .args .text .now) (span (c .before .before .before .before .at .ensures i) (c .before .before .before .at2 .ensures i)) (span (c .before .before .at3 .ensures i) (c .before .at4 .ensures i)))
+
+pub same-at-spec : {M : Type 1} → statement M
+same-at-spec =
+    tie.close
+    (tie.spec
+    at-requires
+    add-at
+    at-requires-2
+    at-requires-3
+    add-at-2
+    at-requires-4
+    alike-requires
+    returns)

@@ -1,0 +1,34 @@
+use Rattle.words.proofs.KeyLaws.{rows-in}
+use Rattle.words.proofs.Chains.{last-le}
+use Rattle.words.specs.Keys.{bears}
+use Rattle.words.specs.Rows.{lastOf, nameFrom, span}
+use lib.ListN.{length}
+use Prim.Native.Nat.{ℕ, _-_, _/_}
+use native.Mathlib.Omega.{arith}
+use mathlib.Core.Path.{ap₂, _∙_}
+use borrow.Author.Needs.{needs}
+use Rattle.repair.proofs.targets.road_of.Statement.{statement}
+use Rattle.repair.proofs.targets.road_of.Tie as tie
+
+index-at-requires : tie.Need-index-at-requires
+index-at-requires c κs = search needs
+
+add-index-at : tie.Need-add-index-at
+add-index-at c = search needs
+
+index-at-requires-2 : tie.Need-index-at-requires-2
+index-at-requires-2 c κs = search needs
+
+find-name-requires : tie.Need-find-name-requires
+find-name-requires c κs = let s = (c .before .before .before .before .before .before .before) in ((omega arith, omega arith, rows-in (length (s .args .roads .now)) 20, s .pre .1 .few, s .pre .1 .heads-long, omega (arith, s .pre .1 .few, s .pre .1 .next-long), c .before .index-at .ensures .1, c .index-at2 .ensures .1), s .pre .1 .chained)
+
+returns : tie.Need-returns
+returns c = let s = (c .before .before .before .before .before .before .before .before) in
+    let n = length (s .args .roads .now) / 20 in
+    let e = c .find-name .ensures ∙ ap₂ (λ (a b : ℕ). lastOf (length (s .args .roads .now) / 20) (bears (s .args .text .now) 20 0 (s .args .roads .now) (span a b))) (c .before .before .index-at .ensures .0) (c .before .index-at2 .ensures .0) in
+    (e, let le = last-le n (bears (s .args .text .now) 20 0 (s .args .roads .now) (nameFrom (s .args .ws .now) (s .args .k))) in omega (arith, e, le))
+
+pub road-of-spec : {M : Type 1} → statement M
+road-of-spec =
+    tie.close
+    (tie.spec index-at-requires add-index-at index-at-requires-2 find-name-requires returns)

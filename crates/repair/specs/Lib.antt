@@ -1,0 +1,4 @@
+pub mod Now
+pub mod Laying
+pub mod Along
+pub mod Answers
