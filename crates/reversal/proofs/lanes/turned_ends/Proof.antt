@@ -1,0 +1,22 @@
+use mathlib.Core.Path.{ap, _∙_}
+use borrow.Author.Needs.{needs}
+use Rattle.geometry.specs.Edges.{endsAt}
+use Rattle.geometry.specs.Gap.{swapped}
+use Rattle.reversal.proofs.Leaves.{if-on, if-off}
+use Rattle.reversal.proofs.lanes.turned_ends.Statement.{statement}
+use Rattle.reversal.proofs.lanes.turned_ends.Tie as tie
+
+ends-at-requires : tie.Need-ends-at-requires
+ends-at-requires c κs = search needs
+
+turned-requires : tie.Need-turned-requires
+turned-requires c κs = search needs
+
+returns : tie.Need-returns
+returns c = let s = (c .before .before .before .before) in if-on (s .args .mark) (swapped (endsAt (s .args .edges .now) (s .args .i))) (endsAt (s .args .edges .now) (s .args .i)) (c .before .if1 .taken) (c .turned .ensures ∙ ap swapped (c .before .before .ends-at .ensures))
+
+returns-2 : tie.Need-returns-2
+returns-2 c = let s = (c .before .before .before) in if-off (s .args .mark) (swapped (endsAt (s .args .edges .now) (s .args .i))) (endsAt (s .args .edges .now) (s .args .i)) (c .if1 .left) (c .before .ends-at .ensures)
+
+pub turned-ends-spec : {M : Type 1} → statement M
+turned-ends-spec = tie.close (tie.spec ends-at-requires turned-requires returns returns-2)

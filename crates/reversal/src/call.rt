@@ -1,0 +1,200 @@
+// Reversal as a call: its refusals, and its six outputs.
+use crate::lanes;
+use crate::links;
+use crate::roads;
+use tables::verdict::Verdict;
+use tables::verdict::admitted;
+use tables::verdict::reversal_verdict;
+use words::tests::both;
+ghost use mathlib.Core.Path.{_≡_};
+ghost use mathlib.Core.List.{[], _∷_};
+ghost use Prim.Native.Nat.{_/_, _≤_};
+ghost use lib.ListN.{length};
+ghost use Rattle.model.specs.Rows.{written};
+ghost use Rattle.model.specs.Tables.{allTables};
+ghost use Rattle.model.specs.Rules.{fits};
+ghost use Rattle.model.specs.Calls.{reversalCall};
+ghost use Rattle.reversal.specs.Turned.{joined, Writable, turnedConnection, turnedEdges, turnedLane, turnedPairs, turnedRoad, turnedSections};
+ghost use Rattle.reversal.specs.Answers.{outcomeOf, sixOf};
+
+// How many rows were written to each output.
+pub struct Counts {
+    pub roads: usize,
+    pub sections: usize,
+    pub connections: usize,
+    pub pairs: usize,
+    pub lanes: usize,
+    pub edges: usize,
+}
+
+// The rows written, or why the call was refused.
+pub enum Reversed {
+    Written(Counts),
+    Refused(Verdict),
+}
+
+// Not 9: each output is as long as the table whose rows it gets.
+fn enough(
+    roads: usize,
+    sections: usize,
+    connections: usize,
+    pairs: usize,
+    lanes: usize,
+    edges: usize,
+    outroads: usize,
+    outsections: usize,
+    outconnections: usize,
+    outpairs: usize,
+    outlanes: usize,
+    outedges: usize,
+) -> bool
+    ensures { λ q. ⌜ q ≡ fits (roads ∷ sections ∷ connections ∷ pairs ∷ lanes ∷ edges ∷ []) (outroads ∷ outsections ∷ outconnections ∷ outpairs ∷ outlanes ∷ outedges ∷ []) ⌝ }
+{
+    let a = edges <= outedges;
+    let b = both(lanes <= outlanes, a);
+    let c = both(pairs <= outpairs, b);
+    let d = both(connections <= outconnections, c);
+    let e = both(sections <= outsections, d);
+    both(roads <= outroads, e)
+}
+
+// Writes the six outputs.
+fn write_all(
+    text: &[u8],
+    roads: &[u32],
+    sections: &[u32],
+    connections: &[u32],
+    pairs: &[u32],
+    lanes: &[u32],
+    edges: &[f32],
+    marks: &[u32],
+    heads: &[u32],
+    next: &[u32],
+    owner: &[u32],
+    outroads: &mut [u32],
+    outsections: &mut [u32],
+    outconnections: &mut [u32],
+    outpairs: &mut [u32],
+    outlanes: &mut [u32],
+    outedges: &mut [f32],
+)
+    requires { ⌜ Writable (now text) (now roads) (now sections) (now connections) (now pairs) (now lanes) (now edges) (now marks) (now heads) (now next) (now owner) ⌝ }
+    requires { ⌜ (length (now roads) ≤ length (now outroads)) × (length (now sections) ≤ length (now outsections)) × (length (now connections) ≤ length (now outconnections)) × (length (now pairs) ≤ length (now outpairs)) × (length (now lanes) ≤ length (now outlanes)) × (length (now edges) ≤ length (now outedges)) ⌝ }
+    ensures { λ _. ⌜ (now (outroads .exit) ≡ written (joined (length (now (roads .entry)) / 20) (turnedRoad (now (text .entry)) (now (roads .entry)) (now (marks .entry)))) (now (outroads .entry))) × (now (outsections .exit) ≡ written (joined (length (now (roads .entry)) / 20) (turnedSections (now (roads .entry)) (now (sections .entry)) (now (marks .entry)))) (now (outsections .entry))) × (now (outconnections .exit) ≡ written (joined (length (now (connections .entry)) / 7) (turnedConnection (now (text .entry)) (now (roads .entry)) (now (marks .entry)) (now (connections .entry)))) (now (outconnections .entry))) × (now (outpairs .exit) ≡ written (joined (length (now (connections .entry)) / 7) (turnedPairs (now (text .entry)) (now (roads .entry)) (now (marks .entry)) (now (connections .entry)) (now (pairs .entry)))) (now (outpairs .entry))) × (now (outlanes .exit) ≡ written (joined (length (now (lanes .entry)) / 10) (turnedLane (now (text .entry)) (now (roads .entry)) (now (sections .entry)) (now (marks .entry)) (now (lanes .entry)) (now (owner .entry)))) (now (outlanes .entry))) × (now (outedges .exit) ≡ written (joined (length (now (edges .entry)) / 12) (turnedEdges (now (owner .entry)) (now (marks .entry)) (now (edges .entry)))) (now (outedges .entry))) ⌝ }
+{
+    roads::put_roads(text, roads, heads, next, marks, outroads);
+    roads::put_sections(roads, sections, marks, outsections);
+    links::put_connections(text, roads, heads, next, marks, connections, outconnections);
+    links::put_pairs(
+        text,
+        roads,
+        heads,
+        next,
+        marks,
+        connections,
+        pairs,
+        outpairs,
+    );
+    lanes::put_lanes(
+        text,
+        roads,
+        sections,
+        heads,
+        next,
+        marks,
+        lanes,
+        owner,
+        outlanes,
+    );
+    lanes::put_edges(owner, marks, edges, outedges);
+}
+
+// The map with its marked roads reversed.
+pub fn reverse(
+    text: &[u8],
+    roads: &[u32],
+    sections: &[u32],
+    junctions: &[u32],
+    connections: &[u32],
+    pairs: &[u32],
+    lanes: &[u32],
+    edges: &[f32],
+    marks: &[u32],
+    outroads: &mut [u32],
+    outsections: &mut [u32],
+    outconnections: &mut [u32],
+    outpairs: &mut [u32],
+    outlanes: &mut [u32],
+    outedges: &mut [f32],
+) -> Reversed
+    ensures { λ q. ⌜ outcomeOf q (sixOf (now (outroads .exit)) (now (outsections .exit)) (now (outconnections .exit)) (now (outpairs .exit)) (now (outlanes .exit)) (now (outedges .exit))) ≡ reversalCall (allTables (now (text .entry)) (now (roads .entry)) (now (sections .entry)) (now (junctions .entry)) (now (connections .entry)) (now (pairs .entry)) (now (lanes .entry)) (now (edges .entry))) (now (marks .entry)) (sixOf (now (outroads .entry)) (now (outsections .entry)) (now (outconnections .entry)) (now (outpairs .entry)) (now (outlanes .entry)) (now (outedges .entry))) ⌝ }
+{
+    let mut heads = [0u32; 16384];
+    let mut next = [0u32; 16384];
+    let mut owner = [0u32; 16384];
+    let mut kheads = [0u32; 16384];
+    let mut knext = [0u32; 16384];
+    let v = reversal_verdict(
+        text,
+        roads,
+        sections,
+        junctions,
+        connections,
+        pairs,
+        lanes,
+        edges,
+        marks,
+        &mut heads,
+        &mut next,
+        &mut owner,
+        &mut kheads,
+        &mut knext,
+    );
+    if !admitted(v) {
+        return Reversed::Refused(v);
+    }
+    if !enough(
+        roads.len(),
+        sections.len(),
+        connections.len(),
+        pairs.len(),
+        lanes.len(),
+        edges.len(),
+        outroads.len(),
+        outsections.len(),
+        outconnections.len(),
+        outpairs.len(),
+        outlanes.len(),
+        outedges.len(),
+    ) {
+        return Reversed::Refused(Verdict::OutputShort);
+    }
+    write_all(
+        text,
+        roads,
+        sections,
+        connections,
+        pairs,
+        lanes,
+        edges,
+        marks,
+        &heads,
+        &next,
+        &owner,
+        outroads,
+        outsections,
+        outconnections,
+        outpairs,
+        outlanes,
+        outedges,
+    );
+    let n = Counts {
+        roads: roads.len() / 20,
+        sections: sections.len(),
+        connections: connections.len() / 7,
+        pairs: pairs.len() / 2,
+        lanes: lanes.len() / 10,
+        edges: edges.len() / 12,
+    };
+    Reversed::Written(n)
+}
