@@ -1,0 +1,182 @@
+-- Runs made word by word, links back, and one list more among packed lists.
+use Prim.Native.Nat.{ℕ, zero, suc, _+_, _-_, _*_, _<_, _≤_}
+use mathlib.Core.Path.{_≡_, refl, sym, ap, ap₂, _∙_, subst}
+use mathlib.Core.Bool.{Bool, true, false, cond}
+use mathlib.Core.List.{List, [], _∷_, _++_}
+use native.Mathlib.Nat.{le-refl}
+use native.Mathlib.Numerals.{add-one}
+use native.Mathlib.Omega.{arith}
+use lib.Dec.{ltb}
+use lib.ListN.{length, getD, take, drop}
+use lib.Seq.{length-take-le, take-all, take-suc}
+use borrow.Author.Tests.{lt-ltb}
+use Rattle.model.specs.Lists.{insert}
+use Rattle.model.specs.Lookup.{listPart}
+use Rattle.model.specs.Rows.{written}
+use Rattle.model.specs.Succession.{isBoth}
+use Rattle.model.specs.Tables.{directionOf}
+use Rattle.laws.proofs.Sorting.{Ordered}
+use Rattle.words.specs.Rows.{total}
+use Rattle.succession.specs.Runs.{Rising}
+use Rattle.succession.specs.ByRow.{Rows, exitsByRow, ranged, successorsByRow, successorsFromRow}
+use Rattle.succession.specs.Packs.{startOf}
+use Rattle.succession.specs.Finished.{Made, backInto, bothLong, exitCount, finishedFrom, twoWayRow, wants}
+use Rattle.succession.proofs.RunLaws.{insert-length}
+use Rattle.succession.proofs.Absorbed.{length-absorb, ordered-insert, ordered-rising, rising-ordered, written-front, written-long, written-take, written-twice}
+use Rattle.succession.proofs.Places.{tail-back, tail-is, tailFrom}
+use Rattle.succession.proofs.Packing.{joined-long, packed-more}
+
+-- ---- two-way lanes
+both-word : (w : ℕ) → ltb 1 w ≡ isBoth (directionOf w)
+both-word zero = refl
+both-word (suc zero) = refl
+both-word (suc (suc w)) = lt-ltb 1 (suc (suc w)) (omega arith)
+
+pub two-way-row : (lanes : List ℕ) (f : ℕ) → (f ≡ 0 → ⊥) → ltb 1 (getD lanes ((f - 1) * 10 + 5) 0) ≡ twoWayRow lanes f
+two-way-row lanes zero n = absurd (n refl)
+two-way-row lanes (suc r) n = both-word (getD lanes ((suc r - 1) * 10 + 5) 0) ∙ ap (λ (k : ℕ). isBoth (directionOf (getD lanes (k * 10 + 5) 0))) (let e : suc r - 1 ≡ r = omega arith in e)
+
+-- ---- a run made
+module _ (run new : List ℕ) (n q x : ℕ) (asked : Bool) where
+  pub made-put : asked ≡ true → n ≤ length run → new ≡ written (insert x (take n run)) run → Made (cond asked (insert x (take n run)) (take n run)) run new (n + 1)
+  made-put e h p = record {
+    list = p ∙ ap (λ (b : Bool). written (cond b (insert x (take n run)) (take n run)) run) (sym e);
+    size = sym (insert-length x (take n run) ∙ ap suc (length-take-le n run h) ∙ sym (add-one n)) ∙ ap (λ (b : Bool). length (cond b (insert x (take n run)) (take n run))) (sym e);
+  }
+
+  pub made-left : asked ≡ false → n ≤ length run → Made (cond asked (insert x (take n run)) (take n run)) run run n
+  made-left e h = record {
+    list = sym (written-take n run h) ∙ ap (λ (b : Bool). written (cond b (insert x (take n run)) (take n run)) run) (sym e);
+    size = sym (length-take-le n run h) ∙ ap (λ (b : Bool). length (cond b (insert x (take n run)) (take n run))) (sym e);
+  }
+
+-- what a run made has in front, and a longer one made over it
+module _ (xs old mid : List ℕ) (n : ℕ) (m : Made xs old mid n) where
+  pub made-front : take n mid ≡ xs
+  made-front = ap₂ take (m .size) (m .list) ∙ written-front xs old
+
+  pub made-long : length xs ≤ length old → length mid ≡ length old
+  made-long h = ap length (m .list) ∙ written-long xs old h
+
+  pub made-then : (ys zs new : List ℕ) (q : ℕ) → Made ys mid new q → ys ≡ zs → length xs ≤ length zs → Made zs old new q
+  made-then ys zs new q p e h = record {
+    list = p .list ∙ ap₂ written e (m .list) ∙ written-twice xs zs old h;
+    size = p .size ∙ ap length e;
+  }
+
+-- ---- links back
+module _ (p : ℕ → Bool) where
+  pub back-more : (ys : List ℕ) (y : ℕ) (xs : List ℕ) → backInto p (ys ++ (y ∷ [])) xs ≡ cond (p y) (insert y (backInto p ys xs)) (backInto p ys xs)
+  back-more [] y xs = refl
+  back-more (z ∷ ys) y xs = back-more ys y (cond (p z) (insert z xs) xs)
+
+  pub back-take : (ys : List ℕ) (k : ℕ) (xs : List ℕ) → k < length ys → backInto p (take (k + 1) ys) xs ≡ cond (p (getD ys k 0)) (insert (getD ys k 0) (backInto p (take k ys) xs)) (backInto p (take k ys) xs)
+  back-take ys k xs h = ap (λ (j : ℕ). backInto p (take j ys) xs) (add-one k) ∙ ap (λ (l : List ℕ). backInto p l xs) (take-suc ys k 0 h) ∙ back-more (take k ys) (getD ys k 0) xs
+
+  put-size : (b : Bool) (y : ℕ) (xs : List ℕ) → (length xs ≤ length (cond b (insert y xs) xs)) × (length (cond b (insert y xs) xs) ≤ suc (length xs))
+  put-size true y xs = let e = insert-length y xs in (omega arith, omega arith)
+  put-size false y xs = (le-refl (length xs), omega arith)
+
+  pub back-least : (ys xs : List ℕ) → length xs ≤ length (backInto p ys xs)
+  back-least [] xs = le-refl (length xs)
+  back-least (y ∷ ys) xs = let a = put-size (p y) y xs in let b = back-least ys (cond (p y) (insert y xs) xs) in omega (arith, a .0)
+
+  pub back-most : (ys xs : List ℕ) → length (backInto p ys xs) ≤ length xs + length ys
+  back-most [] xs = omega arith
+  back-most (y ∷ ys) xs = let a = put-size (p y) y xs in let b = back-most ys (cond (p y) (insert y xs) xs) in omega (arith, a .1)
+
+  ordered-put : (b : Bool) (y : ℕ) (xs : List ℕ) → Ordered xs → Ordered (cond b (insert y xs) xs)
+  ordered-put true y xs h = ordered-insert y xs h
+  ordered-put false y xs h = h
+
+  pub back-ordered : (ys xs : List ℕ) → Ordered xs → Ordered (backInto p ys xs)
+  back-ordered [] xs h = h
+  back-ordered (y ∷ ys) xs h = back-ordered ys (cond (p y) (insert y xs) xs) (ordered-put (p y) y xs h)
+
+  -- the loop's turn
+  module _ (finders : List ℕ) (start : ℕ) (run₀ : List ℕ) (rising : Rising (take start run₀)) (room : start + length finders ≤ length run₀) where
+    abbrev soFar : ℕ → List ℕ
+    soFar k = backInto p (take k finders) (take start run₀)
+
+    so-long : (k : ℕ) → k ≤ length finders → length (soFar k) ≤ start + k
+    so-long k h = let a = back-most (take k finders) (take start run₀) in let b = length-take-le k finders h in let d = length-take-le start run₀ (omega arith) in omega arith
+
+    pub turn-none : Made (soFar 0) run₀ run₀ start
+    turn-none = record { list = sym (written-take start run₀ (omega arith)); size = sym (length-take-le start run₀ (omega arith)) }
+
+    module _ (k n : ℕ) (run : List ℕ) (h : k ≤ length finders) (m : Made (soFar k) run₀ run n) where
+      pub turn-long : length run ≡ length run₀
+      turn-long = made-long (soFar k) run₀ run n m (let a = so-long k h in omega arith)
+
+      pub turn-room : k < length finders → n < length run
+      turn-room lt = let a = so-long k h in let b = turn-long in let d = m .size in omega arith
+
+      pub turn-rising : Rising (take n run)
+      turn-rising = ordered-rising (take n run) (subst Ordered (sym (made-front (soFar k) run₀ run n m)) (back-ordered (take k finders) (take start run₀) (rising-ordered (take start run₀) rising)))
+
+      pub turn-on : k < length finders → (asked : Bool) → asked ≡ p (getD finders k 0) → (new : List ℕ) (q : ℕ) → Made (cond asked (insert (getD finders k 0) (take n run)) (take n run)) run new q → Made (soFar (k + 1)) run₀ new q
+      turn-on lt asked e new q u = made-then (soFar k) run₀ run n m (cond asked (insert (getD finders k 0) (take n run)) (take n run)) (soFar (k + 1)) new q u
+          (ap₂ (λ (b : Bool) (xs : List ℕ). cond b (insert (getD finders k 0) xs) xs) e (made-front (soFar k) run₀ run n m) ∙ sym (back-take finders k (take start run₀) lt))
+          (subst (λ (l : List ℕ). length (soFar k) ≤ length l) (sym (back-take finders k (take start run₀) lt)) (put-size (p (getD finders k 0)) (getD finders k 0) (soFar k) .0))
+
+      pub turn-end : length finders ≤ k → Made (backInto p finders (take start run₀)) run₀ run n
+      turn-end ge = subst (λ (l : List ℕ). Made (backInto p l (take start run₀)) run₀ run n) (take-all k finders ge) m
+
+-- ---- a lane's finished list
+module _ (lanes mine finders : List ℕ) (l : ℕ) where
+  pub finish-most : length (finishedFrom lanes mine finders l) ≤ length mine + length finders
+  unfolding finishedFrom
+  finish-most = go (twoWayRow lanes (suc l))
+    where
+      go : (b : Bool) → length (cond b (backInto (wants lanes mine) finders mine) mine) ≤ length mine + length finders
+      go true = back-most (wants lanes mine) finders mine
+      go false = omega arith
+
+  module _ (run₀ run : List ℕ) (e : run ≡ written mine run₀) where
+    pub finish-plain : twoWayRow lanes (suc l) ≡ false → Made (finishedFrom lanes mine finders l) run₀ run (length mine)
+    unfolding finishedFrom
+    finish-plain z = record { list = e ∙ ap (λ (b : Bool). written (cond b (backInto (wants lanes mine) finders mine) mine) run₀) (sym z); size = ap (λ (b : Bool). length (cond b (backInto (wants lanes mine) finders mine) mine)) (sym z) }
+
+    pub copied : take (length mine) run ≡ mine
+    copied = ap (take (length mine)) e ∙ written-front mine run₀
+
+    pub finish-back : twoWayRow lanes (suc l) ≡ true → (new : List ℕ) (q : ℕ) → Made (backInto (wants lanes mine) finders (take (length mine) run)) run new q → Made (finishedFrom lanes mine finders l) run₀ new q
+    unfolding finishedFrom
+    finish-back z new q m = made-then mine run₀ run (length mine) (record { list = e; size = refl }) (backInto (wants lanes mine) finders (take (length mine) run)) (cond (twoWayRow lanes (suc l)) (backInto (wants lanes mine) finders mine) mine) new q m
+        (ap (backInto (wants lanes mine) finders) copied ∙ ap (λ (b : Bool). cond b (backInto (wants lanes mine) finders mine) mine) (sym z))
+        (subst (λ (b : Bool). length mine ≤ length (cond b (backInto (wants lanes mine) finders mine) mine)) (sym z) (back-least (wants lanes mine) finders mine))
+
+-- ---- one list more, written to the tail of an output
+module _ (list : ℕ → List ℕ) (f : ℕ → ℕ) (few : (i : ℕ) → length (list i) ≤ f i) where
+  pub start-most : (i : ℕ) → startOf list i ≤ total i f
+  unfolding total
+  start-most zero = le-refl 0
+  start-most (suc i) = let a : startOf list i ≤ total i f = start-most i in let b = few i in omega arith
+
+  module _ (n i at : ℕ) (out₀ out : List ℕ) (li : i < n) (room : total n f ≤ length out₀) (ea : at ≡ startOf list i) (long : length out ≡ length out₀) where
+    upto : total (i + 1) f ≤ length out₀
+    upto = let a = Rattle.words.proofs.Laws.total-le (i + 1) n f (omega arith) in omega arith
+
+    pub tail-room : at + f i ≤ length out
+    tail-room = let a = upto in let b = Rattle.words.proofs.Laws.total-more i f in let d = start-most i in omega arith
+
+    pub tail-more : out ≡ written (ranged 0 i list) out₀ → (xs new : List ℕ) → xs ≡ list i → new ≡ written xs (tailFrom at out (let a = tail-room in omega arith)) → take at out ++ (new ++ drop (length out - at) (drop at out)) ≡ written (ranged 0 (i + 1) list) out₀
+    tail-more e xs new ex en =
+        let h : at ≤ length out = (let a = tail-room in omega arith) in
+        tail-back at out h new ∙ packed-more list i at out₀ out (take at out ++ new) e ea (ap (λ (l : List ℕ). take at out ++ l) (en ∙ ap₂ written ex (tail-is at out h))) (let a = start-most (i + 1) in let b = upto in omega arith)
+
+    pub more-long : (new : List ℕ) → new ≡ written (ranged 0 (i + 1) list) out₀ → length new ≡ length out₀
+    more-long new e = ap length e ∙ written-long (ranged 0 (i + 1) list) out₀ (let a = joined-long list (i + 1) in let b = start-most (i + 1) in let d = upto in omega arith)
+
+pub successors-most : (R : Rows) (l : ℕ) → length (successorsByRow R l) ≤ exitCount R l
+unfolding successorsByRow
+successors-most R l = go (getD (R .lanes) (l * 10 + 5) 0)
+  where
+    go : (d : ℕ) → length (successorsFromRow R l d) ≤ exitCount R l
+    go zero = let a = length-absorb false [] (exitsByRow R l true) in omega arith
+    go (suc zero) = let a = length-absorb false [] (exitsByRow R l false) in omega arith
+    go (suc (suc d)) = let a = length-absorb true [] (exitsByRow R l true ++ exitsByRow R l false) in let b = lib.ListN.length-append (exitsByRow R l true) (exitsByRow R l false) in omega arith
+
+pub both-fit : (starts ids fstarts fids : List ℕ) (n : ℕ) (f : ℕ → List ℕ) → ((i : ℕ) → i < n → listPart fstarts fids i ≡ f i) → total n (bothLong starts ids fstarts fids) ≡ startOf (listPart starts ids) n + startOf f n
+both-fit starts ids fstarts fids n f h = Rattle.succession.proofs.Spreads.total-plus n (λ k. length (listPart starts ids k)) (λ k. length (listPart fstarts fids k)) (bothLong starts ids fstarts fids) (λ r. refl)
+    ∙ ap (λ (k : ℕ). startOf (listPart starts ids) n + k) (Rattle.words.proofs.Laws.total-same n (λ k. length (listPart fstarts fids k)) (λ k. length (f k)) (λ i li. ap length (h i li)))

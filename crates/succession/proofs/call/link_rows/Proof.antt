@@ -1,0 +1,53 @@
+use lib.ListN.{length, getD-replicate, length-replicate}
+use Rattle.words.proofs.KeyLaws.{rows-in}
+use Prim.Native.Nat.{ℕ, _-_}
+use native.Mathlib.Omega.{arith}
+use mathlib.Core.Path.{_∙_}
+use borrow.Author.Needs.{needs}
+use Rattle.succession.proofs.call.link_rows.Statement.{statement}
+use Rattle.succession.proofs.call.link_rows.Tie as tie
+
+slice-aggregate-link-names : tie.Need-slice-aggregate-link-names
+slice-aggregate-link-names c = search needs
+
+slice-aggregate-link-names-2 : tie.Need-slice-aggregate-link-names-2
+slice-aggregate-link-names-2 c = search needs
+
+link-names-requires : tie.Need-link-names-requires
+link-names-requires c κs = let s = (c .before .before .before .before .before .before .before .before .before .before) in ((omega arith, omega arith, rows-in (length (s .args .junctions .now)) 5, s .pre .0 .3, length-replicate {A = ℕ} 16384 0, length-replicate {A = ℕ} 16384 0), λ b h. getD-replicate {A = ℕ} 16384 b 0 0 h)
+
+link-sides-requires : tie.Need-link-sides-requires
+link-sides-requires c κs = let s = (c .before .before .before .before .before .before .before .before .before .before .before .before .before .before) in ((s .pre .0 .0, s .pre .0 .1, omega (arith, s .pre .0 .0, s .pre .0 .2), s .pre .0 .4, s .pre .0 .5), s .pre .1)
+
+slice-aggregate-link-ends : tie.Need-slice-aggregate-link-ends
+slice-aggregate-link-ends c = search needs
+
+slice-aggregate-link-ends-2 : tie.Need-slice-aggregate-link-ends-2
+slice-aggregate-link-ends-2 c = search needs
+
+link-ends-requires : tie.Need-link-ends-requires
+link-ends-requires c κs = let s = (c .before .before .before .before .before .before .before .before .before .before .before .before .before .before .before .before .before .before .before .before) in ((s .pre .0 .0, s .pre .0 .1, omega (arith, s .pre .0 .0, s .pre .0 .2), s .pre .0 .6), (s .pre .1, ((s .pre .0 .3, c .before .before .before .before .before .before .before .before .before .link-names .kept .1 .1 .1 .1 .1 .0 ∙ length-replicate {A = ℕ} 16384 0, omega (arith, s .pre .0 .3, c .before .before .before .before .before .before .before .before .before .link-names .kept .1 .1 .1 .1 .1 .1 .0, length-replicate {A = ℕ} 16384 0)), c .before .before .before .before .before .before .before .before .before .link-names .ensures .1)))
+
+same-length : tie.Need-same-length
+same-length c = search needs
+
+same-length-2 : tie.Need-same-length-2
+same-length-2 c = search needs
+
+returns : tie.Need-returns
+returns c = (c .before .before .before .before .before .before .before .before .link-sides .ensures, c .before .before .link-ends .ensures)
+
+pub link-rows-spec : {M : Type 1} → statement M
+link-rows-spec =
+    tie.close
+    (tie.spec
+    slice-aggregate-link-names
+    slice-aggregate-link-names-2
+    link-names-requires
+    link-sides-requires
+    slice-aggregate-link-ends
+    slice-aggregate-link-ends-2
+    link-ends-requires
+    same-length
+    same-length-2
+    returns)

@@ -1,0 +1,21 @@
+use Prim.Native.Nat.{ℕ, _/_, _≤_}
+use mathlib.Core.Path.{sym, subst}
+use lib.ListN.{length}
+use borrow.Author.Needs.{needs}
+use Rattle.words.specs.Keys.{isKey}
+use Rattle.words.proofs.Chains.{last-le}
+use Rattle.succession.specs.ByRow.{laneRowOf}
+use Rattle.succession.proofs.step.lookup.Statement.{statement}
+use Rattle.succession.proofs.step.lookup.Tie as tie
+
+find-key-requires : tie.Need-find-key-requires
+find-key-requires c κs = search needs
+
+returns : tie.Need-returns
+unfolding laneRowOf
+returns c =
+    let s = c .before .before .before .before .before in
+    (c .find-key .ensures, subst (λ (k : ℕ). k ≤ length (s .args .lanes .now) / 10) (sym (c .find-key .ensures)) (last-le (length (s .args .lanes .now) / 10) (isKey (s .args .lanes .now) (s .args .owner .now) (s .args .road) (s .args .section) (s .args .number))))
+
+pub lookup-spec : {M : Type 1} → statement M
+lookup-spec = tie.close (tie.spec find-key-requires returns)

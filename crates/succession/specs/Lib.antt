@@ -1,0 +1,7 @@
+pub mod Runs
+pub mod ByRow
+pub mod Named
+pub mod Packs
+pub mod Finished
+pub mod Answers
+pub mod Outcome

@@ -1,0 +1,277 @@
+// The whole call: checks, lists onward and lists before, exact counts, and only then the outputs.
+use crate::answer::Succession;
+use crate::back;
+use crate::converse;
+use crate::names;
+use crate::own;
+use tables::verdict;
+use tables::verdict::Verdict;
+use words::index;
+use words::rows;
+ghost use mathlib.Core.Path.{_≡_};
+ghost use mathlib.Core.Bool.{false};
+ghost use mathlib.Core.Option.{none};
+ghost use mathlib.Core.List.{[], _∷_};
+ghost use Prim.Native.Nat.{ℕ, _+_, _/_, _≤_, _<_};
+ghost use lib.ListN.{length, take};
+ghost use Rattle.model.specs.Calls.{listLengths, longEnough, putLists, settled, successionCall, successionRules};
+ghost use Rattle.model.specs.Lookup.{listPart};
+ghost use Rattle.model.specs.Rules.{firstBroken};
+ghost use Rattle.model.specs.Tables.{laneTables};
+ghost use Rattle.words.specs.Rows.{any, tab};
+ghost use Rattle.words.specs.Chain.{Chained};
+ghost use Rattle.words.specs.Keys.{idBefore, idHash, nameHash};
+ghost use Rattle.tables.specs.Verdicts.{refusalOf};
+ghost use Rattle.succession.specs.Runs.{Rising};
+ghost use Rattle.succession.specs.ByRow.{ranged};
+ghost use Rattle.succession.specs.Named.{Ended, Sided};
+ghost use Rattle.succession.specs.Packs.{Filled, listers, listersOf, startOf};
+ghost use Rattle.succession.specs.Outcome.{contentOf, onwardAt, outcomeOf, outputs, ownList};
+
+// Fills `sides` and `ends` with the rows that connections and targets name.
+fn link_rows(
+    text: &[u8],
+    roads: &[u32],
+    junctions: &[u32],
+    connections: &[u32],
+    heads: &[u32],
+    next: &[u32],
+    sides: &mut [u32],
+    ends: &mut [u32],
+)
+    requires { ⌜ (length (now roads) / 20 ≤ 16384) × (length (now heads) ≡ 16384) × (length (now next) ≡ 16384) × (length (now junctions) / 5 ≤ 16384) × (length (now connections) / 7 ≤ 16384) × (length (now sides) ≡ 32768) × (length (now ends) ≡ 32768) ⌝ }
+    requires { ⌜ Chained (nameHash (now text) 20 0 (now roads)) (length (now roads) / 20) (now heads) (now next) ⌝ }
+    ensures { λ _. ⌜ Sided (now (text .entry)) (now (roads .entry)) (now (connections .entry)) (length (now (connections .entry)) / 7) (now (sides .exit)) × Ended (now (text .entry)) (now (roads .entry)) (now (junctions .entry)) (length (now (roads .entry)) / 20) (now (ends .exit)) ⌝ }
+{
+    let mut jheads = [0u32; 16384];
+    let mut jnext = [0u32; 16384];
+    let n = junctions.len() / 5;
+    index::link_names(text, junctions, 5, 0, n, &mut jheads, &mut jnext);
+    names::link_sides(text, roads, heads, next, connections, sides);
+    names::link_ends(text, roads, heads, next, junctions, &jheads, &jnext, ends);
+}
+
+// Refusals 1 to 8; where there is none, every lane's own list.
+fn resolve_own(
+    text: &[u8],
+    roads: &[u32],
+    sections: &[u32],
+    junctions: &[u32],
+    connections: &[u32],
+    pairs: &[u32],
+    lanes: &[u32],
+    offsets: &mut [u32],
+    own: &mut [u32],
+) -> Verdict
+    requires { ⌜ (length (now offsets) ≡ 16385) × (length (now own) ≡ 65536) ⌝ }
+    ensures { λ q. ⌜ refusalOf q ≡ firstBroken (successionRules (laneTables (now (text .entry)) (now (roads .entry)) (now (sections .entry)) (now (junctions .entry)) (now (connections .entry)) (now (pairs .entry)) (now (lanes .entry)))) ⌝ }
+    ensures { λ q. ⌜ (refusalOf q ≡ none → Filled (length (now (lanes .entry)) / 10) (ownList (now (text .entry)) (now (roads .entry)) (now (sections .entry)) (now (junctions .entry)) (now (connections .entry)) (now (pairs .entry)) (now (lanes .entry))) (now (offsets .entry)) (now (own .entry)) (now (offsets .exit)) (now (own .exit))) ⌝ }
+{
+    let mut heads = [0u32; 16384];
+    let mut next = [0u32; 16384];
+    let mut owner = [0u32; 16384];
+    let mut kheads = [0u32; 16384];
+    let mut knext = [0u32; 16384];
+    let v = verdict::succession_verdict(
+        text,
+        roads,
+        sections,
+        junctions,
+        connections,
+        pairs,
+        lanes,
+        &mut heads,
+        &mut next,
+        &mut owner,
+        &mut kheads,
+        &mut knext,
+    );
+    if !verdict::admitted(v) {
+        return v;
+    }
+    let mut sides = [0u32; 32768];
+    let mut ends = [0u32; 32768];
+    link_rows(
+        text,
+        roads,
+        junctions,
+        connections,
+        &heads,
+        &next,
+        &mut sides,
+        &mut ends,
+    );
+    own::own_lists(
+        roads,
+        sections,
+        junctions,
+        connections,
+        pairs,
+        lanes,
+        &owner,
+        &sides,
+        &ends,
+        &kheads,
+        &knext,
+        offsets,
+        own,
+    );
+    v
+}
+
+// The finished lists onward, from the lanes' own lists. Returns how many identities they have.
+fn onward(
+    lanes: &[u32],
+    heads: &[u32],
+    next: &[u32],
+    starts: &[u32],
+    ids: &[u32],
+    offsets: &mut [u32],
+    out: &mut [u32],
+) -> usize
+    requires { ⌜ (length (now lanes) / 10 ≤ 16384) × (length (now heads) ≡ 16384) × (length (now lanes) / 10 ≤ length (now next)) ⌝ }
+    requires { ⌜ Chained (idHash (now lanes)) (length (now lanes) / 10) (now heads) (now next) ⌝ }
+    requires { ⌜ any (length (now lanes) / 10) (idBefore (now lanes)) ≡ false ⌝ }
+    requires { ⌜ ((l : ℕ) → l < (length (now lanes) / 10) → Rising (listPart (now starts) (now ids) l)) × (startOf (listPart (now starts) (now ids)) (length (now lanes) / 10) ≤ 65536) ⌝ }
+    requires { ⌜ (length (now offsets) ≡ 16385) × (length (now out) ≡ 131072) ⌝ }
+    ensures { λ q. ⌜ Filled (length (now (lanes .entry)) / 10) (onwardAt (now (lanes .entry)) (now (starts .entry)) (now (ids .entry))) (now (offsets .entry)) (now (out .entry)) (now (offsets .exit)) (now (out .exit)) × (q ≡ startOf (onwardAt (now (lanes .entry)) (now (starts .entry)) (now (ids .entry))) (length (now (lanes .entry)) / 10)) ⌝ }
+{
+    let mut fstarts = [0u32; 16385];
+    let mut fids = [0u32; 65536];
+    converse::converse(lanes, heads, next, starts, ids, &mut fstarts, &mut fids);
+    back::finish_lists(
+        lanes,
+        heads,
+        next,
+        starts,
+        ids,
+        &fstarts,
+        &fids,
+        offsets,
+        out,
+    )
+}
+
+// Writes packed lists and the same read the other way, or refuses by 9 where an output is too short.
+fn put_lists(
+    lanes: &[u32],
+    heads: &[u32],
+    next: &[u32],
+    offsets: &[u32],
+    ids: &[u32],
+    total: usize,
+    successor_offsets: &mut [u32],
+    successor_ids: &mut [u32],
+    predecessor_offsets: &mut [u32],
+    predecessor_ids: &mut [u32],
+) -> Succession
+    requires { ⌜ (length (now lanes) / 10 ≤ 16384) × (length (now heads) ≡ 16384) × (length (now lanes) / 10 ≤ length (now next)) ⌝ }
+    requires { ⌜ Chained (idHash (now lanes)) (length (now lanes) / 10) (now heads) (now next) ⌝ }
+    requires { ⌜ any (length (now lanes) / 10) (idBefore (now lanes)) ≡ false ⌝ }
+    requires { ⌜ (total ≡ startOf (listPart (now offsets) (now ids)) (length (now lanes) / 10)) × (total ≤ 131072) × (total ≤ length (now ids)) × (length (now lanes) / 10 < length (now offsets)) × (take ((length (now lanes) / 10) + 1) (now offsets) ≡ tab ((length (now lanes) / 10) + 1) (startOf (listPart (now offsets) (now ids)))) × (take total (now ids) ≡ ranged 0 (length (now lanes) / 10) (listPart (now offsets) (now ids))) ⌝ }
+    ensures { λ q. ⌜ outcomeOf q (outputs (now («successor_offsets» .exit)) (now («successor_ids» .exit)) (now («predecessor_offsets» .exit)) (now («predecessor_ids» .exit))) ≡ settled (firstBroken (longEnough (listLengths (contentOf (length (now (lanes .entry)) / 10) (listPart (now (offsets .entry)) (now (ids .entry))) (listers (now (lanes .entry)) (now (offsets .entry)) (now (ids .entry))))) (listLengths (outputs (now («successor_offsets» .entry)) (now («successor_ids» .entry)) (now («predecessor_offsets» .entry)) (now («predecessor_ids» .entry)))))) (listLengths (contentOf (length (now (lanes .entry)) / 10) (listPart (now (offsets .entry)) (now (ids .entry))) (listers (now (lanes .entry)) (now (offsets .entry)) (now (ids .entry))))) (putLists (contentOf (length (now (lanes .entry)) / 10) (listPart (now (offsets .entry)) (now (ids .entry))) (listers (now (lanes .entry)) (now (offsets .entry)) (now (ids .entry)))) (outputs (now («successor_offsets» .entry)) (now («successor_ids» .entry)) (now («predecessor_offsets» .entry)) (now («predecessor_ids» .entry)))) (outputs (now («successor_offsets» .entry)) (now («successor_ids» .entry)) (now («predecessor_offsets» .entry)) (now («predecessor_ids» .entry))) ⌝ }
+{
+    let n = lanes.len() / 10;
+    let size = converse::size(lanes, heads, next, offsets, ids);
+    if successor_offsets.len() < n + 1 {
+        return Succession::Refused(Verdict::OutputShort);
+    }
+    if successor_ids.len() < total {
+        return Succession::Refused(Verdict::OutputShort);
+    }
+    if predecessor_offsets.len() < n + 1 {
+        return Succession::Refused(Verdict::OutputShort);
+    }
+    if predecessor_ids.len() < size {
+        return Succession::Refused(Verdict::OutputShort);
+    }
+    rows::copy(successor_offsets, &offsets[..n + 1]);
+    rows::copy(successor_ids, &ids[..total]);
+    converse::converse(
+        lanes,
+        heads,
+        next,
+        offsets,
+        ids,
+        predecessor_offsets,
+        predecessor_ids,
+    );
+    Succession::Written(n + 1, total, n + 1, size)
+}
+
+// Writes the lists of all lanes, from the lanes' own lists.
+fn write_lists(
+    lanes: &[u32],
+    starts: &[u32],
+    ids: &[u32],
+    successor_offsets: &mut [u32],
+    successor_ids: &mut [u32],
+    predecessor_offsets: &mut [u32],
+    predecessor_ids: &mut [u32],
+) -> Succession
+    requires { ⌜ (length (now lanes) / 10 ≤ 16384) × (any (length (now lanes) / 10) (idBefore (now lanes)) ≡ false) × ((l : ℕ) → l < (length (now lanes) / 10) → Rising (listPart (now starts) (now ids) l)) × (startOf (listPart (now starts) (now ids)) (length (now lanes) / 10) ≤ 65536) ⌝ }
+    ensures { λ q. ⌜ outcomeOf q (outputs (now («successor_offsets» .exit)) (now («successor_ids» .exit)) (now («predecessor_offsets» .exit)) (now («predecessor_ids» .exit))) ≡ settled (firstBroken (longEnough (listLengths (contentOf (length (now (lanes .entry)) / 10) (onwardAt (now (lanes .entry)) (now (starts .entry)) (now (ids .entry))) (listersOf (now (lanes .entry)) (onwardAt (now (lanes .entry)) (now (starts .entry)) (now (ids .entry)))))) (listLengths (outputs (now («successor_offsets» .entry)) (now («successor_ids» .entry)) (now («predecessor_offsets» .entry)) (now («predecessor_ids» .entry)))))) (listLengths (contentOf (length (now (lanes .entry)) / 10) (onwardAt (now (lanes .entry)) (now (starts .entry)) (now (ids .entry))) (listersOf (now (lanes .entry)) (onwardAt (now (lanes .entry)) (now (starts .entry)) (now (ids .entry)))))) (putLists (contentOf (length (now (lanes .entry)) / 10) (onwardAt (now (lanes .entry)) (now (starts .entry)) (now (ids .entry))) (listersOf (now (lanes .entry)) (onwardAt (now (lanes .entry)) (now (starts .entry)) (now (ids .entry))))) (outputs (now («successor_offsets» .entry)) (now («successor_ids» .entry)) (now («predecessor_offsets» .entry)) (now («predecessor_ids» .entry)))) (outputs (now («successor_offsets» .entry)) (now («successor_ids» .entry)) (now («predecessor_offsets» .entry)) (now («predecessor_ids» .entry))) ⌝ }
+{
+    let n = lanes.len() / 10;
+    let mut heads = [0u32; 16384];
+    let mut next = [0u32; 16384];
+    index::link_ids(lanes, n, &mut heads, &mut next);
+    let mut offsets = [0u32; 16385];
+    let mut out = [0u32; 131072];
+    let total = onward(lanes, &heads, &next, starts, ids, &mut offsets, &mut out);
+    put_lists(
+        lanes,
+        &heads,
+        &next,
+        &offsets,
+        &out,
+        total,
+        successor_offsets,
+        successor_ids,
+        predecessor_offsets,
+        predecessor_ids,
+    )
+}
+
+// SUCCESSION: the lanes onward of every lane and the lanes before it, or the first refusal that applies.
+pub fn succession(
+    text: &[u8],
+    roads: &[u32],
+    sections: &[u32],
+    junctions: &[u32],
+    connections: &[u32],
+    pairs: &[u32],
+    lanes: &[u32],
+    successor_offsets: &mut [u32],
+    successor_ids: &mut [u32],
+    predecessor_offsets: &mut [u32],
+    predecessor_ids: &mut [u32],
+) -> Succession
+    ensures { λ q. ⌜ outcomeOf q (outputs (now («successor_offsets» .exit)) (now («successor_ids» .exit)) (now («predecessor_offsets» .exit)) (now («predecessor_ids» .exit))) ≡ successionCall (laneTables (now (text .entry)) (now (roads .entry)) (now (sections .entry)) (now (junctions .entry)) (now (connections .entry)) (now (pairs .entry)) (now (lanes .entry))) (outputs (now («successor_offsets» .entry)) (now («successor_ids» .entry)) (now («predecessor_offsets» .entry)) (now («predecessor_ids» .entry))) ⌝ }
+{
+    let mut offsets = [0u32; 16385];
+    let mut own = [0u32; 65536];
+    let v = resolve_own(
+        text,
+        roads,
+        sections,
+        junctions,
+        connections,
+        pairs,
+        lanes,
+        &mut offsets,
+        &mut own,
+    );
+    if !verdict::admitted(v) {
+        return Succession::Refused(v);
+    }
+    write_lists(
+        lanes,
+        &offsets,
+        &own,
+        successor_offsets,
+        successor_ids,
+        predecessor_offsets,
+        predecessor_ids,
+    )
+}

@@ -1,0 +1,314 @@
+// The lanes that a lane finds by its own links.
+use crate::entries;
+use crate::junction;
+use crate::sections;
+use crate::sections::Next;
+use crate::step;
+use words::rows;
+ghost use mathlib.Core.Path.{_≡_};
+ghost use mathlib.Core.Bool.{true, false};
+ghost use Prim.Native.Nat.{_+_, _*_, _/_, _≤_, _<_};
+ghost use lib.Dec.{eqb};
+ghost use lib.ListN.{length, getD};
+ghost use Rattle.model.specs.Lists.{pick};
+ghost use Rattle.succession.specs.ByRow.{Resolved, Took, Room, Sound, rowsOf, crossByRow, exitsByRow};
+
+// Past the end of lane l's road at the target from word `at` on, which names the row `to` (plus 1).
+fn cross(
+    roads: &[u32],
+    sections: &[u32],
+    junctions: &[u32],
+    connections: &[u32],
+    pairs: &[u32],
+    lanes: &[u32],
+    owner: &[u32],
+    sides: &[u32],
+    ends: &[u32],
+    heads: &[u32],
+    next: &[u32],
+    l: usize,
+    at: usize,
+    to: usize,
+    link: usize,
+    both: bool,
+    run: &mut [u32],
+    n: usize,
+) -> usize
+    requires { ⌜ Sound (now roads) (now sections) (now junctions) (now connections) (now pairs) (now lanes) (now owner) (now sides) (now ends) (now heads) (now next) ⌝ }
+    requires { ⌜ (l < length (now lanes) / 10) × (at + 4 < length (now roads)) × (link + 1 < length (now lanes)) × (eqb (getD (now roads) (at + 1) 0) 1 ≡ true → to ≤ length (now junctions) / 5) × (eqb (getD (now roads) (at + 1) 0) 1 ≡ false → to ≤ length (now roads) / 20) ⌝ }
+    requires { ⌜ Room n (crossByRow (rowsOf (now roads) (now sections) (now junctions) (now connections) (now pairs) (now lanes) (now owner) (now sides) (now ends)) l at to link) (now run) ⌝ }
+    ensures { λ q. ⌜ Took both n (crossByRow (rowsOf (now (roads .entry)) (now (sections .entry)) (now (junctions .entry)) (now (connections .entry)) (now (pairs .entry)) (now (lanes .entry)) (now (owner .entry)) (now (sides .entry)) (now (ends .entry))) l at to link) (now (run .entry)) (now (run .exit)) q ⌝ }
+{
+    if roads[at] != 1 {
+        return n;
+    }
+    if roads[at + 1] == 1 {
+        if to == 0 {
+            return n;
+        }
+        return junction::through_junction(
+            roads,
+            sections,
+            junctions,
+            connections,
+            pairs,
+            lanes,
+            owner,
+            sides,
+            ends,
+            heads,
+            next,
+            to - 1,
+            rows::word(owner, l),
+            lanes[l * 10 + 4],
+            both,
+            run,
+            n,
+        );
+    }
+    if lanes[link] != 1 {
+        return n;
+    }
+    let contact = roads[at + 4];
+    let section = sections::end_section(roads, sections, to, contact);
+    entries::enter(
+        lanes,
+        run,
+        n,
+        both,
+        step::lookup(lanes, owner, heads, next, to, section, lanes[link + 1]),
+        contact,
+    )
+}
+
+// Past the end of lane l's road, or its start if not forward.
+fn leave(
+    roads: &[u32],
+    sections: &[u32],
+    junctions: &[u32],
+    connections: &[u32],
+    pairs: &[u32],
+    lanes: &[u32],
+    owner: &[u32],
+    sides: &[u32],
+    ends: &[u32],
+    heads: &[u32],
+    next: &[u32],
+    l: usize,
+    r: usize,
+    link: usize,
+    forward: bool,
+    both: bool,
+    run: &mut [u32],
+    n: usize,
+) -> usize
+    requires { ⌜ Sound (now roads) (now sections) (now junctions) (now connections) (now pairs) (now lanes) (now owner) (now sides) (now ends) (now heads) (now next) ⌝ }
+    requires { ⌜ (l < length (now lanes) / 10) × (r < length (now roads) / 20) × (link + 1 < length (now lanes)) ⌝ }
+    requires { ⌜ Room n (crossByRow (rowsOf (now roads) (now sections) (now junctions) (now connections) (now pairs) (now lanes) (now owner) (now sides) (now ends)) l (pick forward (r * 20 + 4) (r * 20 + 11)) (pick forward (getD (now ends) (r * 2) 0) (getD (now ends) (r * 2 + 1) 0)) link) (now run) ⌝ }
+    ensures { λ q. ⌜ Took both n (crossByRow (rowsOf (now (roads .entry)) (now (sections .entry)) (now (junctions .entry)) (now (connections .entry)) (now (pairs .entry)) (now (lanes .entry)) (now (owner .entry)) (now (sides .entry)) (now (ends .entry))) l (pick forward (r * 20 + 4) (r * 20 + 11)) (pick forward (getD (now (ends .entry)) (r * 2) 0) (getD (now (ends .entry)) (r * 2 + 1) 0)) link) (now (run .entry)) (now (run .exit)) q ⌝ }
+{
+    if forward {
+        return cross(
+            roads,
+            sections,
+            junctions,
+            connections,
+            pairs,
+            lanes,
+            owner,
+            sides,
+            ends,
+            heads,
+            next,
+            l,
+            r * 20 + 11,
+            rows::word(ends, r * 2 + 1),
+            link,
+            both,
+            run,
+            n,
+        );
+    }
+    cross(
+        roads,
+        sections,
+        junctions,
+        connections,
+        pairs,
+        lanes,
+        owner,
+        sides,
+        ends,
+        heads,
+        next,
+        l,
+        r * 20 + 4,
+        rows::word(ends, r * 2),
+        link,
+        both,
+        run,
+        n,
+    )
+}
+
+// The lanes reached by driving off lane l at its road's end, or at its start if not forward.
+fn exits(
+    roads: &[u32],
+    sections: &[u32],
+    junctions: &[u32],
+    connections: &[u32],
+    pairs: &[u32],
+    lanes: &[u32],
+    owner: &[u32],
+    sides: &[u32],
+    ends: &[u32],
+    heads: &[u32],
+    next: &[u32],
+    l: usize,
+    forward: bool,
+    both: bool,
+    run: &mut [u32],
+    n: usize,
+) -> usize
+    requires { ⌜ Sound (now roads) (now sections) (now junctions) (now connections) (now pairs) (now lanes) (now owner) (now sides) (now ends) (now heads) (now next) ⌝ }
+    requires { ⌜ l < length (now lanes) / 10 ⌝ }
+    requires { ⌜ Room n (exitsByRow (rowsOf (now roads) (now sections) (now junctions) (now connections) (now pairs) (now lanes) (now owner) (now sides) (now ends)) l forward) (now run) ⌝ }
+    ensures { λ q. ⌜ Took both n (exitsByRow (rowsOf (now (roads .entry)) (now (sections .entry)) (now (junctions .entry)) (now (connections .entry)) (now (pairs .entry)) (now (lanes .entry)) (now (owner .entry)) (now (sides .entry)) (now (ends .entry))) l forward) (now (run .entry)) (now (run .exit)) q ⌝ }
+{
+    let r = rows::word(owner, l) - 1;
+    let link = step::link_at(l, forward);
+    match sections::next_section(roads, sections, r, lanes[l * 10 + 3], forward) {
+        Next::At(s) => step::within_road(
+            lanes,
+            owner,
+            heads,
+            next,
+            l,
+            s,
+            link,
+            step::entered_at(forward),
+            both,
+            run,
+            n,
+        ),
+        Next::Past => leave(
+            roads,
+            sections,
+            junctions,
+            connections,
+            pairs,
+            lanes,
+            owner,
+            sides,
+            ends,
+            heads,
+            next,
+            l,
+            r,
+            link,
+            forward,
+            both,
+            run,
+            n,
+        ),
+    }
+}
+
+// The successors that lane l finds by its own links, from the run's first word on. Returns how many.
+pub fn successors_of(
+    roads: &[u32],
+    sections: &[u32],
+    junctions: &[u32],
+    connections: &[u32],
+    pairs: &[u32],
+    lanes: &[u32],
+    owner: &[u32],
+    sides: &[u32],
+    ends: &[u32],
+    heads: &[u32],
+    next: &[u32],
+    l: usize,
+    run: &mut [u32],
+) -> usize
+    requires { ⌜ Sound (now roads) (now sections) (now junctions) (now connections) (now pairs) (now lanes) (now owner) (now sides) (now ends) (now heads) (now next) ⌝ }
+    requires { ⌜ (l < length (now lanes) / 10) × (length (exitsByRow (rowsOf (now roads) (now sections) (now junctions) (now connections) (now pairs) (now lanes) (now owner) (now sides) (now ends)) l true) + length (exitsByRow (rowsOf (now roads) (now sections) (now junctions) (now connections) (now pairs) (now lanes) (now owner) (now sides) (now ends)) l false) ≤ length (now run)) ⌝ }
+    ensures { λ q. ⌜ Resolved (rowsOf (now (roads .entry)) (now (sections .entry)) (now (junctions .entry)) (now (connections .entry)) (now (pairs .entry)) (now (lanes .entry)) (now (owner .entry)) (now (sides .entry)) (now (ends .entry))) l (now (run .entry)) (now (run .exit)) q ⌝ }
+{
+    let direction = lanes[l * 10 + 5];
+    if direction == 0 {
+        return exits(
+            roads,
+            sections,
+            junctions,
+            connections,
+            pairs,
+            lanes,
+            owner,
+            sides,
+            ends,
+            heads,
+            next,
+            l,
+            true,
+            false,
+            run,
+            0,
+        );
+    }
+    if direction == 1 {
+        return exits(
+            roads,
+            sections,
+            junctions,
+            connections,
+            pairs,
+            lanes,
+            owner,
+            sides,
+            ends,
+            heads,
+            next,
+            l,
+            false,
+            false,
+            run,
+            0,
+        );
+    }
+    let n = exits(
+        roads,
+        sections,
+        junctions,
+        connections,
+        pairs,
+        lanes,
+        owner,
+        sides,
+        ends,
+        heads,
+        next,
+        l,
+        true,
+        true,
+        run,
+        0,
+    );
+    exits(
+        roads,
+        sections,
+        junctions,
+        connections,
+        pairs,
+        lanes,
+        owner,
+        sides,
+        ends,
+        heads,
+        next,
+        l,
+        false,
+        true,
+        run,
+        n,
+    )
+}

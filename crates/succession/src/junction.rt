@@ -1,0 +1,161 @@
+// Through a junction: its connections from a road, and their pairs from a lane.
+use crate::sections;
+use crate::step;
+use words::rows;
+ghost use Prim.Native.Nat.{_/_, _<_};
+ghost use lib.ListN.{length};
+ghost use Rattle.succession.specs.ByRow.{connectionByRow, Took, Room, Sound, rowsOf, pairsByRow, junctionByRow};
+
+// Through the pairs of connection c that start at lane number k.
+fn through_pairs(
+    roads: &[u32],
+    sections: &[u32],
+    junctions: &[u32],
+    connections: &[u32],
+    pairs: &[u32],
+    lanes: &[u32],
+    owner: &[u32],
+    sides: &[u32],
+    ends: &[u32],
+    heads: &[u32],
+    next: &[u32],
+    c: usize,
+    k: u32,
+    both: bool,
+    run: &mut [u32],
+    start: usize,
+) -> usize
+    requires { ⌜ Sound (now roads) (now sections) (now junctions) (now connections) (now pairs) (now lanes) (now owner) (now sides) (now ends) (now heads) (now next) ⌝ }
+    requires { ⌜ c < length (now connections) / 7 ⌝ }
+    requires { ⌜ Room start (pairsByRow (rowsOf (now roads) (now sections) (now junctions) (now connections) (now pairs) (now lanes) (now owner) (now sides) (now ends)) c k) (now run) ⌝ }
+    ensures { λ q. ⌜ Took both start (pairsByRow (rowsOf (now (roads .entry)) (now (sections .entry)) (now (junctions .entry)) (now (connections .entry)) (now (pairs .entry)) (now (lanes .entry)) (now (owner .entry)) (now (sides .entry)) (now (ends .entry))) c k) (now (run .entry)) (now (run .exit)) q ⌝ }
+{
+    let road = rows::word(sides, c * 2 + 1);
+    let contact = connections[c * 7 + 4];
+    let section = sections::end_section(roads, sections, road, contact);
+    let first = rows::word(connections, c * 7 + 5);
+    let end = first + rows::word(connections, c * 7 + 6);
+    let mut n = start;
+    let mut p = first;
+    while p < end {
+        n = step::through_pair(
+            pairs,
+            lanes,
+            owner,
+            heads,
+            next,
+            road,
+            section,
+            contact,
+            k,
+            p,
+            both,
+            run,
+            n,
+        );
+        p += 1;
+    }
+    n
+}
+
+// Takes in what connection c leads lane number k of that road to.
+fn through_connection(
+    roads: &[u32],
+    sections: &[u32],
+    junctions: &[u32],
+    connections: &[u32],
+    pairs: &[u32],
+    lanes: &[u32],
+    owner: &[u32],
+    sides: &[u32],
+    ends: &[u32],
+    heads: &[u32],
+    next: &[u32],
+    c: usize,
+    road: usize,
+    k: u32,
+    both: bool,
+    run: &mut [u32],
+    n: usize,
+) -> usize
+    requires { ⌜ Sound (now roads) (now sections) (now junctions) (now connections) (now pairs) (now lanes) (now owner) (now sides) (now ends) (now heads) (now next) ⌝ }
+    requires { ⌜ c < length (now connections) / 7 ⌝ }
+    requires { ⌜ Room n (connectionByRow (rowsOf (now roads) (now sections) (now junctions) (now connections) (now pairs) (now lanes) (now owner) (now sides) (now ends)) road k c) (now run) ⌝ }
+    ensures { λ q. ⌜ Took both n (connectionByRow (rowsOf (now (roads .entry)) (now (sections .entry)) (now (junctions .entry)) (now (connections .entry)) (now (pairs .entry)) (now (lanes .entry)) (now (owner .entry)) (now (sides .entry)) (now (ends .entry))) road k c) (now (run .entry)) (now (run .exit)) q ⌝ }
+{
+    if rows::word(sides, c * 2) != road {
+        return n;
+    }
+    through_pairs(
+        roads,
+        sections,
+        junctions,
+        connections,
+        pairs,
+        lanes,
+        owner,
+        sides,
+        ends,
+        heads,
+        next,
+        c,
+        k,
+        both,
+        run,
+        n,
+    )
+}
+
+// Through the connections of junction j that come in from the road.
+pub fn through_junction(
+    roads: &[u32],
+    sections: &[u32],
+    junctions: &[u32],
+    connections: &[u32],
+    pairs: &[u32],
+    lanes: &[u32],
+    owner: &[u32],
+    sides: &[u32],
+    ends: &[u32],
+    heads: &[u32],
+    next: &[u32],
+    j: usize,
+    road: usize,
+    k: u32,
+    both: bool,
+    run: &mut [u32],
+    start: usize,
+) -> usize
+    requires { ⌜ Sound (now roads) (now sections) (now junctions) (now connections) (now pairs) (now lanes) (now owner) (now sides) (now ends) (now heads) (now next) ⌝ }
+    requires { ⌜ j < length (now junctions) / 5 ⌝ }
+    requires { ⌜ Room start (junctionByRow (rowsOf (now roads) (now sections) (now junctions) (now connections) (now pairs) (now lanes) (now owner) (now sides) (now ends)) j road k) (now run) ⌝ }
+    ensures { λ q. ⌜ Took both start (junctionByRow (rowsOf (now (roads .entry)) (now (sections .entry)) (now (junctions .entry)) (now (connections .entry)) (now (pairs .entry)) (now (lanes .entry)) (now (owner .entry)) (now (sides .entry)) (now (ends .entry))) j road k) (now (run .entry)) (now (run .exit)) q ⌝ }
+{
+    let first = rows::word(junctions, j * 5 + 3);
+    let end = first + rows::word(junctions, j * 5 + 4);
+    let mut n = start;
+    let mut c = first;
+    while c < end {
+        n = through_connection(
+            roads,
+            sections,
+            junctions,
+            connections,
+            pairs,
+            lanes,
+            owner,
+            sides,
+            ends,
+            heads,
+            next,
+            c,
+            road,
+            k,
+            both,
+            run,
+            n,
+        );
+        c += 1;
+    }
+    n
+}
