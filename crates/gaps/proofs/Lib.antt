@@ -1,4 +1,4 @@
-pub mod Joined
+pub mod Puts
 pub mod Climbs
 pub mod RowLaws
 pub mod LinkLaws

@@ -9,16 +9,21 @@ use lib.ListN.{length, getD, length-append}
 use lib.Ieee.{Float}
 use Rattle.geometry.specs.declared.gap.Decision.{Decision}
 use Rattle.words.specs.Keys.{isId}
-use Rattle.words.specs.Rows.{lastOf}
-use Rattle.gaps.specs.Links.{decisionAt, joined, laneRows, linkRow, listsRight, rowOf, rowsAt, rowsBelow}
+use Rattle.words.specs.Rows.{joined, lastOf}
+use Rattle.gaps.specs.Links.{decisionAt, laneRows, linkRow, listsRight, rowOf, rowsAt, rowsBelow}
 use Rattle.gaps.proofs.Climbs.{right-at}
-use Rattle.gaps.proofs.Joined.{joined-le, joined-more, joined-most, joined-none}
+use Rattle.words.proofs.Joins.{joined-le, joined-more, joined-most, joined-none}
 use Rattle.gaps.proofs.RowLaws.{row-most}
 
 module _ (lanes : List ℕ) (edges : List Float) where
   link-most : (i k : ℕ) → length (linkRow lanes edges i k) ≤ 3
   unfolding linkRow
   link-most i k = row-most i (lastOf (length lanes / 10) (isId lanes k) - 1) (decisionAt lanes edges i (lastOf (length lanes / 10) (isId lanes k) - 1))
+
+  -- the row of a link to the lane in row r
+  pub link-row : (i k : ℕ) {f r : ℕ} {d : Decision} → f ≡ lastOf (length lanes / 10) (isId lanes k) → f ≡ suc r → d ≡ decisionAt lanes edges i r → rowOf i r d ≡ linkRow lanes edges i k
+  unfolding linkRow
+  link-row i k {f} {r} {d} e g h = ap (rowOf i r) h ∙ ap (λ (m : ℕ). rowOf i m (decisionAt lanes edges i m)) (let z : r ≡ lastOf (length lanes / 10) (isId lanes k) - 1 = omega arith in z)
 
   -- ---- a lane's links
   module _ (ids : List ℕ) (i a : ℕ) where
@@ -35,10 +40,9 @@ module _ (lanes : List ℕ) (edges : List Float) where
     lane-le n m h = joined-le n m (λ k. linkRow lanes edges i (getD ids (a + k) 0)) h
 
     -- the row that a turn puts
-    pub lane-more : (k : ℕ) {f : ℕ} {d : Decision} → f ≡ lastOf (length lanes / 10) (isId lanes (getD ids (a + k) 0)) → d ≡ decisionAt lanes edges i (f - 1) → laneRows lanes edges ids i a (k + 1) ≡ laneRows lanes edges ids i a k ++ rowOf i (f - 1) d
-    unfolding laneRows linkRow
-    lane-more k {f} {d} e g = joined-more k (λ k. linkRow lanes edges i (getD ids (a + k) 0))
-        ∙ ap (λ (l : List ℕ). joined k (λ k. linkRow lanes edges i (getD ids (a + k) 0)) ++ l) (sym (ap (λ (d : Decision). rowOf i (f - 1) d) g ∙ ap (λ (m : ℕ). rowOf i (m - 1) (decisionAt lanes edges i (m - 1))) e))
+    pub lane-more : (k : ℕ) {id : ℕ} → id ≡ getD ids (a + k) 0 → laneRows lanes edges ids i a (k + 1) ≡ laneRows lanes edges ids i a k ++ linkRow lanes edges i id
+    unfolding laneRows
+    lane-more k e = joined-more k (λ k. linkRow lanes edges i (getD ids (a + k) 0)) ∙ ap (λ (m : ℕ). joined k (λ k. linkRow lanes edges i (getD ids (a + k) 0)) ++ linkRow lanes edges i m) (sym e)
 
   -- ---- all lanes' links
   module _ (offsets ids : List ℕ) where

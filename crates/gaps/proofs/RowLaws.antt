@@ -18,7 +18,7 @@ use Rattle.geometry.proofs.Promises.{gap-never-nan}
 use Rattle.model.specs.Tables.{directionOf}
 use Rattle.words.specs.Rows.{spliced}
 use Rattle.gaps.specs.Links.{isNumber, putIf, rowOf}
-use Rattle.gaps.proofs.Joined.{put-none}
+use Rattle.gaps.proofs.Puts.{put-none}
 
 pub other-word : (w : ℕ) → (w ≡ 0 → ⊥) → (w ≡ 1 → ⊥) → Both ≡ directionOf w
 other-word zero a b = absurd (a refl)

@@ -1,7 +1,7 @@
 -- The gap rows by row numbers: what the loops over lanes and links write. proofs/ has them as the model's gap rows. Definitions only.
 use mathlib.Core.Bool.{Bool, true, not, _&&_, cond}
-use mathlib.Core.List.{List, [], _∷_, _++_}
-use Prim.Native.Nat.{ℕ, zero, suc, _+_, _*_, _-_, _/_}
+use mathlib.Core.List.{List, [], _∷_}
+use Prim.Native.Nat.{ℕ, suc, _+_, _*_, _-_, _/_}
 use lib.Dec.{eqb}
 use lib.Ieee.{Float, isNan}
 use lib.ListN.{length, getD}
@@ -12,13 +12,8 @@ use Rattle.geometry.specs.Gap.{gapOf, decisionOf, rowBits}
 use Rattle.model.specs.Lists.{every}
 use Rattle.model.specs.Tables.{directionOf, lanesIn}
 use Rattle.model.specs.Rules.{climbs, borne}
-use Rattle.words.specs.Rows.{lastOf, spliced}
+use Rattle.words.specs.Rows.{joined, lastOf, spliced}
 use Rattle.words.specs.Keys.{isId}
-
--- f 0, f 1, .. f (n - 1), joined
-unfoldable pub joined : {A : Type 0} → ℕ → (ℕ → List A) → List A
-joined zero f = []
-joined (suc n) f = joined n f ++ f n
 
 -- an output with words put in from word at on, if it is to be written
 unfoldable pub putIf : Bool → ℕ → List ℕ → List ℕ → List ℕ

@@ -3,7 +3,9 @@ use geometry::edges;
 use geometry::gap;
 use geometry::gap::Decision;
 use geometry::gap::Direction;
-use words::index;
+use tables::lookup;
+use tables::lookup::LaneId;
+use tables::lookup::RowFound;
 use words::rows;
 ghost use mathlib.Core.Path.{_≡_};
 ghost use mathlib.Core.Bool.{true};
@@ -14,8 +16,9 @@ ghost use Rattle.model.specs.Tables.{directionOf, lanesIn};
 ghost use Rattle.model.specs.Lists.{every};
 ghost use Rattle.model.specs.Rules.{borne};
 ghost use Rattle.words.specs.Chain.{Chained};
-ghost use Rattle.words.specs.Keys.{idHash};
-ghost use Rattle.gaps.specs.Links.{putIf, rowOf, isNumber, decisionAt, laneRows, rowsBelow, listsRight};
+ghost use Rattle.words.specs.Keys.{idHash, isId};
+ghost use Rattle.words.specs.Rows.{lastOf};
+ghost use Rattle.gaps.specs.Links.{putIf, rowOf, isNumber, decisionAt, linkRow, laneRows, rowsBelow, listsRight};
 
 // Which way a lane's traffic runs, by its word.
 fn direction(word: u32) -> Direction
@@ -65,6 +68,32 @@ fn put_row(
     }
 }
 
+// The place after the row of a link from the lane in row `lane` to the lane of an identity.
+fn link_row(
+    lanes: &[u32],
+    edges: &[f32],
+    heads: &[u32],
+    next: &[u32],
+    lane: usize,
+    id: LaneId,
+    out: &mut [u32],
+    at: usize,
+    write: bool,
+) -> usize
+    requires { ⌜ (length (now lanes) / 10 ≤ 16384) × (length (now edges) ≡ 12 * (length (now lanes) / 10)) × (length (now heads) ≡ 16384) × (length (now next) ≡ 16384) × (lane < length (now lanes) / 10) × (at < 1048576) × (0 < lastOf (length (now lanes) / 10) (isId (now lanes) (id .0))) ⌝ }
+    requires { ⌜ Chained (idHash (now lanes)) (length (now lanes) / 10) (now heads) (now next) ⌝ }
+    requires { ⌜ (write ≡ true → at + length (linkRow (now lanes) (now edges) lane (id .0)) ≤ length (now out)) ⌝ }
+    ensures { λ q. ⌜ (q ≡ at + length (linkRow (now (lanes .entry)) (now (edges .entry)) lane (id .0))) × (now (out .exit) ≡ putIf write at (linkRow (now (lanes .entry)) (now (edges .entry)) lane (id .0)) (now (out .entry))) ⌝ }
+{
+    match lookup::lane_row(lanes, heads, next, id) {
+        RowFound::Row(r) => {
+            let decision = link_decision(lanes, edges, lane, r as usize);
+            put_row(out, at, write, lane as u32, r, decision)
+        }
+        RowFound::Nothing => at,
+    }
+}
+
 // The place after the rows of one lane's links, whose `count` identities stand from place `first` on.
 fn lane_rows(
     lanes: &[u32],
@@ -85,14 +114,11 @@ fn lane_rows(
     requires { ⌜ (write ≡ true → at + length (laneRows (now lanes) (now edges) (now ids) lane first count) ≤ length (now out)) ⌝ }
     ensures { λ q. ⌜ (q ≡ at + length (laneRows (now (lanes .entry)) (now (edges .entry)) (now (ids .entry)) lane first count)) × (now (out .exit) ≡ putIf write at (laneRows (now (lanes .entry)) (now (edges .entry)) (now (ids .entry)) lane first count) (now (out .entry))) ⌝ }
 {
-    let n = lanes.len() / 10;
     let mut place = at;
     let mut k = 0;
     while k < count {
-        let f = index::find_id(lanes, heads, next, n, ids[first + k]);
-        let r = f - 1;
-        let decision = link_decision(lanes, edges, lane, r);
-        place = put_row(out, place, write, lane as u32, r as u32, decision);
+        let id = LaneId(ids[first + k]);
+        place = link_row(lanes, edges, heads, next, lane, id, out, place, write);
         k += 1;
     }
     place

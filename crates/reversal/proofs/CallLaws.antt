@@ -21,7 +21,7 @@ use Rattle.laws.proofs.Decoded.{and3}
 use Rattle.laws.proofs.RulesReversed.{all-pass, broken-append, unbroken-append}
 use Rattle.laws.proofs.WordsReversed.{Fine, fine, fine-sound, fine-whole, fine-words, lengths-are, modelOf, sixLengths}
 use Rattle.words.specs.Keys.{nameBefore}
-use Rattle.words.specs.Rows.{all, any}
+use Rattle.words.specs.Rows.{all, any, joined}
 use Rattle.words.proofs.Scans.{left-on, right-on}
 use Rattle.rules.specs.ByRow.{Linked, listedAt, numbersAt}
 use Rattle.rules.proofs.Counts.{few, sized-few}
@@ -31,7 +31,7 @@ use Rattle.tables.specs.declared.verdict.Verdict.{Verdict}
 use Rattle.tables.specs.declared.verdict.Verdict.the-variants.{OutputShort}
 use Rattle.tables.proofs.Order.{first-stays, marks-count, not-none}
 use Rattle.reversal.specs.Answers.{outcomeOf, sixOf}
-use Rattle.reversal.specs.Turned.{Kept, Ready, Writable, joined, markOf, turnedConnection, turnedEdges, turnedLane, turnedPairs, turnedRoad, turnedSections}
+use Rattle.reversal.specs.Turned.{Kept, Ready, Writable, markOf, turnedConnection, turnedEdges, turnedLane, turnedPairs, turnedRoad, turnedSections}
 use Rattle.reversal.specs.declared.call.Counts.{Counts}
 use Rattle.reversal.specs.declared.call.Reversed.the-variants.{Refused, Written}
 use Rattle.reversal.proofs.EdgeWords.{edges-are}

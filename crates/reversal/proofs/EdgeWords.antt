@@ -1,7 +1,7 @@
 -- Edges by row numbers are the model's.
 use Prim.Native.Nat.{ℕ, suc, _+_, _*_, _/_, _<_, _≤_}
 use mathlib.Core.Bool.{Bool, true, false, cond}
-use mathlib.Core.List.{List, [], _∷_, _++_, map, zipWith}
+use mathlib.Core.List.{List, [], _∷_, _++_, map}
 use mathlib.Core.Path.{_≡_, refl, sym, ap, ap₂, _∙_, subst}
 use native.Mathlib.Nat.{add-zero, add-assoc}
 use native.Mathlib.Omega.{arith}
@@ -11,27 +11,16 @@ use lib.Seq.{getD-drop, getD-take, length-take-le}
 use Rattle.geometry.specs.Edges.{endsAt}
 use Rattle.geometry.specs.Gap.{endOf, startOf, swapped}
 use Rattle.model.specs.Lists.{gather, pick}
-use Rattle.model.specs.Records.{EdgedLane, Lane, Road, Span}
+use Rattle.model.specs.Records.{Road, Span}
 use Rattle.model.specs.Reversal.{reverseEdged}
 use Rattle.model.specs.Rows.{table}
 use Rattle.model.specs.Tables.{edgeRow, edgeWords, laneIn, lanesIn, withEdges}
 use Rattle.laws.proofs.Basics.{gather-map}
-use Rattle.words.specs.Rows.{from, tab}
-use Rattle.words.proofs.Laws.{zip-tab}
-use Rattle.words.proofs.Scans.{table-tab}
-use Rattle.rules.proofs.Forms.{lanes-tab}
-use Rattle.reversal.specs.Turned.{endFloats, floatsOf, joined, markAt, turnedEdges}
-use Rattle.reversal.proofs.Joins.{gather-tab, joined-same, row-room}
-
-edged : Lane → List Float → EdgedLane
-edged l e = record { lane = l; atStart = take 6 e; atEnd = drop 6 e }
-
-with-zip : (ls : List Lane) (es : List (List Float)) → withEdges ls es ≡ zipWith edged ls es
-unfolding zipWith edged
-with-zip [] [] = refl
-with-zip [] (e ∷ es) = refl
-with-zip (l ∷ ls) [] = refl
-with-zip (l ∷ ls) (e ∷ es) = ap (λ xs. edged l e ∷ xs) (with-zip ls es)
+use Rattle.words.specs.Rows.{from, joined, tab}
+use Rattle.tables.specs.Found.{edgedAt}
+use Rattle.tables.proofs.Identities.{lanes-are}
+use Rattle.reversal.specs.Turned.{endFloats, floatsOf, markAt, turnedEdges}
+use Rattle.words.proofs.Joins.{gather-tab, joined-same, row-room}
 
 -- six floats, one by one
 six : (l : List Float) → length l ≡ 6 → getD l 0 nan ∷ getD l 1 nan ∷ getD l 2 nan ∷ getD l 3 nan ∷ getD l 4 nan ∷ getD l 5 nan ∷ [] ≡ l
@@ -91,17 +80,15 @@ floats-are edges i room false = ap₂ (λ (x y : List Float). x ++ y) (ends-firs
 pub edges-are : (same : Span → Span → Bool) (mk : Span → Bool) (rs : List Road) (lanes owner marks : List ℕ) (edges : List Float) → length edges ≡ 12 * (length lanes / 10) →
     ((i : ℕ) → i < length lanes / 10 → mk (laneIn (from 10 lanes i) .road) ≡ markAt marks (getD owner i 0)) →
     edgeWords (map (reverseEdged same mk rs) (withEdges (lanesIn lanes) (table 12 edges))) ≡ joined (length edges / 12) (turnedEdges owner marks edges)
-unfolding edgeWords lanesIn turnedEdges
+unfolding edgeWords turnedEdges
 edges-are same mk rs lanes owner marks edges e own =
-    let n : length edges / 12 ≡ length lanes / 10 = omega arith in
-    ap (λ xs. gather edgeRow (map (reverseEdged same mk rs) xs)) (ap₂ withEdges (lanes-tab lanes ∙ ap (λ (m : ℕ). tab m (λ i. laneIn (from 10 lanes i))) (sym n)) (table-tab 12 edges)
-    ∙ with-zip (tab (length edges / 12) (λ i. laneIn (from 10 lanes i))) (tab (length edges / 12) (λ i. take 12 (drop (i * 12) edges)))
-    ∙ zip-tab edged (length edges / 12) (λ i. laneIn (from 10 lanes i)) (λ i. take 12 (drop (i * 12) edges)))
-    ∙ gather-map (reverseEdged same mk rs) edgeRow (tab (length edges / 12) (λ i. edged (laneIn (from 10 lanes i)) (take 12 (drop (i * 12) edges))))
-    ∙ gather-tab (λ x. edgeRow (reverseEdged same mk rs x)) (length edges / 12) (λ i. edged (laneIn (from 10 lanes i)) (take 12 (drop (i * 12) edges)))
-    ∙ joined-same (length edges / 12) (λ i. edgeRow (reverseEdged same mk rs (edged (laneIn (from 10 lanes i)) (take 12 (drop (i * 12) edges))))) (λ i. floatsOf (cond (markAt marks (getD owner i 0)) (swapped (endsAt edges i)) (endsAt edges i)))
-    (λ i h. one i (subst (λ (m : ℕ). i < m) n h) (row-room (length edges) 12 i (length edges) h (native.Mathlib.Nat.le-refl (length edges))))
+    let n : length lanes / 10 ≡ length edges / 12 = omega arith in
+    ap (λ xs. gather edgeRow (map (reverseEdged same mk rs) xs)) (lanes-are lanes edges e ∙ ap (λ (m : ℕ). tab m (edgedAt lanes edges)) n)
+    ∙ gather-map (reverseEdged same mk rs) edgeRow (tab (length edges / 12) (edgedAt lanes edges))
+    ∙ gather-tab (λ x. edgeRow (reverseEdged same mk rs x)) (length edges / 12) (edgedAt lanes edges)
+    ∙ joined-same (length edges / 12) (λ i. edgeRow (reverseEdged same mk rs (edgedAt lanes edges i))) (λ i. floatsOf (cond (markAt marks (getD owner i 0)) (swapped (endsAt edges i)) (endsAt edges i)))
+    (λ i h. one i (subst (λ (m : ℕ). i < m) (sym n) h) (row-room (length edges) 12 i (length edges) h (native.Mathlib.Nat.le-refl (length edges))))
   where
-    one : (i : ℕ) → i < length lanes / 10 → i * 12 + 12 ≤ length edges → edgeRow (reverseEdged same mk rs (edged (laneIn (from 10 lanes i)) (take 12 (drop (i * 12) edges)))) ≡ floatsOf (cond (markAt marks (getD owner i 0)) (swapped (endsAt edges i)) (endsAt edges i))
-    one i h room = unfold edgeRow reverseEdged edged in (ap (λ (b : Bool). pick b (take 6 (take 12 (drop (i * 12) edges))) (drop 6 (take 12 (drop (i * 12) edges))) ++ pick b (drop 6 (take 12 (drop (i * 12) edges))) (take 6 (take 12 (drop (i * 12) edges)))) (own i h)
+    one : (i : ℕ) → i < length lanes / 10 → i * 12 + 12 ≤ length edges → edgeRow (reverseEdged same mk rs (edgedAt lanes edges i)) ≡ floatsOf (cond (markAt marks (getD owner i 0)) (swapped (endsAt edges i)) (endsAt edges i))
+    one i h room = unfold edgeRow reverseEdged edgedAt in (ap (λ (b : Bool). pick b (take 6 (take 12 (drop (i * 12) edges))) (drop 6 (take 12 (drop (i * 12) edges))) ++ pick b (drop 6 (take 12 (drop (i * 12) edges))) (take 6 (take 12 (drop (i * 12) edges)))) (own i h)
         ∙ sym (floats-are edges i room (markAt marks (getD owner i 0))))

@@ -23,14 +23,14 @@ use Rattle.laws.proofs.Basics.{gather-map, no-some}
 use Rattle.laws.proofs.Decoded.{and4, and5}
 use Rattle.laws.proofs.RowTests.{final-nowhere, first-nowhere}
 use Rattle.words.specs.Keys.{bears, nameBefore}
-use Rattle.words.specs.Rows.{all, any, from, lastOf, nameAt, span, tab}
+use Rattle.words.specs.Rows.{all, any, from, joined, lastOf, nameAt, span, tab}
 use Rattle.words.proofs.Chains.{last-le}
 use Rattle.words.proofs.Scans.{all-at, and-step, every-rows, left-on, right-on}
 use Rattle.rules.specs.ByRow.{Owned, knownIn, listedAt, numbersAt, roadRowOf}
 use Rattle.rules.proofs.Forms.{known-none, known-some, lanes-tab, name-at, numbers-at}
 use Rattle.rules.proofs.Locals.{lane-local, road-local}
-use Rattle.reversal.specs.Turned.{Kept, joined, laneOn, laneWith, markAt, markOf, toMarked, turnWay, turnedLane}
-use Rattle.reversal.proofs.Joins.{gather-tab, joined-same}
+use Rattle.reversal.specs.Turned.{Kept, laneOn, laneWith, markAt, markOf, toMarked, turnWay, turnedLane}
+use Rattle.words.proofs.Joins.{gather-tab, joined-same}
 use Rattle.reversal.proofs.Leaves.{last-is}
 use Rattle.reversal.proofs.MarkLaws.{road-some}
 use Rattle.reversal.proofs.Places.{between}

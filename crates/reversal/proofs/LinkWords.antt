@@ -19,13 +19,13 @@ use Rattle.laws.proofs.Basics.{gather-map, map-gather}
 use Rattle.laws.proofs.Decoded.{and3, junctions-forth}
 use Rattle.laws.proofs.Lay.{length-table}
 use Rattle.laws.proofs.WordsReversed.{gather-gather}
-use Rattle.words.specs.Rows.{from, nameFrom, span}
+use Rattle.words.specs.Rows.{from, joined, nameFrom, span}
 use Rattle.words.proofs.Laws.{tab-at}
 use Rattle.words.proofs.Scans.{Local, all-at, every-rows, map-rows, table-tab, take-word}
 use Rattle.rules.proofs.Fits.{part-in}
 use Rattle.rules.proofs.Locals.{connection-local, short}
-use Rattle.reversal.specs.Turned.{joined, markOf, pairsFrom, turnBit, turnedConnection, turnedPair, turnedPairs}
-use Rattle.reversal.proofs.Joins.{gather-tab, joined-first, joined-none, joined-same}
+use Rattle.reversal.specs.Turned.{markOf, pairsFrom, turnBit, turnedConnection, turnedPair, turnedPairs}
+use Rattle.words.proofs.Joins.{gather-all, gather-tab, joined-first, joined-none, joined-same}
 use Rattle.reversal.proofs.RoadWords.{map-map, rows-by, turn-bit}
 
 -- ---- all connections of the reversed junctions
@@ -55,10 +55,6 @@ unfolding connectionIn
 connection-in-local ps l = simp (short 7 l)
 
 -- ---- a part of a list
-gather-all : {X B : Type 0} (g : X → List B) (d : X) (xs : List X) → gather g xs ≡ joined (length xs) (λ k. g (getD xs k d))
-gather-all g d [] = sym (joined-none (λ k. g (getD [] k d)))
-gather-all {B = B} g d (x ∷ xs) = ap (λ (l : List B). g x ++ l) (gather-all g d xs) ∙ sym (joined-first (length xs) (λ k. g (getD (x ∷ xs) k d)))
-
 gather-part : {X B : Type 0} (g : X → List B) (d : X) (xs : List X) (f c : ℕ) → f + c ≤ length xs → gather g (part f c xs) ≡ joined c (λ j. g (getD xs (f + j) d))
 gather-part g d xs f c h =
     let len : length (part f c xs) ≡ c = length-take-le c (drop f xs) (let z = length-drop f xs in omega arith) in

@@ -20,14 +20,14 @@ use Rattle.model.specs.Reversal.{mirror, mirrored}
 use Rattle.model.specs.Rows.{partsFit, table, word}
 use Rattle.laws.proofs.Lay.{fit-first, fit-rest, length-table}
 use Rattle.laws.proofs.RowTests.{word-at}
-use Rattle.words.specs.Rows.{nameFrom, spliced}
+use Rattle.words.specs.Rows.{joined, nameFrom, spliced}
 use Rattle.words.proofs.KeyLaws.{rows-in}
 use Rattle.words.proofs.Laws.{map-at}
 use Rattle.words.proofs.Scans.{left-on, right-on}
 use Rattle.rules.specs.ByRow.{numbersAt}
 use Rattle.rules.proofs.Fits.{part-in}
-use Rattle.reversal.specs.Turned.{joined, markOf, pairsFrom, turnedPair, turnedPairs, turnedSections, Kept, markAt, laneOn, turnedLane, turnedEdges, floatsOf}
-use Rattle.reversal.proofs.Joins.{joined-even, joined-none}
+use Rattle.reversal.specs.Turned.{markOf, pairsFrom, turnedPair, turnedPairs, turnedSections, Kept, markAt, laneOn, turnedLane, turnedEdges, floatsOf}
+use Rattle.words.proofs.Joins.{joined-even, joined-none}
 use Rattle.reversal.proofs.Leaves.{pair-2}
 
 -- ---- where a part begins

@@ -21,13 +21,13 @@ use Rattle.laws.proofs.Basics.{gather-map}
 use Rattle.laws.proofs.Decoded.{and4, and5, and6, bit-flag}
 use Rattle.laws.proofs.Lay.{fit-first, fit-le, fit-rest}
 use Rattle.words.specs.Keys.{nameBefore}
-use Rattle.words.specs.Rows.{any, from, span, tab}
+use Rattle.words.specs.Rows.{any, from, joined, span, tab}
 use Rattle.words.proofs.Scans.{all-at, every-rows, left-on, right-on, table-tab, take-word}
 use Rattle.rules.proofs.Fits.{part-in}
 use Rattle.rules.proofs.Forms.{numbers-at, road-in-local, roads-tab}
 use Rattle.rules.proofs.Locals.{road-local}
-use Rattle.reversal.specs.Turned.{contactAt, joined, markOf, roadWith, toMarked, turnBit, turnedRoad, turnedSections}
-use Rattle.reversal.proofs.Joins.{gather-tab, joined-same}
+use Rattle.reversal.specs.Turned.{contactAt, markOf, roadWith, toMarked, turnBit, turnedRoad, turnedSections}
+use Rattle.words.proofs.Joins.{gather-tab, joined-same}
 use Rattle.reversal.proofs.MarkLaws.{mark-is, mark-own}
 use Rattle.reversal.proofs.Places.{mirrored-length}
 

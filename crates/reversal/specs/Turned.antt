@@ -15,13 +15,8 @@ use Rattle.model.specs.Reversal.{signed, mirror, mirrored}
 use Rattle.model.specs.Rows.{partsFit, table}
 use Rattle.words.specs.Chain.{Chained}
 use Rattle.words.specs.Keys.{nameHash}
-use Rattle.words.specs.Rows.{all, nameFrom}
+use Rattle.words.specs.Rows.{all, joined, nameFrom}
 use Rattle.rules.specs.ByRow.{numbersAt, roadRowOf}
-
--- f 0, f 1, .. f (n - 1), joined
-unfoldable pub joined : {A : Type 0} → ℕ → (ℕ → List A) → List A
-joined zero f = []
-joined (suc n) f = joined n f ++ f n
 
 -- ---- marks
 -- is the road with that row plus 1 marked? 0 is no road

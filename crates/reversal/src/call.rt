@@ -14,7 +14,8 @@ ghost use Rattle.model.specs.Rows.{written};
 ghost use Rattle.model.specs.Tables.{allTables};
 ghost use Rattle.model.specs.Rules.{fits};
 ghost use Rattle.model.specs.Calls.{reversalCall};
-ghost use Rattle.reversal.specs.Turned.{joined, Writable, turnedConnection, turnedEdges, turnedLane, turnedPairs, turnedRoad, turnedSections};
+ghost use Rattle.words.specs.Rows.{joined};
+ghost use Rattle.reversal.specs.Turned.{Writable, turnedConnection, turnedEdges, turnedLane, turnedPairs, turnedRoad, turnedSections};
 ghost use Rattle.reversal.specs.Answers.{outcomeOf, sixOf};
 
 // How many rows were written to each output.

@@ -17,7 +17,8 @@ ghost use Rattle.model.specs.Lists.{headOr, lastOr};
 ghost use Rattle.model.specs.Reversal.{mirror};
 ghost use Rattle.model.specs.Rows.{table, partsFit, written};
 ghost use Rattle.rules.specs.ByRow.{numbersAt};
-ghost use Rattle.reversal.specs.Turned.{joined, markAt, Ready, Kept, toMarked, turnWay, laneWith, laneOn, turnedLane, floatsOf, turnedEdges};
+ghost use Rattle.words.specs.Rows.{joined};
+ghost use Rattle.reversal.specs.Turned.{markAt, Ready, Kept, toMarked, turnWay, laneWith, laneOn, turnedLane, floatsOf, turnedEdges};
 
 // A direction's word: forward and backward swap if the mark is set.
 fn turned_way(mark: bool, way: u32) -> u32

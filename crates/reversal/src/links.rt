@@ -6,8 +6,8 @@ ghost use mathlib.Core.Bool.{true};
 ghost use Prim.Native.Nat.{_+_, _*_, _/_, _≤_, _<_};
 ghost use lib.ListN.{length, getD};
 ghost use Rattle.model.specs.Rows.{table, partsFit, written};
-ghost use Rattle.words.specs.Rows.{spliced};
-ghost use Rattle.reversal.specs.Turned.{joined, Ready, pairsFrom, turnedConnection, turnedPair, turnedPairs};
+ghost use Rattle.words.specs.Rows.{joined, spliced};
+ghost use Rattle.reversal.specs.Turned.{Ready, pairsFrom, turnedConnection, turnedPair, turnedPairs};
 
 // Connection i, reversed.
 fn turned_connection(

@@ -10,9 +10,9 @@ ghost use lib.ListN.{length, getD};
 ghost use Rattle.model.specs.Lists.{ascends, headOr, lastOr};
 ghost use Rattle.model.specs.Reversal.{mirror, mirrored};
 ghost use Rattle.model.specs.Rows.{table, partsFit, written};
-ghost use Rattle.words.specs.Rows.{spliced, all};
+ghost use Rattle.words.specs.Rows.{all, joined, spliced};
 ghost use Rattle.rules.specs.ByRow.{numbersAt};
-ghost use Rattle.reversal.specs.Turned.{joined, Ready, roadWith, turnedRoad, turnedSections};
+ghost use Rattle.reversal.specs.Turned.{Ready, roadWith, turnedRoad, turnedSections};
 
 // A road's row, from word `at` on, with the targets from words `a` and `b` on, which have the contacts `p` and `q`.
 fn road_with(roads: &[u32], at: usize, a: usize, b: usize, p: u32, q: u32) -> [u32; 20]

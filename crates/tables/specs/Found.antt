@@ -3,7 +3,9 @@ use mathlib.Core.Bool.{Bool}
 use mathlib.Core.Option.{Option, none, some}
 use mathlib.Core.List.{List, [], _∷_}
 use Prim.Native.Nat.{ℕ, zero, suc, _*_}
-use Rattle.model.specs.Records.{Connection, Junction, Lane, Road}
+use lib.Ieee.{Float}
+use lib.ListN.{take, drop}
+use Rattle.model.specs.Records.{Connection, EdgedLane, Junction, Lane, Road}
 use Rattle.model.specs.Tables.{junctionIn, laneIn, roadIn}
 use Rattle.words.specs.Rows.{from, lastOf}
 use Rattle.tables.specs.declared.lookup.RoadFound.{RoadFound}
@@ -25,6 +27,15 @@ junctionFound cs junctions row.Nothing = none
 abbrev pub laneFound : List ℕ → RowFound → List Lane
 laneFound lanes (row.Row r) = laneIn (from 10 lanes r) ∷ []
 laneFound lanes row.Nothing = []
+
+-- the lane of row r, with its edges
+unfoldable pub edgedAt : List ℕ → List Float → ℕ → EdgedLane
+edgedAt lanes edges r = record { lane = laneIn (from 10 lanes r); atStart = take 6 (take 12 (drop (r * 12) edges)); atEnd = drop 6 (take 12 (drop (r * 12) edges)) }
+
+-- that row and its lane
+abbrev pub edgedFound : List ℕ → List Float → RowFound → Option (ℕ × EdgedLane)
+edgedFound lanes edges (row.Row r) = some (r, edgedAt lanes edges r)
+edgedFound lanes edges row.Nothing = none
 
 -- a row plus 1, and 0 for none
 abbrev pub rowFound : ℕ → RowFound

@@ -4,6 +4,7 @@ ghost use mathlib.Core.Path.{_≡_};
 ghost use mathlib.Core.Bool.{true, false};
 ghost use mathlib.Core.List.{List, map};
 ghost use Prim.Native.Nat.{ℕ, suc, _+_, _*_, _/_, _≤_, _<_};
+ghost use lib.Ieee.{Float};
 ghost use lib.ListN.{length};
 ghost use Rattle.model.specs.Lists.{keep};
 ghost use Rattle.model.specs.Records.{Span, Connection};
@@ -11,12 +12,13 @@ ghost use Rattle.model.specs.Text.{sameIn};
 ghost use Rattle.model.specs.Rows.{table};
 ghost use Rattle.model.specs.Repair.{roadOf};
 ghost use Rattle.model.specs.Succession.{standsAt, junctionOf};
-ghost use Rattle.model.specs.Tables.{roadsIn, lanesIn, junctionIn};
+ghost use Rattle.model.specs.Gaps.{rowOfIdentity};
+ghost use Rattle.model.specs.Tables.{roadsIn, lanesIn, junctionIn, withEdges};
 ghost use Rattle.words.specs.Rows.{any, all, span};
 ghost use Rattle.words.specs.Chain.{Chained};
-ghost use Rattle.words.specs.Keys.{nameHash, nameBefore, laneHash, keyBefore, isId, idHash};
+ghost use Rattle.words.specs.Keys.{nameHash, nameBefore, laneHash, keyBefore, isId, idBefore, idHash};
 ghost use Rattle.rules.specs.ByRow.{listedAt, roadRowOf, Owned};
-ghost use Rattle.tables.specs.Found.{roadFound, junctionFound, laneFound, rowFound, firstRow};
+ghost use Rattle.tables.specs.Found.{roadFound, junctionFound, laneFound, edgedFound, rowFound, firstRow};
 
 // A road, by its row.
 pub struct RoadId(pub u32);
@@ -137,6 +139,7 @@ pub fn lane_row(lanes: &[u32], heads: &[u32], next: &[u32], id: LaneId) -> RowFo
     requires { ⌜ (length (now lanes) / 10 ≤ 16384) × (length (now heads) ≡ 16384) × (length (now next) ≡ 16384) ⌝ }
     requires { ⌜ Chained (idHash (now lanes)) (length (now lanes) / 10) (now heads) (now next) ⌝ }
     ensures { λ q. ⌜ q ≡ firstRow (length (now (lanes .entry)) / 10) (isId (now (lanes .entry)) (id .0)) ⌝ }
+    ensures { λ q. ⌜ ((edges : List Float) → any (length (now (lanes .entry)) / 10) (idBefore (now (lanes .entry))) ≡ false → length edges ≡ 12 * (length (now (lanes .entry)) / 10) → edgedFound (now (lanes .entry)) edges q ≡ rowOfIdentity (id .0) 0 (withEdges (lanesIn (now (lanes .entry))) (table 12 edges))) ⌝ }
 {
     let identity = id.0;
     let f = index::find_id(lanes, heads, next, lanes.len() / 10, identity);

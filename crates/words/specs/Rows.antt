@@ -50,3 +50,8 @@ nameAt w k ws r = span (getD ws (r * w + k) 0) (getD ws (r * w + k + 1) 0)
 -- row r of a table with w words a row, and all that follows it
 abbrev pub from : ℕ → List ℕ → ℕ → List ℕ
 from w ws r = drop (r * w) ws
+
+-- f 0, f 1, .. f (n - 1), joined
+unfoldable pub joined : {A : Type 0} → ℕ → (ℕ → List A) → List A
+joined zero f = []
+joined (suc n) f = joined n f ++ f n

@@ -6,7 +6,7 @@ use native.Mathlib.Omega.{arith}
 use mathlib.Core.Path.{sym, ap, _∙_}
 use Rattle.gaps.specs.Links.{putIf, rowsBelow}
 use Rattle.gaps.proofs.CallLaws.{whole-short, whole-written}
-use Rattle.gaps.proofs.Joined.{put-begin, put-off}
+use Rattle.gaps.proofs.Puts.{put-begin, put-off}
 use Rattle.gaps.proofs.LinkLaws.{total-most}
 use Rattle.gaps.proofs.call.write_rows.Statement.{statement}
 use Rattle.gaps.proofs.call.write_rows.Tie as tie

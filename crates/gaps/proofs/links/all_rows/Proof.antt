@@ -6,7 +6,7 @@ use native.Mathlib.Omega.{arith}
 use mathlib.Core.Path.{_≡_, refl, sym, ap, _∙_}
 use Rattle.gaps.specs.Links.{laneRows, putIf, rowsBelow}
 use Rattle.gaps.proofs.Climbs.{right-at, right-borne, right-count}
-use Rattle.gaps.proofs.Joined.{put-none, put-turn}
+use Rattle.gaps.proofs.Puts.{put-none, put-turn}
 use Rattle.gaps.proofs.LinkLaws.{below-le, below-more, below-most, below-none}
 use Rattle.gaps.proofs.links.all_rows.Statement.{statement}
 use Rattle.gaps.proofs.links.all_rows.Tie as tie

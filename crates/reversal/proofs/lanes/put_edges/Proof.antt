@@ -5,8 +5,9 @@ use native.Mathlib.Omega.{arith}
 use lib.ListN.{length}
 use borrow.Author.Needs.{needs}
 use Rattle.model.specs.Rows.{written}
-use Rattle.reversal.specs.Turned.{joined, turnedEdges}
-use Rattle.reversal.proofs.Joins.{row-room, rows-begin, rows-turn}
+use Rattle.words.specs.Rows.{joined}
+use Rattle.reversal.specs.Turned.{turnedEdges}
+use Rattle.words.proofs.Joins.{row-room, rows-begin, rows-turn}
 use Rattle.reversal.proofs.Leaves.{edges-12}
 use Rattle.reversal.proofs.Places.{edges-turned}
 use Rattle.reversal.proofs.lanes.put_edges.Statement.{statement}

@@ -4,8 +4,9 @@ use native.Mathlib.Omega.{arith}
 use lib.ListN.{length}
 use borrow.Author.Needs.{needs}
 use Rattle.model.specs.Rows.{written}
-use Rattle.reversal.specs.Turned.{joined, turnedLane}
-use Rattle.reversal.proofs.Joins.{row-room, rows-begin, rows-turn}
+use Rattle.words.specs.Rows.{joined}
+use Rattle.reversal.specs.Turned.{turnedLane}
+use Rattle.words.proofs.Joins.{row-room, rows-begin, rows-turn}
 use Rattle.reversal.proofs.Leaves.{lane-10}
 use Rattle.reversal.proofs.Places.{lane-turned, road-known, section-within}
 use Rattle.reversal.proofs.lanes.put_lanes.Statement.{statement}

@@ -4,8 +4,9 @@ use native.Mathlib.Omega.{arith}
 use lib.ListN.{length}
 use borrow.Author.Needs.{needs}
 use Rattle.model.specs.Rows.{written}
-use Rattle.reversal.specs.Turned.{joined, turnedConnection}
-use Rattle.reversal.proofs.Joins.{row-room, rows-begin, rows-turn}
+use Rattle.words.specs.Rows.{joined}
+use Rattle.reversal.specs.Turned.{turnedConnection}
+use Rattle.words.proofs.Joins.{row-room, rows-begin, rows-turn}
 use Rattle.reversal.proofs.Leaves.{connection-7}
 use Rattle.reversal.proofs.links.put_connections.Statement.{statement}
 use Rattle.reversal.proofs.links.put_connections.Tie as tie

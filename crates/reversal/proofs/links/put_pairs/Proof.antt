@@ -5,8 +5,9 @@ use native.Mathlib.Omega.{arith}
 use lib.ListN.{length}
 use Rattle.model.specs.Rows.{written}
 use Rattle.rules.proofs.Fits.{part-in}
-use Rattle.reversal.specs.Turned.{joined, turnedPairs}
-use Rattle.reversal.proofs.Joins.{parts-turn, row-room, rows-begin}
+use Rattle.words.specs.Rows.{joined}
+use Rattle.reversal.specs.Turned.{turnedPairs}
+use Rattle.words.proofs.Joins.{parts-turn, row-room, rows-begin}
 use Rattle.reversal.proofs.Places.{div-mul-le, pairs-count, pairs-put, place}
 use Rattle.reversal.proofs.links.put_pairs.Statement.{statement}
 use Rattle.reversal.proofs.links.put_pairs.Tie as tie

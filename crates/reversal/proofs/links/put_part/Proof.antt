@@ -3,9 +3,9 @@ use mathlib.Core.Path.{_≡_, refl, ap, _∙_}
 use native.Mathlib.Omega.{arith}
 use lib.ListN.{length}
 use borrow.Author.Needs.{needs}
-use Rattle.words.specs.Rows.{spliced}
-use Rattle.reversal.specs.Turned.{joined, pairsFrom, turnedPair}
-use Rattle.reversal.proofs.Joins.{within-turn}
+use Rattle.words.specs.Rows.{joined, spliced}
+use Rattle.reversal.specs.Turned.{pairsFrom, turnedPair}
+use Rattle.words.proofs.Joins.{within-turn}
 use Rattle.reversal.proofs.Leaves.{pair-2, pair-is}
 use Rattle.reversal.proofs.Places.{div-mul-le, spliced-none}
 use Rattle.reversal.proofs.links.put_part.Statement.{statement}

@@ -4,8 +4,9 @@ use native.Mathlib.Omega.{arith}
 use lib.ListN.{length}
 use borrow.Author.Needs.{needs}
 use Rattle.model.specs.Rows.{written}
-use Rattle.reversal.specs.Turned.{joined, turnedRoad}
-use Rattle.reversal.proofs.Joins.{row-room, rows-begin, rows-turn}
+use Rattle.words.specs.Rows.{joined}
+use Rattle.reversal.specs.Turned.{turnedRoad}
+use Rattle.words.proofs.Joins.{row-room, rows-begin, rows-turn}
 use Rattle.reversal.proofs.Leaves.{road-20}
 use Rattle.reversal.proofs.roads.put_roads.Statement.{statement}
 use Rattle.reversal.proofs.roads.put_roads.Tie as tie

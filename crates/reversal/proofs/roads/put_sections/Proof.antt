@@ -7,8 +7,9 @@ use Rattle.model.specs.Lists.{ascends}
 use Rattle.model.specs.Rows.{written}
 use Rattle.words.proofs.Scans.{all-at}
 use Rattle.rules.specs.ByRow.{numbersAt}
-use Rattle.reversal.specs.Turned.{joined, turnedSections}
-use Rattle.reversal.proofs.Joins.{parts-turn, rows-begin}
+use Rattle.words.specs.Rows.{joined}
+use Rattle.reversal.specs.Turned.{turnedSections}
+use Rattle.words.proofs.Joins.{parts-turn, rows-begin}
 use Rattle.reversal.proofs.Places.{numbers-length, place, sections-length, sections-room}
 use Rattle.reversal.proofs.roads.put_sections.Statement.{statement}
 use Rattle.reversal.proofs.roads.put_sections.Tie as tie

@@ -1,19 +1,19 @@
 -- Rows joined one after the other, as a loop writes them.
 use Prim.Native.Nat.{ℕ, zero, suc, _+_, _*_, _/_, _<_, _≤_}
 use mathlib.Core.List.{List, [], _∷_, _++_, append-assoc, append-nil}
-use mathlib.Core.Path.{_≡_, refl, sym, ap, ap₂, _∙_}
-use native.Mathlib.Nat.{le-refl, le-step, suc-mul, zero-mul}
+use mathlib.Core.Path.{_≡_, refl, sym, ap, ap₂, _∙_, subst}
+use mathlib.Core.Logic.{⊎-elim}
+use native.Mathlib.Nat.{eq-or-lt-of-le, le-of-suc-le-suc, le-refl, le-step, mul-suc, suc-mul, zero-mul}
 use native.Mathlib.Numerals.{add-one}
 use native.Mathlib.Omega.{arith}
-use lib.ListN.{length, length-append}
+use lib.ListN.{length, getD, length-append}
 use Rattle.model.specs.Lists.{gather}
 use Rattle.model.specs.Rows.{written}
 use Rattle.laws.proofs.WordsReversed.{gather-append}
-use Rattle.words.specs.Rows.{spliced, tab}
+use Rattle.words.specs.Rows.{joined, spliced, tab}
 use Rattle.words.proofs.KeyLaws.{rows-in}
 use Rattle.words.proofs.Laws.{put-step, spliced-twice, written-none}
 use Rattle.words.proofs.Scans.{row-fits}
-use Rattle.reversal.specs.Turned.{joined}
 
 module _ {A : Type 0} where
   pub joined-none : (f : ℕ → List A) → joined 0 f ≡ []
@@ -40,6 +40,17 @@ module _ {A : Type 0} where
   unfolding joined
   joined-even w zero f h = sym (zero-mul w)
   joined-even w (suc n) f h = let a = length-append (joined n f) (f n) in let b = h n in let c = joined-even w n f h in let d = suc-mul n w in omega arith
+
+  pub joined-le : (n m : ℕ) (f : ℕ → List A) → n ≤ m → length (joined n f) ≤ length (joined m f)
+  unfolding joined
+  joined-le n zero f h = let e : n ≡ 0 = omega arith in rw e (le-refl 0)
+  joined-le n (suc m) f h = ⊎-elim (λ q. subst (λ (k : ℕ). length (joined k f) ≤ length (joined m f ++ f m)) (sym q) (le-refl (length (joined m f ++ f m)))) (λ lt. let ih = joined-le n m f (le-of-suc-le-suc lt) in let e = length-append (joined m f) (f m) in omega arith) (eq-or-lt-of-le h)
+
+  -- each of at most w words
+  pub joined-most : (w n : ℕ) (f : ℕ → List A) → ((i : ℕ) → length (f i) ≤ w) → length (joined n f) ≤ w * n
+  unfolding joined
+  joined-most w zero f h = let e : 0 ≤ w * 0 = omega arith in e
+  joined-most w (suc n) f h = let a = length-append (joined n f) (f n) in let b = h n in let ih = joined-most w n f h in let e = mul-suc w n in omega arith
 
   -- a loop over rows begins, and takes a turn
   pub rows-begin : (f : ℕ → List A) (out : List A) → out ≡ written (joined 0 f) out
@@ -74,3 +85,13 @@ pub gather-tab : {X B : Type 0} (g : X → List B) (n : ℕ) (f : ℕ → X) →
 unfolding tab joined
 gather-tab g zero f = refl
 gather-tab {B = B} g (suc n) f = gather-append g (tab n f) (f n ∷ []) ∙ ap₂ {C = List B} (λ a b. a ++ b) (gather-tab g n f) (append-nil (g (f n)))
+
+pub joined-gather : {A B : Type 0} (g : A → List B) (n : ℕ) (f : ℕ → List A) → gather g (joined n f) ≡ joined n (λ i. gather g (f i))
+unfolding joined
+joined-gather g zero f = refl
+joined-gather g (suc n) f = gather-append g (joined n f) (f n) ∙ ap (λ l. l ++ gather g (f n)) (joined-gather g n f)
+
+-- the lists of a list's elements
+pub gather-all : {X B : Type 0} (g : X → List B) (d : X) (xs : List X) → gather g xs ≡ joined (length xs) (λ k. g (getD xs k d))
+gather-all g d [] = sym (joined-none (λ k. g (getD [] k d)))
+gather-all {B = B} g d (x ∷ xs) = ap (λ (l : List B). g x ++ l) (gather-all g d xs) ∙ sym (joined-first (length xs) (λ k. g (getD (x ∷ xs) k d)))
