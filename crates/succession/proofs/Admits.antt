@@ -113,7 +113,7 @@ module _ (text roads sections junctions connections pairs lanes : List ℕ) (h :
     sym (sections-ascend roads sections) ∙ right-on (partsFit 18 19 0 (length sections) (table 20 roads)) (sectionsAscend (roadsIn sections roads)) (rules .1 .1 .1 .0),
   )
 
-  parts-good : (partsFit 3 4 0 (length connections / 7) (table 5 junctions) ≡ true) × (partsFit 5 6 0 (length pairs / 2) (table 7 connections) ≡ true)
+  pub parts-good : (partsFit 3 4 0 (length connections / 7) (table 5 junctions) ≡ true) × (partsFit 5 6 0 (length pairs / 2) (table 7 connections) ≡ true)
   unfolding successionRules rulesTo5 laneRules connectionPartsFit pairPartsFit
   parts-good = (
     left-on (partsFit 3 4 0 (length connections / 7) (table 5 junctions)) (partsFit 5 6 0 (length pairs / 2) (table 7 connections)) (rules .1 .1 .1 .1 .0),

@@ -7,7 +7,7 @@ use native.Mathlib.Nat.{le-refl}
 use native.Mathlib.Numerals.{add-one}
 use native.Mathlib.Omega.{arith}
 use lib.Dec.{ltb}
-use lib.ListN.{length, getD, take, drop}
+use lib.ListN.{length, getD, take, drop, take-append-drop}
 use lib.Seq.{length-take-le, take-all, take-suc}
 use borrow.Author.Tests.{lt-ltb}
 use Rattle.model.specs.Lists.{insert}
@@ -93,23 +93,43 @@ module _ (p : ℕ → Bool) where
   back-ordered [] xs h = h
   back-ordered (y ∷ ys) xs h = back-ordered ys (cond (p y) (insert y xs) xs) (ordered-put (p y) y xs h)
 
+  -- those that come later add to the list
+  back-split : (ys zs xs : List ℕ) → backInto p (ys ++ zs) xs ≡ backInto p zs (backInto p ys xs)
+  back-split [] zs xs = refl
+  back-split (y ∷ ys) zs xs = back-split ys zs (cond (p y) (insert y xs) xs)
+
+  so-far : (ys : List ℕ) (k : ℕ) (xs : List ℕ) → length (backInto p (take k ys) xs) ≤ length (backInto p ys xs)
+  so-far ys k xs = subst (λ (l : List ℕ). length (backInto p (take k ys) xs) ≤ length l) (sym (back-split (take k ys) (drop k ys) xs) ∙ ap (λ (l : List ℕ). backInto p l xs) (take-append-drop k ys)) (back-least (drop k ys) (backInto p (take k ys) xs))
+
+  -- a turn of the count
+  pub count-turn : (ys : List ℕ) (k : ℕ) (xs : List ℕ) (n : ℕ) (asked : Bool) → k < length ys → asked ≡ p (getD ys k 0) → n ≡ length (backInto p (take k ys) xs) → cond asked (n + 1) n ≡ length (backInto p (take (k + 1) ys) xs)
+  count-turn ys k xs n asked h e q = ap₂ (λ (b : Bool) (m : ℕ). cond b (m + 1) m) e q ∙ go (p (getD ys k 0)) ∙ ap length (sym (back-take ys k xs h))
+    where
+      go : (b : Bool) → cond b (length (backInto p (take k ys) xs) + 1) (length (backInto p (take k ys) xs)) ≡ length (cond b (insert (getD ys k 0) (backInto p (take k ys) xs)) (backInto p (take k ys) xs))
+      go true = add-one (length (backInto p (take k ys) xs)) ∙ sym (insert-length (getD ys k 0) (backInto p (take k ys) xs))
+      go false = refl
+
+  pub count-room : (ys : List ℕ) (k : ℕ) (xs : List ℕ) → k ≤ length ys → length (backInto p (take k ys) xs) ≤ length xs + k
+  count-room ys k xs h = let a = back-most (take k ys) xs in let b = length-take-le k ys h in omega arith
+
   -- the loop's turn
-  module _ (finders : List ℕ) (start : ℕ) (run₀ : List ℕ) (rising : Rising (take start run₀)) (room : start + length finders ≤ length run₀) where
+  module _ (finders : List ℕ) (start : ℕ) (run₀ : List ℕ) (rising : Rising (take start run₀)) (begun : start ≤ length run₀) (room : length (backInto p finders (take start run₀)) ≤ length run₀) where
     abbrev soFar : ℕ → List ℕ
     soFar k = backInto p (take k finders) (take start run₀)
 
-    so-long : (k : ℕ) → k ≤ length finders → length (soFar k) ≤ start + k
-    so-long k h = let a = back-most (take k finders) (take start run₀) in let b = length-take-le k finders h in let d = length-take-le start run₀ (omega arith) in omega arith
-
     pub turn-none : Made (soFar 0) run₀ run₀ start
-    turn-none = record { list = sym (written-take start run₀ (omega arith)); size = sym (length-take-le start run₀ (omega arith)) }
+    turn-none = record { list = sym (written-take start run₀ begun); size = sym (length-take-le start run₀ begun) }
 
-    module _ (k n : ℕ) (run : List ℕ) (h : k ≤ length finders) (m : Made (soFar k) run₀ run n) where
+    module _ (k n : ℕ) (run : List ℕ) (m : Made (soFar k) run₀ run n) where
       pub turn-long : length run ≡ length run₀
-      turn-long = made-long (soFar k) run₀ run n m (let a = so-long k h in omega arith)
+      turn-long = made-long (soFar k) run₀ run n m (let a = so-far finders k (take start run₀) in omega arith)
 
-      pub turn-room : k < length finders → n < length run
-      turn-room lt = let a = so-long k h in let b = turn-long in let d = m .size in omega arith
+      pub turn-within : n ≤ length run
+      turn-within = let a = so-far finders k (take start run₀) in let b = turn-long in let d = m .size in omega arith
+
+      pub turn-room : k < length finders → (asked : Bool) → asked ≡ p (getD finders k 0) → asked ≡ true → n < length run
+      turn-room lt asked e t = let a = so-far finders (k + 1) (take start run₀) in let b = turn-long in
+          let d = count-turn finders k (take start run₀) n asked lt e (m .size) in let f = ap (λ (b : Bool). cond b (n + 1) n) t in omega arith
 
       pub turn-rising : Rising (take n run)
       turn-rising = ordered-rising (take n run) (subst Ordered (sym (made-front (soFar k) run₀ run n m)) (back-ordered (take k finders) (take start run₀) (rising-ordered (take start run₀) rising)))
@@ -132,19 +152,35 @@ module _ (lanes mine finders : List ℕ) (l : ℕ) where
       go true = back-most (wants lanes mine) finders mine
       go false = omega arith
 
+  pub plain-is : twoWayRow lanes (suc l) ≡ false → finishedFrom lanes mine finders l ≡ mine
+  unfolding finishedFrom
+  plain-is z = ap (λ (b : Bool). cond b (backInto (wants lanes mine) finders mine) mine) z
+
+  pub back-is : twoWayRow lanes (suc l) ≡ true → finishedFrom lanes mine finders l ≡ backInto (wants lanes mine) finders mine
+  unfolding finishedFrom
+  back-is z = ap (λ (b : Bool). cond b (backInto (wants lanes mine) finders mine) mine) z
+
+  pub finish-least : length mine ≤ length (finishedFrom lanes mine finders l)
+  unfolding finishedFrom
+  finish-least = go (twoWayRow lanes (suc l))
+    where
+      go : (b : Bool) → length mine ≤ length (cond b (backInto (wants lanes mine) finders mine) mine)
+      go true = back-least (wants lanes mine) finders mine
+      go false = le-refl (length mine)
+
   module _ (run₀ run : List ℕ) (e : run ≡ written mine run₀) where
     pub finish-plain : twoWayRow lanes (suc l) ≡ false → Made (finishedFrom lanes mine finders l) run₀ run (length mine)
-    unfolding finishedFrom
-    finish-plain z = record { list = e ∙ ap (λ (b : Bool). written (cond b (backInto (wants lanes mine) finders mine) mine) run₀) (sym z); size = ap (λ (b : Bool). length (cond b (backInto (wants lanes mine) finders mine) mine)) (sym z) }
+    finish-plain z = record { list = e ∙ ap (λ (xs : List ℕ). written xs run₀) (sym (plain-is z)); size = ap length (sym (plain-is z)) }
 
     pub copied : take (length mine) run ≡ mine
     copied = ap (take (length mine)) e ∙ written-front mine run₀
 
+    pub finish-room : twoWayRow lanes (suc l) ≡ true → length (backInto (wants lanes mine) finders (take (length mine) run)) ≡ length (finishedFrom lanes mine finders l)
+    finish-room z = ap (λ (xs : List ℕ). length (backInto (wants lanes mine) finders xs)) copied ∙ ap length (sym (back-is z))
+
     pub finish-back : twoWayRow lanes (suc l) ≡ true → (new : List ℕ) (q : ℕ) → Made (backInto (wants lanes mine) finders (take (length mine) run)) run new q → Made (finishedFrom lanes mine finders l) run₀ new q
-    unfolding finishedFrom
-    finish-back z new q m = made-then mine run₀ run (length mine) (record { list = e; size = refl }) (backInto (wants lanes mine) finders (take (length mine) run)) (cond (twoWayRow lanes (suc l)) (backInto (wants lanes mine) finders mine) mine) new q m
-        (ap (backInto (wants lanes mine) finders) copied ∙ ap (λ (b : Bool). cond b (backInto (wants lanes mine) finders mine) mine) (sym z))
-        (subst (λ (b : Bool). length mine ≤ length (cond b (backInto (wants lanes mine) finders mine) mine)) (sym z) (back-least (wants lanes mine) finders mine))
+    finish-back z new q m = made-then mine run₀ run (length mine) (record { list = e; size = refl }) (backInto (wants lanes mine) finders (take (length mine) run)) (finishedFrom lanes mine finders l) new q m
+        (ap (backInto (wants lanes mine) finders) copied ∙ sym (back-is z)) finish-least
 
 -- ---- one list more, written to the tail of an output
 module _ (list : ℕ → List ℕ) (f : ℕ → ℕ) (few : (i : ℕ) → length (list i) ≤ f i) where

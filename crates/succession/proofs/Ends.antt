@@ -7,8 +7,7 @@ use mathlib.Core.List.{List, [], _∷_, map}
 use native.Mathlib.Nat.{le-refl}
 use native.Mathlib.Omega.{arith}
 use lib.Dec.{eqb, leb}
-use lib.ListN.{length, take, drop}
-use lib.Seq.{take-at}
+use lib.ListN.{length}
 use borrow.Author.Tests.{le-leb, lt-leb}
 use Rattle.model.specs.Calls.{ListOutputs, listContent, listLengths, longEnough, putLists, refused, settled, successionCall, successionRefusal, successionRules, wrote}
 use Rattle.model.specs.Lists.{keep, sort}
@@ -22,22 +21,23 @@ use Rattle.model.specs.Text.{sameIn}
 use Rattle.laws.proofs.Bound.{successorsOf-exits, sumOf}
 use Rattle.laws.proofs.RulesReversed.{broken-append}
 use Rattle.laws.proofs.Sorting.{Ordered}
+use Rattle.words.specs.Keys.{idBefore}
 use Rattle.words.specs.Rows.{any, from, tab, total}
 use Rattle.words.proofs.Laws.{tab-length, tab-same}
 use Rattle.rules.proofs.Forms.{lanes-tab}
 use Rattle.tables.proofs.Order.{first-stays}
 use Rattle.succession.specs.Runs.{Rising}
 use Rattle.succession.specs.ByRow.{laneAt, ranged}
-use Rattle.succession.specs.Packs.{Filled, idAt, listers, listersOf, shared, startOf}
-use Rattle.succession.specs.Finished.{finishedFrom}
+use Rattle.succession.specs.Packs.{AsMany, Filled, idAt, listers, listersOf, shared, startOf}
+use Rattle.succession.specs.Finished.{bothLong, finishedAt, finishedFrom}
 use Rattle.succession.specs.Outcome.{contentOf, onwardAt, outputs, ownList}
 use Rattle.succession.proofs.Absorbed.{ordered-rising}
-use Rattle.succession.proofs.Spreads.{listers-few, total-few, total-plus}
-use Rattle.succession.proofs.Packing.{joined-long, joined-same, start-same}
-use Rattle.succession.proofs.Backs.{finish-most}
+use Rattle.succession.proofs.Spreads.{as-many, listers-few, total-few, total-plus}
+use Rattle.succession.proofs.Packing.{filled-same, joined-long, joined-same, read-back, start-same}
+use Rattle.succession.proofs.Backs.{both-fit}
 use Rattle.succession.proofs.Admits.{ids-single, sum-tab}
 use Rattle.succession.proofs.Served.{exits-limit}
-use Rattle.succession.proofs.Final.{before-is, offsets-are, onward-is, ordered-own, packed-is}
+use Rattle.succession.proofs.Final.{all-borne, before-is, offsets-are, onward-is, ordered-own, packed-is}
 
 -- ---- 9, and what is written
 module _ (C o : ListOutputs) where
@@ -86,27 +86,44 @@ module _ (n : ℕ) (S P : ℕ → List ℕ) where
   content-same S′ P′ a b = ap₂ (λ (x y : List ℕ). outputs x y (tab (n + 1) (startOf P)) (ranged 0 n P)) (tab-same (n + 1) (startOf S) (startOf S′) (λ i h. start-same S S′ n a i (omega arith))) (joined-same S S′ n a n (le-refl n))
       ∙ ap₂ (λ (x y : List ℕ). outputs (tab (n + 1) (startOf S′)) (ranged 0 n S′) x y) (tab-same (n + 1) (startOf P) (startOf P′) (λ i h. start-same P P′ n b i (omega arith))) (joined-same P P′ n b n (le-refl n))
 
--- ---- packed lists in arrays: their front words
-module _ (n : ℕ) (list : ℕ → List ℕ) (offsets₀ ids₀ offsets ids : List ℕ) (F : Filled n list offsets₀ ids₀ offsets ids) where
-  pub front-offsets : take (n + 1) offsets ≡ tab (n + 1) (startOf list)
-  unfolding written
-  front-offsets = ap (take (n + 1)) (F .starts) ∙ take-at (tab (n + 1) (startOf list)) (drop (length (tab (n + 1) (startOf list))) offsets₀) (n + 1) (tab-length (n + 1) (startOf list))
-
-  pub front-ids : (k : ℕ) → k ≡ startOf list n → take k ids ≡ ranged 0 n list
-  unfolding written
-  front-ids k e = ap (take k) (F .content) ∙ take-at (ranged 0 n list) (drop (length (ranged 0 n list)) ids₀) k (joined-long list n ∙ sym e)
+-- ---- the same lists, read the other way
+pub listers-same : (lanes : List ℕ) (S S′ : ℕ → List ℕ) → ((a : ℕ) → a < length lanes / 10 → S a ≡ S′ a) → (r : ℕ) → listersOf lanes S r ≡ listersOf lanes S′ r
+unfolding listersOf
+listers-same lanes S S′ e r = ap sort (joined-same (λ a. map (λ (i : ℕ). idAt lanes a) (keep (eqb (idAt lanes r)) (S a))) (λ a. map (λ (i : ℕ). idAt lanes a) (keep (eqb (idAt lanes r)) (S′ a))) (length lanes / 10)
+    (λ a la. ap (λ (l : List ℕ). map (λ (i : ℕ). idAt lanes a) (keep (eqb (idAt lanes r)) l)) (e a la)) (length lanes / 10) (le-refl (length lanes / 10)))
 
 pub listers-of : (lanes offsets ids : List ℕ) (S : ℕ → List ℕ) → ((a : ℕ) → a < length lanes / 10 → listPart offsets ids a ≡ S a) → (r : ℕ) → listers lanes offsets ids r ≡ listersOf lanes S r
 unfolding listers listersOf shared
-listers-of lanes offsets ids S e r = ap sort (joined-same (λ a. map (λ (i : ℕ). idAt lanes a) (keep (eqb (idAt lanes r)) (listPart offsets ids a))) (λ a. map (λ (i : ℕ). idAt lanes a) (keep (eqb (idAt lanes r)) (S a))) (length lanes / 10)
-    (λ a la. ap (λ (l : List ℕ). map (λ (i : ℕ). idAt lanes a) (keep (eqb (idAt lanes r)) l)) (e a la)) (length lanes / 10) (le-refl (length lanes / 10)))
+listers-of lanes offsets ids S e r = listers-same lanes (listPart offsets ids) S e r
 
-pub onward-few : (lanes starts ids : List ℕ) → any (length lanes / 10) (Rattle.words.specs.Keys.idBefore lanes) ≡ false → startOf (listPart starts ids) (length lanes / 10) ≤ 65536 → startOf (onwardAt lanes starts ids) (length lanes / 10) ≤ 131072
-onward-few lanes starts ids once h =
-    let a = total-few (length lanes / 10) (λ l. length (onwardAt lanes starts ids l)) (λ l. length (listPart starts ids l) + length (listers lanes starts ids l)) (λ l ll. finish-most lanes (listPart starts ids l) (listers lanes starts ids l) l) in
-    let b = total-plus (length lanes / 10) (λ l. length (listPart starts ids l)) (λ l. length (listers lanes starts ids l)) (λ l. length (listPart starts ids l) + length (listers lanes starts ids l)) (λ r. refl) in
-    let d = listers-few lanes once starts ids in
-    omega arith
+-- ---- lists written and read again
+module _ (lanes : List ℕ) (list : ℕ → List ℕ) (offsets₀ ids₀ offsets ids : List ℕ) (F : Filled (length lanes / 10) list offsets₀ ids₀ offsets ids) (wide : length lanes / 10 < length offsets₀) (room : startOf list (length lanes / 10) ≤ length ids₀) where
+  again : (a : ℕ) → a < length lanes / 10 → listPart offsets ids a ≡ list a
+  again = read-back list (length lanes / 10) offsets₀ ids₀ offsets ids F wide room
+
+  pub onward-size : startOf (listPart offsets ids) (length lanes / 10) ≡ startOf list (length lanes / 10)
+  onward-size = start-same (listPart offsets ids) list (length lanes / 10) again (length lanes / 10) (le-refl (length lanes / 10))
+
+  pub before-size : startOf (listers lanes offsets ids) (length lanes / 10) ≡ startOf (listersOf lanes list) (length lanes / 10)
+  before-size = start-same (listers lanes offsets ids) (listersOf lanes list) (length lanes / 10) (λ r lr. listers-of lanes offsets ids list again r) (length lanes / 10) (le-refl (length lanes / 10))
+
+  pub before-filled : (before₀ bids₀ before bids : List ℕ) → Filled (length lanes / 10) (listers lanes offsets ids) before₀ bids₀ before bids → Filled (length lanes / 10) (listersOf lanes list) before₀ bids₀ before bids
+  before-filled = filled-same (listers lanes offsets ids) (listersOf lanes list) (length lanes / 10) (λ r lr. listers-of lanes offsets ids list again r)
+
+-- the finished lists, where who finds a lane was written and is read again
+module _ (lanes starts ids fstarts fids : List ℕ) (found : (r : ℕ) → r < length lanes / 10 → listPart fstarts fids r ≡ listers lanes starts ids r) where
+  finished-is : (l : ℕ) → l < length lanes / 10 → finishedAt lanes starts ids fstarts fids l ≡ onwardAt lanes starts ids l
+  finished-is l ll = ap (λ (xs : List ℕ). finishedFrom lanes (listPart starts ids l) xs l) (found l ll)
+
+  pub finished-many : AsMany lanes (onwardAt lanes starts ids) → AsMany lanes (finishedAt lanes starts ids fstarts fids)
+  finished-many m = start-same (listersOf lanes (finishedAt lanes starts ids fstarts fids)) (listersOf lanes (onwardAt lanes starts ids)) (length lanes / 10) (λ r lr. listers-same lanes (finishedAt lanes starts ids fstarts fids) (onwardAt lanes starts ids) finished-is r) (length lanes / 10) (le-refl (length lanes / 10))
+      ∙ m ∙ sym (start-same (finishedAt lanes starts ids fstarts fids) (onwardAt lanes starts ids) (length lanes / 10) finished-is (length lanes / 10) (le-refl (length lanes / 10)))
+
+  pub finished-content : contentOf (length lanes / 10) (finishedAt lanes starts ids fstarts fids) (listersOf lanes (finishedAt lanes starts ids fstarts fids)) ≡ contentOf (length lanes / 10) (onwardAt lanes starts ids) (listersOf lanes (onwardAt lanes starts ids))
+  finished-content = content-same (length lanes / 10) (finishedAt lanes starts ids fstarts fids) (listersOf lanes (finishedAt lanes starts ids fstarts fids)) (onwardAt lanes starts ids) (listersOf lanes (onwardAt lanes starts ids)) finished-is (λ r lr. listers-same lanes (finishedAt lanes starts ids fstarts fids) (onwardAt lanes starts ids) finished-is r)
+
+  pub finished-few : any (length lanes / 10) (idBefore lanes) ≡ false → startOf (listPart starts ids) (length lanes / 10) ≤ 65536 → total (length lanes / 10) (bothLong starts ids fstarts fids) ≤ 131072
+  finished-few once h = let a = both-fit starts ids fstarts fids (length lanes / 10) (listers lanes starts ids) found in let b = listers-few lanes once starts ids in omega arith
 
 -- ---- the call
 module _ (T : Tables) (o : ListOutputs) where
@@ -164,3 +181,7 @@ module _ (text roads sections junctions connections pairs lanes : List ℕ) (h :
         (offsets-are (sameIn text) (mapOf T) lanes lanes-are single (onwardAt lanes offsets ids) (successors (sameIn text) (mapOf T)) onward-lists) (packed-is (sameIn text) (mapOf T) lanes lanes-are single (onwardAt lanes offsets ids) (successors (sameIn text) (mapOf T)) onward-lists)
         ∙ ap₂ (λ (x y : List ℕ). outputs (offsetsFrom 0 (map (successors (sameIn text) (mapOf T)) (mapOf T .lanes))) (packed (map (successors (sameIn text) (mapOf T)) (mapOf T .lanes))) x y)
         (offsets-are (sameIn text) (mapOf T) lanes lanes-are single (listersOf lanes (onwardAt lanes offsets ids)) (predecessors (sameIn text) (mapOf T)) before) (packed-is (sameIn text) (mapOf T) lanes lanes-are single (listersOf lanes (onwardAt lanes offsets ids)) (predecessors (sameIn text) (mapOf T)) before)
+
+    pub onward-many : AsMany lanes (onwardAt lanes offsets ids)
+    onward-many = let single = ids-single text roads sections junctions connections pairs lanes h in
+        as-many lanes single (onwardAt lanes offsets ids) (all-borne (sameIn text) (mapOf T) lanes lanes-are single (onwardAt lanes offsets ids) onward-lists)

@@ -12,22 +12,28 @@ use lib.Seq.{getD-drop}
 use borrow.Author.Tests.{eqb-true, eq-eqb}
 use Rattle.geometry.specs.declared.gap.Direction.{Direction}
 use Rattle.geometry.specs.declared.gap.Direction.the-variants.{Forward, Backward, Both}
-use Rattle.model.specs.Lists.{count, gather, insert, keep, member, once, sort}
+use Rattle.model.specs.Lists.{count, every, gather, insert, keep, member, once, some?, sort}
 use Rattle.model.specs.Lookup.{offsetsFrom, packed}
 use Rattle.model.specs.Records.{Lane, Map, Span}
-use Rattle.model.specs.Succession.{backLinks, entryId, exits, findsBack, isBoth, predecessors, runsAway, successors, successorsBy, successorsOf}
+use Rattle.model.specs.Rules.{borne}
+use Rattle.model.specs.Succession.{backLinks, entryId, exits, findsBack, isBoth, predecessors, runsAway, successorLists, successors, successorsBy, successorsOf}
 use Rattle.model.specs.Tables.{directionOf, laneIn}
 use Rattle.laws.proofs.Basics.{keep-append}
+use Rattle.laws.proofs.Eleven.{lists-known}
+use Rattle.laws.proofs.ForEach.{each}
+use Rattle.laws.proofs.ListTests.{every-ext}
 use Rattle.laws.proofs.Sorting.{Ordered, count-append, count-sort, ordered-sort, sort-counts, sort-middle, sorted-by-counts}
 use Rattle.words.specs.Rows.{any, lastOf, tab, total}
 use Rattle.words.specs.Keys.{idBefore, isId}
-use Rattle.words.proofs.Laws.{map-tab, tab-more}
+use Rattle.words.proofs.Laws.{any-same, map-tab, tab-more}
+use Rattle.words.proofs.Scans.{some-tab}
 use Rattle.succession.specs.ByRow.{laneAt, ranged}
 use Rattle.succession.specs.Packs.{idAt, listersOf, startOf}
 use Rattle.succession.specs.Finished.{backInto, finishedFrom, twoWayRow, wants}
 use Rattle.succession.proofs.Once.{count-once, ordered-once}
 use Rattle.succession.proofs.Spills.{row-of-id}
 use Rattle.succession.proofs.Packing.{joined-long, joined-same}
+use Rattle.succession.proofs.Spreads.{borneBy}
 
 -- ---- kept numbers
 count-keep : (p : ℕ → Bool) (k : ℕ) (xs : List ℕ) → count k (keep p xs) ≡ cond (p k) (count k xs) 0
@@ -242,3 +248,13 @@ module _ (same : Span → Span → Bool) (M : Map) (lanes : List ℕ) (own-lanes
     pub offsets-are : tab (length lanes / 10 + 1) (startOf S) ≡ offsetsFrom 0 (map f (M .lanes))
     offsets-are = Rattle.words.proofs.Laws.tab-same (length lanes / 10 + 1) (startOf S) (startOf (λ i. f (laneAt lanes i))) (λ i h. Rattle.succession.proofs.Packing.start-same S (λ i. f (laneAt lanes i)) (length lanes / 10) e i (omega arith))
         ∙ sym (ap (offsetsFrom 0) lists-tab ∙ offsets-tab (length lanes / 10) (λ i. f (laneAt lanes i)))
+
+  -- every identity among them is a lane's
+  borne-row : (x : ℕ) → borne (M .lanes) x ≡ borneBy lanes x
+  unfolding borne isId
+  borne-row x = ap (some? (λ (l : Lane). eqb (l .identity) x)) own-lanes ∙ some-tab (λ (l : Lane). eqb (l .identity) x) (length lanes / 10) (laneAt lanes)
+      ∙ any-same (length lanes / 10) (λ i. eqb (laneAt lanes i .identity) x) (λ i. eqb (idAt lanes i) x) (λ i li. ap (λ (k : ℕ). eqb k x) (identity-at i))
+
+  pub all-borne : (S : ℕ → List ℕ) → ((a : ℕ) → a < length lanes / 10 → S a ≡ successors same M (laneAt lanes a)) → every (borneBy lanes) (ranged 0 (length lanes / 10) S) ≡ true
+  unfolding successorLists
+  all-borne S e = ap (every (borneBy lanes)) (packed-is S (successors same M) e) ∙ every-ext (borneBy lanes) (borne (M .lanes)) (packed (map (successors same M) (M .lanes))) (each (λ x. sym (borne-row x)) (packed (map (successors same M) (M .lanes)))) ∙ lists-known same M

@@ -2,6 +2,8 @@ pub mod RunLaws
 pub mod Steps
 pub mod Absorbed
 pub mod Turns
+pub mod Homes
+pub mod Walks
 pub mod Once
 pub mod Rowed
 pub mod ByName

@@ -1,26 +1,29 @@
 -- Lists read the other way: the runs in the end are the lists of those that list a lane.
 use Prim.Native.Nat.{ℕ, zero, suc, _+_, _-_, _/_, _<_, _≤_}
 use mathlib.Core.Path.{_≡_, refl, sym, ap, ap₂, _∙_, subst}
-use mathlib.Core.Bool.{Bool, true, false, cond}
+use mathlib.Core.Logic.{⊎-elim}
+use mathlib.Core.Bool.{Bool, true, false, cond, true≢false}
 use mathlib.Core.List.{List, [], _∷_, _++_, map, append-nil}
-use native.Mathlib.Nat.{le-refl, le-step}
+use native.Mathlib.Nat.{le-refl, le-step, le-of-suc-le-suc, eq-or-lt-of-le}
 use native.Mathlib.Numerals.{add-one}
 use native.Mathlib.Omega.{arith}
 use lib.Dec.{eqb}
 use lib.ListN.{length, getD, take, drop, length-drop, length-map, take-append-drop}
 use lib.Seq.{ext-getD, getD-drop, take-add}
-use borrow.Author.Tests.{eqb-true, ne-eqb}
-use Rattle.model.specs.Lists.{count, insert, keep, sort}
+use borrow.Author.Tests.{eq-eqb, eqb-true, ne-eqb}
+use Rattle.model.specs.Lists.{count, every, insert, keep, sort}
 use Rattle.model.specs.Lookup.{listPart}
 use Rattle.model.specs.Rows.{part, written}
 use Rattle.model.specs.Tables.{bit}
 use Rattle.laws.proofs.Bound.{length-sort}
-use Rattle.laws.proofs.Sorting.{ordered-sort, sort-middle}
+use Rattle.laws.proofs.Sorting.{count-append, ordered-sort, sort-middle}
 use Rattle.words.specs.Rows.{any, lastOf, total}
 use Rattle.words.specs.Keys.{idBefore, isId}
+use Rattle.words.proofs.Chains.{last-any, last-le}
 use Rattle.words.proofs.Laws.{total-same}
+use Rattle.words.proofs.Scans.{left-on, right-on}
 use Rattle.succession.specs.ByRow.{ranged}
-use Rattle.succession.specs.Packs.{Apart, Counted, Spilled, Spread, Starts, idAt, listed, listedBy, listers, onlyAt, runAt, shared, startOf, sumOfFirst, times, timesIn, wordAt}
+use Rattle.succession.specs.Packs.{Apart, AsMany, Counted, Spilled, Spread, Starts, idAt, listed, listedBy, listers, listersOf, onlyAt, runAt, shared, startOf, sumOfFirst, times, timesIn, wordAt}
 use Rattle.succession.proofs.Absorbed.{ordered-rising}
 use Rattle.succession.proofs.Spills.{row-of-id}
 use Rattle.succession.proofs.Packing.{joined-long, joined-more, listed-more, listed-none, start-more}
@@ -155,12 +158,9 @@ total-few zero f g h = le-refl 0
 total-few (suc n) f g h = let a : total n f ≤ total n g = total-few n f g (λ r lr. h r (le-step lr)) in let b = h n (le-refl (suc n)) in omega arith
 
 module _ (lanes : List ℕ) (once : any (length lanes / 10) (idBefore lanes) ≡ false) where
-  each-few : (xs : List ℕ) → total (length lanes / 10) (λ r. count (idAt lanes r) xs) ≤ length xs
-  each-few [] = let e = total-zero (length lanes / 10) in omega arith
-  each-few (x ∷ xs) =
-      let ih = each-few xs in
+  each-more : (x : ℕ) (xs : List ℕ) → total (length lanes / 10) (λ r. count (idAt lanes r) (x ∷ xs)) ≡ total (length lanes / 10) (onlyAt (lastOf (length lanes / 10) (isId lanes x))) + total (length lanes / 10) (λ r. count (idAt lanes r) xs)
+  each-more x xs =
       let f = lastOf (length lanes / 10) (isId lanes x) in
-      let one : total (length lanes / 10) (onlyAt f) ≤ 1 = only-one (length lanes / 10) f in
       let same : total (length lanes / 10) (λ r. bit (eqb (idAt lanes r) x)) ≡ total (length lanes / 10) (onlyAt f) = total-same (length lanes / 10) (λ r. bit (eqb (idAt lanes r) x)) (onlyAt f) (λ r lr. ap bit (sym (row-of-id lanes once x r lr))) in
       let sum = total-plus (length lanes / 10) (λ r. bit (eqb (idAt lanes r) x)) (λ r. count (idAt lanes r) xs) (λ r. count (idAt lanes r) (x ∷ xs)) (λ r. split (eqb (idAt lanes r) x) (count (idAt lanes r) xs)) in
       omega arith
@@ -168,6 +168,14 @@ module _ (lanes : List ℕ) (once : any (length lanes / 10) (idBefore lanes) ≡
       split : (b : Bool) (k : ℕ) → cond b (suc k) k ≡ bit b + k
       split true k = omega arith
       split false k = omega arith
+
+  each-few : (xs : List ℕ) → total (length lanes / 10) (λ r. count (idAt lanes r) xs) ≤ length xs
+  each-few [] = let e = total-zero (length lanes / 10) in omega arith
+  each-few (x ∷ xs) =
+      let ih = each-few xs in
+      let one = only-one (length lanes / 10) (lastOf (length lanes / 10) (isId lanes x)) in
+      let sum = each-more x xs in
+      omega arith
 
   pub listers-few : (starts ids : List ℕ) → startOf (listers lanes starts ids) (length lanes / 10) ≤ startOf (listPart starts ids) (length lanes / 10)
   unfolding listed
@@ -177,3 +185,49 @@ module _ (lanes : List ℕ) (once : any (length lanes / 10) (idBefore lanes) ≡
       let b = total-swap (length lanes / 10) (length lanes / 10) (λ r k. count (idAt lanes r) (listPart starts ids k)) in
       let d = total-few (length lanes / 10) (λ k. total (length lanes / 10) (λ r. count (idAt lanes r) (listPart starts ids k))) (λ k. length (listPart starts ids k)) (λ k lk. each-few (listPart starts ids k)) in
       omega arith
+
+-- ---- where every identity is a lane's, they are as long
+only-exact : (n f : ℕ) → 0 < f → f ≤ n → total n (onlyAt f) ≡ 1
+unfolding total
+only-exact zero f p h = absurd (omega arith)
+only-exact (suc n) f p h = ⊎-elim
+    (λ q. ap₂ _+_ (only-none n f (omega arith)) (ap bit (eq-eqb f (n + 1) (q ∙ sym (add-one n)))))
+    (λ lt. ap₂ _+_ (only-exact n f p (le-of-suc-le-suc lt)) (ap bit (ne-eqb f (n + 1) (λ e. omega arith))))
+    (eq-or-lt-of-le h)
+
+count-joined : (x n : ℕ) (S : ℕ → List ℕ) → count x (ranged 0 n S) ≡ total n (λ a. count x (S a))
+unfolding ranged total
+count-joined x zero S = refl
+count-joined x (suc n) S = count-append x (ranged 0 n S) (S (0 + n)) ∙ ap₂ (λ (j k : ℕ). j + count x (S k)) (count-joined x n S) (let e : 0 + n ≡ n = omega arith in e)
+
+-- is x a lane's identity?
+abbrev pub borneBy : List ℕ → ℕ → Bool
+borneBy lanes x = any (length lanes / 10) (isId lanes x)
+
+module _ (lanes : List ℕ) (once : any (length lanes / 10) (idBefore lanes) ≡ false) where
+  each-all : (xs : List ℕ) → every (borneBy lanes) xs ≡ true → total (length lanes / 10) (λ r. count (idAt lanes r) xs) ≡ length xs
+  each-all [] e = total-zero (length lanes / 10)
+  each-all (x ∷ xs) e =
+      let ih = each-all xs (right-on (borneBy lanes x) (every (borneBy lanes) xs) e) in
+      let f = lastOf (length lanes / 10) (isId lanes x) in
+      let one : total (length lanes / 10) (onlyAt f) ≡ 1 = only-exact (length lanes / 10) f (there (left-on (borneBy lanes x) (every (borneBy lanes) xs) e)) (last-le (length lanes / 10) (isId lanes x)) in
+      let sum = each-more lanes once x xs in
+      omega arith
+    where
+      positive : (f : ℕ) → (f ≡ 0 → ⊥) → 0 < f
+      positive f n = omega arith
+
+      there : borneBy lanes x ≡ true → 0 < lastOf (length lanes / 10) (isId lanes x)
+      there b = positive (lastOf (length lanes / 10) (isId lanes x)) (λ z. true≢false (sym b ∙ last-any (length lanes / 10) (isId lanes x) z))
+
+  pub as-many : (S : ℕ → List ℕ) → every (borneBy lanes) (ranged 0 (length lanes / 10) S) ≡ true → AsMany lanes S
+  unfolding listersOf
+  as-many S e = total-same (length lanes / 10) (λ r. length (sort (X r))) (λ r. count (idAt lanes r) (ranged 0 (length lanes / 10) S)) (λ r lr. long r) ∙ each-all (ranged 0 (length lanes / 10) S) e ∙ joined-long S (length lanes / 10)
+    where
+      X : ℕ → List ℕ
+      X r = ranged 0 (length lanes / 10) (λ a. map (λ (i : ℕ). idAt lanes a) (keep (eqb (idAt lanes r)) (S a)))
+
+      long : (r : ℕ) → length (sort (X r)) ≡ count (idAt lanes r) (ranged 0 (length lanes / 10) S)
+      long r = length-sort (X r) ∙ joined-long (λ a. map (λ (i : ℕ). idAt lanes a) (keep (eqb (idAt lanes r)) (S a))) (length lanes / 10)
+          ∙ total-same (length lanes / 10) (λ a. length (map (λ (i : ℕ). idAt lanes a) (keep (eqb (idAt lanes r)) (S a)))) (λ a. count (idAt lanes r) (S a)) (λ a la. length-map (keep (eqb (idAt lanes r)) (S a)) (λ (i : ℕ). idAt lanes a) ∙ length-keep (idAt lanes r) (S a))
+          ∙ sym (count-joined (idAt lanes r) (length lanes / 10) S)

@@ -15,7 +15,7 @@ use Rattle.model.specs.Rows.{written}
 use Rattle.model.specs.Succession.{Entry, endSection, nextSection}
 use Rattle.model.specs.Tables.{flag}
 use Rattle.rules.specs.ByRow.{numbersAt}
-use Rattle.succession.specs.ByRow.{Resolved, Room, Rows, Took, connectionByRow, crossByRow, exitsAtRow, exitsByRow, exitsFromRow, junctionAtRow, junctionByRow, laneRowOf, lookupByRow, oneAt, pairEntry, pairsByRow, ranged, rowsOf, sectionsByRow, stepByRow, successorsByRow, successorsFromRow}
+use Rattle.succession.specs.ByRow.{Resolved, Room, Rows, Took, crossByRow, exitsAtRow, exitsByRow, exitsFromRow, junctionAtRow, junctionByRow, laneRowOf, lookupByRow, oneAt, pairEntry, pairsByRow, ranged, rowsOf, sectionsByRow, stepByRow, successorsByRow, successorsFromRow}
 use Rattle.succession.proofs.Absorbed.{room-after, took-long, took-more, took-none}
 use Rattle.succession.proofs.Steps.{ranged-more, ranged-none}
 
@@ -61,19 +61,6 @@ pairs-by roads sections junctions connections pairs lanes owner sides ends c k r
     let E = flag (getD connections (c * 7 + 4) 0) in
     sym (ap₂ (λ (x n : ℕ). ranged x n (pairEntry pairs lanes owner road section E k)) d e
     ∙ ap₂ (λ (w s : ℕ). ranged (getD connections (c * 7 + 5) 0) (getD connections (c * 7 + 6) 0) (pairEntry pairs lanes owner w s E k)) a (b ∙ ap (λ (w : ℕ). endSection (sectionsByRow roads sections w) E) a))
-
-module _ (R : Rows) (w k : ℕ) where
-  pub connection-other : (c : ℕ) → (getD (R .sides) (c * 2) 0 ≡ w → ⊥) → connectionByRow R w k c ≡ []
-  unfolding connectionByRow
-  connection-other c n = ap (λ (b : Bool). cond b (pairsByRow R c k) []) (ne-eqb (getD (R .sides) (c * 2) 0) w n)
-
-  pub connection-leads : (c : ℕ) → getD (R .sides) (c * 2) 0 ≡ w → connectionByRow R w k c ≡ pairsByRow R c k
-  unfolding connectionByRow
-  connection-leads c e = ap (λ (b : Bool). cond b (pairsByRow R c k) []) (eq-eqb (getD (R .sides) (c * 2) 0) w e)
-
-  pub junction-by : (j first count : ℕ) → first ≡ getD (R .junctions) (j * 5 + 3) 0 → count ≡ getD (R .junctions) (j * 5 + 4) 0 → junctionByRow R j w k ≡ ranged first count (connectionByRow R w k)
-  unfolding junctionByRow
-  junction-by j first count a b = sym (ap₂ (λ (x n : ℕ). ranged x n (connectionByRow R w k)) a b)
 
 -- ---- past the end of a road
 module _ (R : Rows) (l at to link : ℕ) where

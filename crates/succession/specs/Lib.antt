@@ -1,5 +1,6 @@
 pub mod Runs
 pub mod ByRow
+pub mod Meeting
 pub mod Named
 pub mod Packs
 pub mod Finished

@@ -101,3 +101,7 @@ Starts n list offsets = (r : ℕ) → r ≤ n → getD offsets r 0 ≡ startOf l
 -- who lists lane r, where lane a's list is S a
 unfoldable pub listersOf : List ℕ → (ℕ → List ℕ) → ℕ → List ℕ
 listersOf lanes S r = sort (ranged 0 (length lanes / 10) (λ a. map (λ i. idAt lanes a) (keep (eqb (idAt lanes r)) (S a))))
+
+-- read the other way, the lists have as many identities
+abbrev pub AsMany : List ℕ → (ℕ → List ℕ) → Type 0
+AsMany lanes list = startOf (listersOf lanes list) (length lanes / 10) ≡ startOf list (length lanes / 10)

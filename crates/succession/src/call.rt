@@ -2,30 +2,30 @@
 use crate::answer::Succession;
 use crate::back;
 use crate::converse;
+use crate::meeting;
 use crate::names;
 use crate::own;
 use tables::verdict;
 use tables::verdict::Verdict;
 use words::index;
-use words::rows;
 ghost use mathlib.Core.Path.{_≡_};
 ghost use mathlib.Core.Bool.{false};
 ghost use mathlib.Core.Option.{none};
-ghost use mathlib.Core.List.{[], _∷_};
 ghost use Prim.Native.Nat.{ℕ, _+_, _/_, _≤_, _<_};
-ghost use lib.ListN.{length, take};
+ghost use lib.ListN.{length};
 ghost use Rattle.model.specs.Calls.{listLengths, longEnough, putLists, settled, successionCall, successionRules};
 ghost use Rattle.model.specs.Lookup.{listPart};
 ghost use Rattle.model.specs.Rules.{firstBroken};
 ghost use Rattle.model.specs.Tables.{laneTables};
-ghost use Rattle.words.specs.Rows.{any, tab};
+ghost use Rattle.words.specs.Rows.{any, total};
 ghost use Rattle.words.specs.Chain.{Chained};
 ghost use Rattle.words.specs.Keys.{idBefore, idHash, nameHash};
+ghost use Rattle.rules.specs.ByRow.{Linked};
 ghost use Rattle.tables.specs.Verdicts.{refusalOf};
 ghost use Rattle.succession.specs.Runs.{Rising};
-ghost use Rattle.succession.specs.ByRow.{ranged};
 ghost use Rattle.succession.specs.Named.{Ended, Sided};
-ghost use Rattle.succession.specs.Packs.{Filled, listers, listersOf, startOf};
+ghost use Rattle.succession.specs.Packs.{AsMany, Filled, listersOf, startOf};
+ghost use Rattle.succession.specs.Finished.{bothLong, finishedAt};
 ghost use Rattle.succession.specs.Outcome.{contentOf, onwardAt, outcomeOf, outputs, ownList};
 
 // Fills `sides` and `ends` with the rows that connections and targets name.
@@ -49,6 +49,60 @@ fn link_rows(
     index::link_names(text, junctions, 5, 0, n, &mut jheads, &mut jnext);
     names::link_sides(text, roads, heads, next, connections, sides);
     names::link_ends(text, roads, heads, next, junctions, &jheads, &jnext, ends);
+}
+
+// Every lane's own list, where there is no refusal and the checks left their links. The chains of the roads make room for those of the connections.
+fn find_own(
+    text: &[u8],
+    roads: &[u32],
+    sections: &[u32],
+    junctions: &[u32],
+    connections: &[u32],
+    pairs: &[u32],
+    lanes: &[u32],
+    heads: &mut [u32],
+    next: &mut [u32],
+    owner: &[u32],
+    kheads: &[u32],
+    knext: &[u32],
+    offsets: &mut [u32],
+    own: &mut [u32],
+)
+    requires { ⌜ firstBroken (successionRules (laneTables (now text) (now roads) (now sections) (now junctions) (now connections) (now pairs) (now lanes))) ≡ none ⌝ }
+    requires { ⌜ Linked (now text) (now roads) (now lanes) (now heads) (now next) (now owner) (now kheads) (now knext) ⌝ }
+    requires { ⌜ (length (now heads) ≡ 16384) × (length (now next) ≡ 16384) × (length (now owner) ≡ 16384) × (length (now kheads) ≡ 16384) × (length (now knext) ≡ 16384) × (length (now offsets) ≡ 16385) × (length (now own) ≡ 65536) ⌝ }
+    ensures { λ _. ⌜ Filled (length (now (lanes .entry)) / 10) (ownList (now (text .entry)) (now (roads .entry)) (now (sections .entry)) (now (junctions .entry)) (now (connections .entry)) (now (pairs .entry)) (now (lanes .entry))) (now (offsets .entry)) (now (own .entry)) (now (offsets .exit)) (now (own .exit)) ⌝ }
+{
+    let mut sides = [0u32; 32768];
+    let mut ends = [0u32; 32768];
+    link_rows(
+        text,
+        roads,
+        junctions,
+        connections,
+        heads,
+        next,
+        &mut sides,
+        &mut ends,
+    );
+    meeting::link_connections(junctions, connections, &sides, heads, next);
+    own::own_lists(
+        roads,
+        sections,
+        junctions,
+        connections,
+        pairs,
+        lanes,
+        owner,
+        &sides,
+        &ends,
+        kheads,
+        knext,
+        heads,
+        next,
+        offsets,
+        own,
+    );
 }
 
 // Refusals 1 to 8; where there is none, every lane's own list.
@@ -89,28 +143,17 @@ fn resolve_own(
     if !verdict::admitted(v) {
         return v;
     }
-    let mut sides = [0u32; 32768];
-    let mut ends = [0u32; 32768];
-    link_rows(
+    find_own(
         text,
-        roads,
-        junctions,
-        connections,
-        &heads,
-        &next,
-        &mut sides,
-        &mut ends,
-    );
-    own::own_lists(
         roads,
         sections,
         junctions,
         connections,
         pairs,
         lanes,
+        &mut heads,
+        &mut next,
         &owner,
-        &sides,
-        &ends,
         &kheads,
         &knext,
         offsets,
@@ -119,47 +162,16 @@ fn resolve_own(
     v
 }
 
-// The finished lists onward, from the lanes' own lists. Returns how many identities they have.
-fn onward(
+// Writes the finished lists and the same read the other way, or refuses by 9 where an output is too short. A lane's own list is among (starts, ids),
+// who finds it by their own among (fstarts, fids).
+fn put_lists(
     lanes: &[u32],
     heads: &[u32],
     next: &[u32],
     starts: &[u32],
     ids: &[u32],
-    offsets: &mut [u32],
-    out: &mut [u32],
-) -> usize
-    requires { ⌜ (length (now lanes) / 10 ≤ 16384) × (length (now heads) ≡ 16384) × (length (now lanes) / 10 ≤ length (now next)) ⌝ }
-    requires { ⌜ Chained (idHash (now lanes)) (length (now lanes) / 10) (now heads) (now next) ⌝ }
-    requires { ⌜ any (length (now lanes) / 10) (idBefore (now lanes)) ≡ false ⌝ }
-    requires { ⌜ ((l : ℕ) → l < (length (now lanes) / 10) → Rising (listPart (now starts) (now ids) l)) × (startOf (listPart (now starts) (now ids)) (length (now lanes) / 10) ≤ 65536) ⌝ }
-    requires { ⌜ (length (now offsets) ≡ 16385) × (length (now out) ≡ 131072) ⌝ }
-    ensures { λ q. ⌜ Filled (length (now (lanes .entry)) / 10) (onwardAt (now (lanes .entry)) (now (starts .entry)) (now (ids .entry))) (now (offsets .entry)) (now (out .entry)) (now (offsets .exit)) (now (out .exit)) × (q ≡ startOf (onwardAt (now (lanes .entry)) (now (starts .entry)) (now (ids .entry))) (length (now (lanes .entry)) / 10)) ⌝ }
-{
-    let mut fstarts = [0u32; 16385];
-    let mut fids = [0u32; 65536];
-    converse::converse(lanes, heads, next, starts, ids, &mut fstarts, &mut fids);
-    back::finish_lists(
-        lanes,
-        heads,
-        next,
-        starts,
-        ids,
-        &fstarts,
-        &fids,
-        offsets,
-        out,
-    )
-}
-
-// Writes packed lists and the same read the other way, or refuses by 9 where an output is too short.
-fn put_lists(
-    lanes: &[u32],
-    heads: &[u32],
-    next: &[u32],
-    offsets: &[u32],
-    ids: &[u32],
-    total: usize,
+    fstarts: &[u32],
+    fids: &[u32],
     successor_offsets: &mut [u32],
     successor_ids: &mut [u32],
     predecessor_offsets: &mut [u32],
@@ -168,11 +180,12 @@ fn put_lists(
     requires { ⌜ (length (now lanes) / 10 ≤ 16384) × (length (now heads) ≡ 16384) × (length (now lanes) / 10 ≤ length (now next)) ⌝ }
     requires { ⌜ Chained (idHash (now lanes)) (length (now lanes) / 10) (now heads) (now next) ⌝ }
     requires { ⌜ any (length (now lanes) / 10) (idBefore (now lanes)) ≡ false ⌝ }
-    requires { ⌜ (total ≡ startOf (listPart (now offsets) (now ids)) (length (now lanes) / 10)) × (total ≤ 131072) × (total ≤ length (now ids)) × (length (now lanes) / 10 < length (now offsets)) × (take ((length (now lanes) / 10) + 1) (now offsets) ≡ tab ((length (now lanes) / 10) + 1) (startOf (listPart (now offsets) (now ids)))) × (take total (now ids) ≡ ranged 0 (length (now lanes) / 10) (listPart (now offsets) (now ids))) ⌝ }
-    ensures { λ q. ⌜ outcomeOf q (outputs (now («successor_offsets» .exit)) (now («successor_ids» .exit)) (now («predecessor_offsets» .exit)) (now («predecessor_ids» .exit))) ≡ settled (firstBroken (longEnough (listLengths (contentOf (length (now (lanes .entry)) / 10) (listPart (now (offsets .entry)) (now (ids .entry))) (listers (now (lanes .entry)) (now (offsets .entry)) (now (ids .entry))))) (listLengths (outputs (now («successor_offsets» .entry)) (now («successor_ids» .entry)) (now («predecessor_offsets» .entry)) (now («predecessor_ids» .entry)))))) (listLengths (contentOf (length (now (lanes .entry)) / 10) (listPart (now (offsets .entry)) (now (ids .entry))) (listers (now (lanes .entry)) (now (offsets .entry)) (now (ids .entry))))) (putLists (contentOf (length (now (lanes .entry)) / 10) (listPart (now (offsets .entry)) (now (ids .entry))) (listers (now (lanes .entry)) (now (offsets .entry)) (now (ids .entry)))) (outputs (now («successor_offsets» .entry)) (now («successor_ids» .entry)) (now («predecessor_offsets» .entry)) (now («predecessor_ids» .entry)))) (outputs (now («successor_offsets» .entry)) (now («successor_ids» .entry)) (now («predecessor_offsets» .entry)) (now («predecessor_ids» .entry))) ⌝ }
+    requires { ⌜ ((l : ℕ) → l < (length (now lanes) / 10) → Rising (listPart (now starts) (now ids) l)) × (total (length (now lanes) / 10) (bothLong (now starts) (now ids) (now fstarts) (now fids)) ≤ 131072) ⌝ }
+    requires { ⌜ AsMany (now lanes) (finishedAt (now lanes) (now starts) (now ids) (now fstarts) (now fids)) ⌝ }
+    ensures { λ q. ⌜ outcomeOf q (outputs (now («successor_offsets» .exit)) (now («successor_ids» .exit)) (now («predecessor_offsets» .exit)) (now («predecessor_ids» .exit))) ≡ settled (firstBroken (longEnough (listLengths (contentOf (length (now (lanes .entry)) / 10) (finishedAt (now (lanes .entry)) (now (starts .entry)) (now (ids .entry)) (now (fstarts .entry)) (now (fids .entry))) (listersOf (now (lanes .entry)) (finishedAt (now (lanes .entry)) (now (starts .entry)) (now (ids .entry)) (now (fstarts .entry)) (now (fids .entry)))))) (listLengths (outputs (now («successor_offsets» .entry)) (now («successor_ids» .entry)) (now («predecessor_offsets» .entry)) (now («predecessor_ids» .entry)))))) (listLengths (contentOf (length (now (lanes .entry)) / 10) (finishedAt (now (lanes .entry)) (now (starts .entry)) (now (ids .entry)) (now (fstarts .entry)) (now (fids .entry))) (listersOf (now (lanes .entry)) (finishedAt (now (lanes .entry)) (now (starts .entry)) (now (ids .entry)) (now (fstarts .entry)) (now (fids .entry)))))) (putLists (contentOf (length (now (lanes .entry)) / 10) (finishedAt (now (lanes .entry)) (now (starts .entry)) (now (ids .entry)) (now (fstarts .entry)) (now (fids .entry))) (listersOf (now (lanes .entry)) (finishedAt (now (lanes .entry)) (now (starts .entry)) (now (ids .entry)) (now (fstarts .entry)) (now (fids .entry))))) (outputs (now («successor_offsets» .entry)) (now («successor_ids» .entry)) (now («predecessor_offsets» .entry)) (now («predecessor_ids» .entry)))) (outputs (now («successor_offsets» .entry)) (now («successor_ids» .entry)) (now («predecessor_offsets» .entry)) (now («predecessor_ids» .entry))) ⌝ }
 {
     let n = lanes.len() / 10;
-    let size = converse::size(lanes, heads, next, offsets, ids);
+    let total = back::count_lists(lanes, heads, next, starts, ids, fstarts, fids);
     if successor_offsets.len() < n + 1 {
         return Succession::Refused(Verdict::OutputShort);
     }
@@ -182,21 +195,30 @@ fn put_lists(
     if predecessor_offsets.len() < n + 1 {
         return Succession::Refused(Verdict::OutputShort);
     }
-    if predecessor_ids.len() < size {
+    if predecessor_ids.len() < total {
         return Succession::Refused(Verdict::OutputShort);
     }
-    rows::copy(successor_offsets, &offsets[..n + 1]);
-    rows::copy(successor_ids, &ids[..total]);
+    back::finish_lists(
+        lanes,
+        heads,
+        next,
+        starts,
+        ids,
+        fstarts,
+        fids,
+        successor_offsets,
+        successor_ids,
+    );
     converse::converse(
         lanes,
         heads,
         next,
-        offsets,
-        ids,
+        successor_offsets,
+        successor_ids,
         predecessor_offsets,
         predecessor_ids,
     );
-    Succession::Written(n + 1, total, n + 1, size)
+    Succession::Written(n + 1, total, n + 1, total)
 }
 
 // Writes the lists of all lanes, from the lanes' own lists.
@@ -210,22 +232,24 @@ fn write_lists(
     predecessor_ids: &mut [u32],
 ) -> Succession
     requires { ⌜ (length (now lanes) / 10 ≤ 16384) × (any (length (now lanes) / 10) (idBefore (now lanes)) ≡ false) × ((l : ℕ) → l < (length (now lanes) / 10) → Rising (listPart (now starts) (now ids) l)) × (startOf (listPart (now starts) (now ids)) (length (now lanes) / 10) ≤ 65536) ⌝ }
+    requires { ⌜ AsMany (now lanes) (onwardAt (now lanes) (now starts) (now ids)) ⌝ }
     ensures { λ q. ⌜ outcomeOf q (outputs (now («successor_offsets» .exit)) (now («successor_ids» .exit)) (now («predecessor_offsets» .exit)) (now («predecessor_ids» .exit))) ≡ settled (firstBroken (longEnough (listLengths (contentOf (length (now (lanes .entry)) / 10) (onwardAt (now (lanes .entry)) (now (starts .entry)) (now (ids .entry))) (listersOf (now (lanes .entry)) (onwardAt (now (lanes .entry)) (now (starts .entry)) (now (ids .entry)))))) (listLengths (outputs (now («successor_offsets» .entry)) (now («successor_ids» .entry)) (now («predecessor_offsets» .entry)) (now («predecessor_ids» .entry)))))) (listLengths (contentOf (length (now (lanes .entry)) / 10) (onwardAt (now (lanes .entry)) (now (starts .entry)) (now (ids .entry))) (listersOf (now (lanes .entry)) (onwardAt (now (lanes .entry)) (now (starts .entry)) (now (ids .entry)))))) (putLists (contentOf (length (now (lanes .entry)) / 10) (onwardAt (now (lanes .entry)) (now (starts .entry)) (now (ids .entry))) (listersOf (now (lanes .entry)) (onwardAt (now (lanes .entry)) (now (starts .entry)) (now (ids .entry))))) (outputs (now («successor_offsets» .entry)) (now («successor_ids» .entry)) (now («predecessor_offsets» .entry)) (now («predecessor_ids» .entry)))) (outputs (now («successor_offsets» .entry)) (now («successor_ids» .entry)) (now («predecessor_offsets» .entry)) (now («predecessor_ids» .entry))) ⌝ }
 {
     let n = lanes.len() / 10;
     let mut heads = [0u32; 16384];
     let mut next = [0u32; 16384];
     index::link_ids(lanes, n, &mut heads, &mut next);
-    let mut offsets = [0u32; 16385];
-    let mut out = [0u32; 131072];
-    let total = onward(lanes, &heads, &next, starts, ids, &mut offsets, &mut out);
+    let mut fstarts = [0u32; 16385];
+    let mut fids = [0u32; 65536];
+    converse::converse(lanes, &heads, &next, starts, ids, &mut fstarts, &mut fids);
     put_lists(
         lanes,
         &heads,
         &next,
-        &offsets,
-        &out,
-        total,
+        starts,
+        ids,
+        &fstarts,
+        &fids,
         successor_offsets,
         successor_ids,
         predecessor_offsets,

@@ -1,6 +1,7 @@
 // Packed lists read the other way: for each lane the lanes that list it, as often as they do.
 use crate::list;
 use crate::lists;
+use tables::lookup::LaneId;
 use words::index;
 use words::rows;
 ghost use mathlib.Core.Path.{_≡_};
@@ -88,9 +89,9 @@ fn sums(counts: &[u32], n: usize, offsets: &mut [u32])
 }
 
 // Puts an identity into the run of the lane whose row plus 1 is f; none for 0.
-fn spill_one(n: usize, offsets: &[u32], used: &mut [u32], out: &mut [u32], f: usize, id: u32)
+fn spill_one(n: usize, offsets: &[u32], used: &mut [u32], out: &mut [u32], f: usize, id: LaneId)
     requires { ⌜ (f ≤ n) × Apart n (onlyAt f) (now offsets) (now used) (now out) ⌝ }
-    ensures { λ _. ⌜ Spilled n (onlyAt f) id (now (offsets .entry)) (now (used .entry)) (now (out .entry)) (now (used .exit)) (now (out .exit)) ⌝ }
+    ensures { λ _. ⌜ Spilled n (onlyAt f) (id .0) (now (offsets .entry)) (now (used .entry)) (now (out .entry)) (now (used .exit)) (now (out .exit)) ⌝ }
 {
     if f == 0 {
         return;
@@ -108,7 +109,7 @@ fn spill_list(
     heads: &[u32],
     next: &[u32],
     list: &[u32],
-    id: u32,
+    id: LaneId,
     offsets: &[u32],
     used: &mut [u32],
     out: &mut [u32],
@@ -117,7 +118,7 @@ fn spill_list(
     requires { ⌜ Chained (idHash (now lanes)) (length (now lanes) / 10) (now heads) (now next) ⌝ }
     requires { ⌜ any (length (now lanes) / 10) (idBefore (now lanes)) ≡ false ⌝ }
     requires { ⌜ Apart (length (now lanes) / 10) (timesIn (now lanes) (now list)) (now offsets) (now used) (now out) ⌝ }
-    ensures { λ _. ⌜ Spilled (length (now (lanes .entry)) / 10) (timesIn (now (lanes .entry)) (now (list .entry))) id (now (offsets .entry)) (now (used .entry)) (now (out .entry)) (now (used .exit)) (now (out .exit)) ⌝ }
+    ensures { λ _. ⌜ Spilled (length (now (lanes .entry)) / 10) (timesIn (now (lanes .entry)) (now (list .entry))) (id .0) (now (offsets .entry)) (now (used .entry)) (now (out .entry)) (now (used .exit)) (now (out .exit)) ⌝ }
 {
     let n = lanes.len() / 10;
     let mut k = 0;
@@ -149,12 +150,13 @@ fn spill_all(
     let n = lanes.len() / 10;
     let mut a = 0;
     while a < n {
+        let id = LaneId(lanes[a * 10]);
         spill_list(
             lanes,
             heads,
             next,
             lists::list_part(starts, ids, a),
-            lanes[a * 10],
+            id,
             offsets,
             used,
             out,
@@ -163,7 +165,7 @@ fn spill_all(
     }
 }
 
-// The lists read the other way, as offsets and packed identities. Returns how many identities there are.
+// The lists read the other way, as offsets and packed identities.
 pub fn converse(
     lanes: &[u32],
     heads: &[u32],
@@ -172,12 +174,12 @@ pub fn converse(
     ids: &[u32],
     offsets: &mut [u32],
     out: &mut [u32],
-) -> usize
+)
     requires { ⌜ (length (now lanes) / 10 ≤ 16384) × (length (now heads) ≡ 16384) × (length (now lanes) / 10 ≤ length (now next)) ⌝ }
     requires { ⌜ Chained (idHash (now lanes)) (length (now lanes) / 10) (now heads) (now next) ⌝ }
     requires { ⌜ any (length (now lanes) / 10) (idBefore (now lanes)) ≡ false ⌝ }
     requires { ⌜ (startOf (listPart (now starts) (now ids)) (length (now lanes) / 10) ≤ 131072) × (length (now lanes) / 10 < length (now offsets)) × (startOf (listers (now lanes) (now starts) (now ids)) (length (now lanes) / 10) ≤ length (now out)) ⌝ }
-    ensures { λ q. ⌜ Filled (length (now (lanes .entry)) / 10) (listers (now (lanes .entry)) (now (starts .entry)) (now (ids .entry))) (now (offsets .entry)) (now (out .entry)) (now (offsets .exit)) (now (out .exit)) × (q ≡ startOf (listers (now (lanes .entry)) (now (starts .entry)) (now (ids .entry))) (length (now (lanes .entry)) / 10)) ⌝ }
+    ensures { λ _. ⌜ Filled (length (now (lanes .entry)) / 10) (listers (now (lanes .entry)) (now (starts .entry)) (now (ids .entry))) (now (offsets .entry)) (now (out .entry)) (now (offsets .exit)) (now (out .exit)) ⌝ }
 {
     let n = lanes.len() / 10;
     let mut counts = [0u32; 16384];
@@ -185,21 +187,4 @@ pub fn converse(
     sums(&counts, n, offsets);
     let mut used = [0u32; 16384];
     spill_all(lanes, heads, next, starts, ids, offsets, &mut used, out);
-    rows::word(offsets, n)
-}
-
-// How many identities the lists read the other way have.
-pub fn size(lanes: &[u32], heads: &[u32], next: &[u32], starts: &[u32], ids: &[u32]) -> usize
-    requires { ⌜ (length (now lanes) / 10 ≤ 16384) × (length (now heads) ≡ 16384) × (length (now lanes) / 10 ≤ length (now next)) ⌝ }
-    requires { ⌜ Chained (idHash (now lanes)) (length (now lanes) / 10) (now heads) (now next) ⌝ }
-    requires { ⌜ any (length (now lanes) / 10) (idBefore (now lanes)) ≡ false ⌝ }
-    requires { ⌜ startOf (listPart (now starts) (now ids)) (length (now lanes) / 10) ≤ 131072 ⌝ }
-    ensures { λ q. ⌜ q ≡ startOf (listers (now (lanes .entry)) (now (starts .entry)) (now (ids .entry))) (length (now (lanes .entry)) / 10) ⌝ }
-{
-    let n = lanes.len() / 10;
-    let mut counts = [0u32; 16384];
-    count_all(lanes, heads, next, starts, ids, &mut counts);
-    let mut offsets = [0u32; 16385];
-    sums(&counts, n, &mut offsets);
-    rows::word(&offsets, n)
 }

@@ -4,6 +4,7 @@ use crate::junction;
 use crate::sections;
 use crate::sections::Next;
 use crate::step;
+use tables::lookup::RoadId;
 use words::rows;
 ghost use mathlib.Core.Path.{_≡_};
 ghost use mathlib.Core.Bool.{true, false};
@@ -12,6 +13,7 @@ ghost use lib.Dec.{eqb};
 ghost use lib.ListN.{length, getD};
 ghost use Rattle.model.specs.Lists.{pick};
 ghost use Rattle.succession.specs.ByRow.{Resolved, Took, Room, Sound, rowsOf, crossByRow, exitsByRow};
+ghost use Rattle.succession.specs.Meeting.{Meeting};
 
 // Past the end of lane l's road at the target from word `at` on, which names the row `to` (plus 1).
 fn cross(
@@ -26,6 +28,8 @@ fn cross(
     ends: &[u32],
     heads: &[u32],
     next: &[u32],
+    mheads: &[u32],
+    mnext: &[u32],
     l: usize,
     at: usize,
     to: usize,
@@ -35,6 +39,7 @@ fn cross(
     n: usize,
 ) -> usize
     requires { ⌜ Sound (now roads) (now sections) (now junctions) (now connections) (now pairs) (now lanes) (now owner) (now sides) (now ends) (now heads) (now next) ⌝ }
+    requires { ⌜ Meeting (now junctions) (now connections) (now sides) (now mheads) (now mnext) ⌝ }
     requires { ⌜ (l < length (now lanes) / 10) × (at + 4 < length (now roads)) × (link + 1 < length (now lanes)) × (eqb (getD (now roads) (at + 1) 0) 1 ≡ true → to ≤ length (now junctions) / 5) × (eqb (getD (now roads) (at + 1) 0) 1 ≡ false → to ≤ length (now roads) / 20) ⌝ }
     requires { ⌜ Room n (crossByRow (rowsOf (now roads) (now sections) (now junctions) (now connections) (now pairs) (now lanes) (now owner) (now sides) (now ends)) l at to link) (now run) ⌝ }
     ensures { λ q. ⌜ Took both n (crossByRow (rowsOf (now (roads .entry)) (now (sections .entry)) (now (junctions .entry)) (now (connections .entry)) (now (pairs .entry)) (now (lanes .entry)) (now (owner .entry)) (now (sides .entry)) (now (ends .entry))) l at to link) (now (run .entry)) (now (run .exit)) q ⌝ }
@@ -58,6 +63,8 @@ fn cross(
             ends,
             heads,
             next,
+            mheads,
+            mnext,
             to - 1,
             rows::word(owner, l),
             lanes[l * 10 + 4],
@@ -94,8 +101,10 @@ fn leave(
     ends: &[u32],
     heads: &[u32],
     next: &[u32],
+    mheads: &[u32],
+    mnext: &[u32],
     l: usize,
-    r: usize,
+    r: RoadId,
     link: usize,
     forward: bool,
     both: bool,
@@ -103,10 +112,12 @@ fn leave(
     n: usize,
 ) -> usize
     requires { ⌜ Sound (now roads) (now sections) (now junctions) (now connections) (now pairs) (now lanes) (now owner) (now sides) (now ends) (now heads) (now next) ⌝ }
-    requires { ⌜ (l < length (now lanes) / 10) × (r < length (now roads) / 20) × (link + 1 < length (now lanes)) ⌝ }
-    requires { ⌜ Room n (crossByRow (rowsOf (now roads) (now sections) (now junctions) (now connections) (now pairs) (now lanes) (now owner) (now sides) (now ends)) l (pick forward (r * 20 + 4) (r * 20 + 11)) (pick forward (getD (now ends) (r * 2) 0) (getD (now ends) (r * 2 + 1) 0)) link) (now run) ⌝ }
-    ensures { λ q. ⌜ Took both n (crossByRow (rowsOf (now (roads .entry)) (now (sections .entry)) (now (junctions .entry)) (now (connections .entry)) (now (pairs .entry)) (now (lanes .entry)) (now (owner .entry)) (now (sides .entry)) (now (ends .entry))) l (pick forward (r * 20 + 4) (r * 20 + 11)) (pick forward (getD (now (ends .entry)) (r * 2) 0) (getD (now (ends .entry)) (r * 2 + 1) 0)) link) (now (run .entry)) (now (run .exit)) q ⌝ }
+    requires { ⌜ Meeting (now junctions) (now connections) (now sides) (now mheads) (now mnext) ⌝ }
+    requires { ⌜ (l < length (now lanes) / 10) × (r .0 < length (now roads) / 20) × (link + 1 < length (now lanes)) ⌝ }
+    requires { ⌜ Room n (crossByRow (rowsOf (now roads) (now sections) (now junctions) (now connections) (now pairs) (now lanes) (now owner) (now sides) (now ends)) l (pick forward (r .0 * 20 + 4) (r .0 * 20 + 11)) (pick forward (getD (now ends) (r .0 * 2) 0) (getD (now ends) (r .0 * 2 + 1) 0)) link) (now run) ⌝ }
+    ensures { λ q. ⌜ Took both n (crossByRow (rowsOf (now (roads .entry)) (now (sections .entry)) (now (junctions .entry)) (now (connections .entry)) (now (pairs .entry)) (now (lanes .entry)) (now (owner .entry)) (now (sides .entry)) (now (ends .entry))) l (pick forward (r .0 * 20 + 4) (r .0 * 20 + 11)) (pick forward (getD (now (ends .entry)) (r .0 * 2) 0) (getD (now (ends .entry)) (r .0 * 2 + 1) 0)) link) (now (run .entry)) (now (run .exit)) q ⌝ }
 {
+    let row = r.0 as usize;
     if forward {
         return cross(
             roads,
@@ -120,9 +131,11 @@ fn leave(
             ends,
             heads,
             next,
+            mheads,
+            mnext,
             l,
-            r * 20 + 11,
-            rows::word(ends, r * 2 + 1),
+            row * 20 + 11,
+            rows::word(ends, row * 2 + 1),
             link,
             both,
             run,
@@ -141,9 +154,11 @@ fn leave(
         ends,
         heads,
         next,
+        mheads,
+        mnext,
         l,
-        r * 20 + 4,
-        rows::word(ends, r * 2),
+        row * 20 + 4,
+        rows::word(ends, row * 2),
         link,
         both,
         run,
@@ -164,6 +179,8 @@ fn exits(
     ends: &[u32],
     heads: &[u32],
     next: &[u32],
+    mheads: &[u32],
+    mnext: &[u32],
     l: usize,
     forward: bool,
     both: bool,
@@ -171,11 +188,12 @@ fn exits(
     n: usize,
 ) -> usize
     requires { ⌜ Sound (now roads) (now sections) (now junctions) (now connections) (now pairs) (now lanes) (now owner) (now sides) (now ends) (now heads) (now next) ⌝ }
+    requires { ⌜ Meeting (now junctions) (now connections) (now sides) (now mheads) (now mnext) ⌝ }
     requires { ⌜ l < length (now lanes) / 10 ⌝ }
     requires { ⌜ Room n (exitsByRow (rowsOf (now roads) (now sections) (now junctions) (now connections) (now pairs) (now lanes) (now owner) (now sides) (now ends)) l forward) (now run) ⌝ }
     ensures { λ q. ⌜ Took both n (exitsByRow (rowsOf (now (roads .entry)) (now (sections .entry)) (now (junctions .entry)) (now (connections .entry)) (now (pairs .entry)) (now (lanes .entry)) (now (owner .entry)) (now (sides .entry)) (now (ends .entry))) l forward) (now (run .entry)) (now (run .exit)) q ⌝ }
 {
-    let r = rows::word(owner, l) - 1;
+    let r = RoadId(owner[l] - 1);
     let link = step::link_at(l, forward);
     match sections::next_section(roads, sections, r, lanes[l * 10 + 3], forward) {
         Next::At(s) => step::within_road(
@@ -203,6 +221,8 @@ fn exits(
             ends,
             heads,
             next,
+            mheads,
+            mnext,
             l,
             r,
             link,
@@ -227,10 +247,13 @@ pub fn successors_of(
     ends: &[u32],
     heads: &[u32],
     next: &[u32],
+    mheads: &[u32],
+    mnext: &[u32],
     l: usize,
     run: &mut [u32],
 ) -> usize
     requires { ⌜ Sound (now roads) (now sections) (now junctions) (now connections) (now pairs) (now lanes) (now owner) (now sides) (now ends) (now heads) (now next) ⌝ }
+    requires { ⌜ Meeting (now junctions) (now connections) (now sides) (now mheads) (now mnext) ⌝ }
     requires { ⌜ (l < length (now lanes) / 10) × (length (exitsByRow (rowsOf (now roads) (now sections) (now junctions) (now connections) (now pairs) (now lanes) (now owner) (now sides) (now ends)) l true) + length (exitsByRow (rowsOf (now roads) (now sections) (now junctions) (now connections) (now pairs) (now lanes) (now owner) (now sides) (now ends)) l false) ≤ length (now run)) ⌝ }
     ensures { λ q. ⌜ Resolved (rowsOf (now (roads .entry)) (now (sections .entry)) (now (junctions .entry)) (now (connections .entry)) (now (pairs .entry)) (now (lanes .entry)) (now (owner .entry)) (now (sides .entry)) (now (ends .entry))) l (now (run .entry)) (now (run .exit)) q ⌝ }
 {
@@ -248,6 +271,8 @@ pub fn successors_of(
             ends,
             heads,
             next,
+            mheads,
+            mnext,
             l,
             true,
             false,
@@ -268,6 +293,8 @@ pub fn successors_of(
             ends,
             heads,
             next,
+            mheads,
+            mnext,
             l,
             false,
             false,
@@ -287,6 +314,8 @@ pub fn successors_of(
         ends,
         heads,
         next,
+        mheads,
+        mnext,
         l,
         true,
         true,
@@ -305,6 +334,8 @@ pub fn successors_of(
         ends,
         heads,
         next,
+        mheads,
+        mnext,
         l,
         false,
         true,

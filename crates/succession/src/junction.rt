@@ -1,10 +1,12 @@
 // Through a junction: its connections from a road, and their pairs from a lane.
+use crate::meeting;
 use crate::sections;
 use crate::step;
 use words::rows;
 ghost use Prim.Native.Nat.{_/_, _<_};
 ghost use lib.ListN.{length};
-ghost use Rattle.succession.specs.ByRow.{connectionByRow, Took, Room, Sound, rowsOf, pairsByRow, junctionByRow};
+ghost use Rattle.succession.specs.ByRow.{Took, Room, Sound, rowsOf, pairsByRow, junctionByRow};
+ghost use Rattle.succession.specs.Meeting.{Meeting, meetingAt};
 
 // Through the pairs of connection c that start at lane number k.
 fn through_pairs(
@@ -58,7 +60,7 @@ fn through_pairs(
     n
 }
 
-// Takes in what connection c leads lane number k of that road to.
+// Takes in what connection c leads lane number k of that road to, if it is one of junction j's.
 fn through_connection(
     roads: &[u32],
     sections: &[u32],
@@ -71,19 +73,20 @@ fn through_connection(
     ends: &[u32],
     heads: &[u32],
     next: &[u32],
-    c: usize,
+    j: usize,
     road: usize,
+    c: usize,
     k: u32,
     both: bool,
     run: &mut [u32],
     n: usize,
 ) -> usize
     requires { ⌜ Sound (now roads) (now sections) (now junctions) (now connections) (now pairs) (now lanes) (now owner) (now sides) (now ends) (now heads) (now next) ⌝ }
-    requires { ⌜ c < length (now connections) / 7 ⌝ }
-    requires { ⌜ Room n (connectionByRow (rowsOf (now roads) (now sections) (now junctions) (now connections) (now pairs) (now lanes) (now owner) (now sides) (now ends)) road k c) (now run) ⌝ }
-    ensures { λ q. ⌜ Took both n (connectionByRow (rowsOf (now (roads .entry)) (now (sections .entry)) (now (junctions .entry)) (now (connections .entry)) (now (pairs .entry)) (now (lanes .entry)) (now (owner .entry)) (now (sides .entry)) (now (ends .entry))) road k c) (now (run .entry)) (now (run .exit)) q ⌝ }
+    requires { ⌜ (j < length (now junctions) / 5) × (c < length (now connections) / 7) ⌝ }
+    requires { ⌜ Room n (meetingAt (rowsOf (now roads) (now sections) (now junctions) (now connections) (now pairs) (now lanes) (now owner) (now sides) (now ends)) j road k c) (now run) ⌝ }
+    ensures { λ q. ⌜ Took both n (meetingAt (rowsOf (now (roads .entry)) (now (sections .entry)) (now (junctions .entry)) (now (connections .entry)) (now (pairs .entry)) (now (lanes .entry)) (now (owner .entry)) (now (sides .entry)) (now (ends .entry))) j road k c) (now (run .entry)) (now (run .exit)) q ⌝ }
 {
-    if rows::word(sides, c * 2) != road {
+    if !meeting::comes_from(junctions, sides, j, road, c) {
         return n;
     }
     through_pairs(
@@ -119,6 +122,8 @@ pub fn through_junction(
     ends: &[u32],
     heads: &[u32],
     next: &[u32],
+    mheads: &[u32],
+    mnext: &[u32],
     j: usize,
     road: usize,
     k: u32,
@@ -127,15 +132,15 @@ pub fn through_junction(
     start: usize,
 ) -> usize
     requires { ⌜ Sound (now roads) (now sections) (now junctions) (now connections) (now pairs) (now lanes) (now owner) (now sides) (now ends) (now heads) (now next) ⌝ }
-    requires { ⌜ j < length (now junctions) / 5 ⌝ }
+    requires { ⌜ Meeting (now junctions) (now connections) (now sides) (now mheads) (now mnext) ⌝ }
+    requires { ⌜ (j < length (now junctions) / 5) × (road < 4294967296) ⌝ }
     requires { ⌜ Room start (junctionByRow (rowsOf (now roads) (now sections) (now junctions) (now connections) (now pairs) (now lanes) (now owner) (now sides) (now ends)) j road k) (now run) ⌝ }
     ensures { λ q. ⌜ Took both start (junctionByRow (rowsOf (now (roads .entry)) (now (sections .entry)) (now (junctions .entry)) (now (connections .entry)) (now (pairs .entry)) (now (lanes .entry)) (now (owner .entry)) (now (sides .entry)) (now (ends .entry))) j road k) (now (run .entry)) (now (run .exit)) q ⌝ }
 {
-    let first = rows::word(junctions, j * 5 + 3);
-    let end = first + rows::word(junctions, j * 5 + 4);
+    let count = connections.len() / 7;
     let mut n = start;
-    let mut c = first;
-    while c < end {
+    let mut at = rows::word(mheads, meeting::bucket(j + 1, road));
+    while at != 0 {
         n = through_connection(
             roads,
             sections,
@@ -148,14 +153,15 @@ pub fn through_junction(
             ends,
             heads,
             next,
-            c,
+            j,
             road,
+            count - at,
             k,
             both,
             run,
             n,
         );
-        c += 1;
+        at = rows::word(mnext, at - 1);
     }
     n
 }

@@ -8,6 +8,7 @@ pub mod follow;
 pub mod junction;
 pub mod list;
 pub mod lists;
+pub mod meeting;
 pub mod names;
 pub mod own;
 pub mod sections;

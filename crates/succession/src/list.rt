@@ -1,4 +1,5 @@
 // Ascending runs of words.
+use tables::lookup::LaneId;
 use words::rows;
 ghost use mathlib.Core.Path.{_≡_};
 ghost use Prim.Native.Nat.{_≤_, _<_};
@@ -25,11 +26,12 @@ pub fn below(xs: &[u32], x: usize) -> usize
     lo
 }
 
-// Is x in an ascending run?
-pub fn has(xs: &[u32], x: u32) -> bool
+// Is the identity in an ascending run?
+pub fn has(xs: &[u32], id: LaneId) -> bool
     requires { ⌜ Rising (now xs) ⌝ }
-    ensures { λ b. ⌜ b ≡ member x (now (xs .entry)) ⌝ }
+    ensures { λ b. ⌜ b ≡ member (id .0) (now (xs .entry)) ⌝ }
 {
+    let x = id.0;
     let k = below(xs, x as usize);
     if k < xs.len() {
         return xs[k] == x;
@@ -49,11 +51,12 @@ fn shift(run: &mut [u32], k: usize, n: usize)
     }
 }
 
-// Puts x in its place among the first n words, which ascend.
-pub fn put_in(run: &mut [u32], n: usize, x: u32)
+// Puts the identity in its place among the first n words, which ascend.
+pub fn put_in(run: &mut [u32], n: usize, id: LaneId)
     requires { ⌜ (Rising (take n (now run))) × (n < length (now run)) ⌝ }
-    ensures { λ _. ⌜ now (run .exit) ≡ written (insert x (take n (now (run .entry)))) (now (run .entry)) ⌝ }
+    ensures { λ _. ⌜ now (run .exit) ≡ written (insert (id .0) (take n (now (run .entry)))) (now (run .entry)) ⌝ }
 {
+    let x = id.0;
     let k = below(&run[..n], x as usize);
     shift(run, k, n);
     run[k] = x;

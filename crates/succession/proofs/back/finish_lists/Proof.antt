@@ -1,18 +1,18 @@
-use Rattle.succession.proofs.Backs.{finish-most, more-long, start-most, tail-more, tail-room}
-use Rattle.succession.specs.Finished.{bothLong, finishedAt, finishedFrom}
+use Rattle.succession.proofs.Backs.{more-long, tail-more, tail-room}
+use Rattle.succession.specs.Finished.{finishedAt, finishedFrom}
 use Rattle.succession.specs.Runs.{Rising}
-use Rattle.model.specs.Lookup.{listPart}
 use mathlib.Core.List.{List}
 use Rattle.succession.proofs.Places.{tail-size}
-use Rattle.succession.proofs.Packing.{packed-none, starts-more, starts-none}
+use Rattle.succession.proofs.Packing.{packed-none, start-more, start-up, starts-more, starts-none}
 use Rattle.succession.specs.Packs.{startOf}
 use Rattle.succession.specs.ByRow.{ranged}
-use Rattle.words.proofs.Laws.{total-le, total-more, total-none}
+use Rattle.words.proofs.Laws.{total-none}
 use Rattle.words.specs.Rows.{tab}
 use Rattle.model.specs.Rows.{written}
 use lib.ListN.{length, take, drop, set, length-set}
 use mathlib.Core.List.{_++_}
 use Prim.Native.Nat.{ℕ, _+_, _-_, _/_, _<_, _≤_}
+use native.Mathlib.Nat.{le-refl}
 use native.Mathlib.Omega.{arith}
 use borrow.Author.Needs.{needs}
 use mathlib.Core.Path.{_≡_, refl, sym, ap, ap₂, _∙_, subst}
@@ -29,7 +29,7 @@ loop-holds : tie.Need-loop-holds Inv-loop μ-loop
 loop-holds c = let s = (c .before .before .before .before .before .before .before .before .before) in (omega arith, refl, total-none (λ (k : ℕ). length ((finishedAt (s .args .lanes .now) (s .args .starts .now) (s .args .ids .now) (s .args .fstarts .now) (s .args .fids .now)) k)), refl, starts-none (startOf (finishedAt (s .args .lanes .now) (s .args .starts .now) (s .args .ids .now) (s .args .fstarts .now) (s .args .fids .now))) (s .args .offsets .now), refl, packed-none (finishedAt (s .args .lanes .now) (s .args .starts .now) (s .args .ids .now) (s .args .fstarts .now) (s .args .fids .now)) (s .args .out .now))
 
 cast-offsets : tie.Need-cast-offsets Inv-loop μ-loop
-cast-offsets c = let s = (c .before .before .before .before .before .before .before .before .before .before .before) in let l = c .before .loop in omega (arith, tail-room (finishedAt (s .args .lanes .now) (s .args .starts .now) (s .args .ids .now) (s .args .fstarts .now) (s .args .fids .now)) (bothLong (s .args .starts .now) (s .args .ids .now) (s .args .fstarts .now) (s .args .fids .now)) (λ k. finish-most (s .args .lanes .now) (listPart (s .args .starts .now) (s .args .ids .now) k) (listPart (s .args .fstarts .now) (s .args .fids .now) k) k) (length (s .args .lanes .now) / 10) (l .i) (l .at) (s .args .out .now) (l .out) (subst (λ (k : ℕ). l .i < k) (l .inv .1) (c .loop-test .taken)) (s .pre .1 .1 .1 .2) (l .inv .2) (l .inv .5), l .inv .5, s .pre .1 .1 .1 .1)
+cast-offsets c = let s = (c .before .before .before .before .before .before .before .before .before .before .before) in omega (arith, c .before .loop .inv .2, s .pre .1 .1 .1 .1, start-up (finishedAt (s .args .lanes .now) (s .args .starts .now) (s .args .ids .now) (s .args .fstarts .now) (s .args .fids .now)) (c .before .loop .i + 1) (length (s .args .lanes .now) / 10) (omega (arith, c .before .loop .inv .1, c .loop-test .taken)), start-more (finishedAt (s .args .lanes .now) (s .args .starts .now) (s .args .ids .now) (s .args .fstarts .now) (s .args .fids .now)) (c .before .loop .i))
 
 mul-offsets : tie.Need-mul-offsets Inv-loop μ-loop
 mul-offsets c = search needs
@@ -44,22 +44,22 @@ list-part-requires-2 : tie.Need-list-part-requires-2 Inv-loop μ-loop
 list-part-requires-2 c κs = search needs
 
 mul-finish-one : tie.Need-mul-finish-one Inv-loop μ-loop
-mul-finish-one c = let s = (c .before .before .before .before .before .before .before .before .before .before .before .before .before) in let l = c .before .before .before .loop in omega (arith, tail-room (finishedAt (s .args .lanes .now) (s .args .starts .now) (s .args .ids .now) (s .args .fstarts .now) (s .args .fids .now)) (bothLong (s .args .starts .now) (s .args .ids .now) (s .args .fstarts .now) (s .args .fids .now)) (λ k. finish-most (s .args .lanes .now) (listPart (s .args .starts .now) (s .args .ids .now) k) (listPart (s .args .fstarts .now) (s .args .fids .now) k) k) (length (s .args .lanes .now) / 10) (l .i) (l .at) (s .args .out .now) (l .out) (subst (λ (k : ℕ). l .i < k) (l .inv .1) (c .before .before .loop-test .taken)) (s .pre .1 .1 .1 .2) (l .inv .2) (l .inv .5), l .inv .5, s .pre .1 .1 .1 .1)
+mul-finish-one c = let s = (c .before .before .before .before .before .before .before .before .before .before .before .before .before) in omega (arith, c .before .before .before .loop .inv .2, s .pre .1 .1 .1 .1, start-up (finishedAt (s .args .lanes .now) (s .args .starts .now) (s .args .ids .now) (s .args .fstarts .now) (s .args .fids .now)) (c .before .before .before .loop .i + 1) (length (s .args .lanes .now) / 10) (omega (arith, c .before .before .before .loop .inv .1, c .before .before .loop-test .taken)), start-more (finishedAt (s .args .lanes .now) (s .args .starts .now) (s .args .ids .now) (s .args .fstarts .now) (s .args .fids .now)) (c .before .before .before .loop .i))
 
 sub-finish-one : tie.Need-sub-finish-one Inv-loop μ-loop
-sub-finish-one c = let s = (c .before .before .before .before .before .before .before .before .before .before .before .before .before) in let l = c .before .before .before .loop in omega (arith, tail-room (finishedAt (s .args .lanes .now) (s .args .starts .now) (s .args .ids .now) (s .args .fstarts .now) (s .args .fids .now)) (bothLong (s .args .starts .now) (s .args .ids .now) (s .args .fstarts .now) (s .args .fids .now)) (λ k. finish-most (s .args .lanes .now) (listPart (s .args .starts .now) (s .args .ids .now) k) (listPart (s .args .fstarts .now) (s .args .fids .now) k) k) (length (s .args .lanes .now) / 10) (l .i) (l .at) (s .args .out .now) (l .out) (subst (λ (k : ℕ). l .i < k) (l .inv .1) (c .before .before .loop-test .taken)) (s .pre .1 .1 .1 .2) (l .inv .2) (l .inv .5))
+sub-finish-one c = let s = (c .before .before .before .before .before .before .before .before .before .before .before .before .before) in omega (arith, tail-room (finishedAt (s .args .lanes .now) (s .args .starts .now) (s .args .ids .now) (s .args .fstarts .now) (s .args .fids .now)) (λ (k : ℕ). length ((finishedAt (s .args .lanes .now) (s .args .starts .now) (s .args .ids .now) (s .args .fstarts .now) (s .args .fids .now)) k)) (λ k. le-refl (length ((finishedAt (s .args .lanes .now) (s .args .starts .now) (s .args .ids .now) (s .args .fstarts .now) (s .args .fids .now)) k))) (length (s .args .lanes .now) / 10) (c .before .before .before .loop .i) (c .before .before .before .loop .at) (s .args .out .now) (c .before .before .before .loop .out) (subst (λ (k : ℕ). c .before .before .before .loop .i < k) (c .before .before .before .loop .inv .1) (c .before .before .loop-test .taken)) (s .pre .1 .1 .1 .2) (c .before .before .before .loop .inv .2) (c .before .before .before .loop .inv .5))
 
 part-finish-one-start : tie.Need-part-finish-one-start Inv-loop μ-loop
-part-finish-one-start c = let s = (c .before .before .before .before .before .before .before .before .before .before .before .before .before) in let l = c .before .before .before .loop in omega (arith, tail-room (finishedAt (s .args .lanes .now) (s .args .starts .now) (s .args .ids .now) (s .args .fstarts .now) (s .args .fids .now)) (bothLong (s .args .starts .now) (s .args .ids .now) (s .args .fstarts .now) (s .args .fids .now)) (λ k. finish-most (s .args .lanes .now) (listPart (s .args .starts .now) (s .args .ids .now) k) (listPart (s .args .fstarts .now) (s .args .fids .now) k) k) (length (s .args .lanes .now) / 10) (l .i) (l .at) (s .args .out .now) (l .out) (subst (λ (k : ℕ). l .i < k) (l .inv .1) (c .before .before .loop-test .taken)) (s .pre .1 .1 .1 .2) (l .inv .2) (l .inv .5))
+part-finish-one-start c = let s = (c .before .before .before .before .before .before .before .before .before .before .before .before .before) in omega (arith, tail-room (finishedAt (s .args .lanes .now) (s .args .starts .now) (s .args .ids .now) (s .args .fstarts .now) (s .args .fids .now)) (λ (k : ℕ). length ((finishedAt (s .args .lanes .now) (s .args .starts .now) (s .args .ids .now) (s .args .fstarts .now) (s .args .fids .now)) k)) (λ k. le-refl (length ((finishedAt (s .args .lanes .now) (s .args .starts .now) (s .args .ids .now) (s .args .fstarts .now) (s .args .fids .now)) k))) (length (s .args .lanes .now) / 10) (c .before .before .before .loop .i) (c .before .before .before .loop .at) (s .args .out .now) (c .before .before .before .loop .out) (subst (λ (k : ℕ). c .before .before .before .loop .i < k) (c .before .before .before .loop .inv .1) (c .before .before .loop-test .taken)) (s .pre .1 .1 .1 .2) (c .before .before .before .loop .inv .2) (c .before .before .before .loop .inv .5))
 
 part-finish-one-end : tie.Need-part-finish-one-end Inv-loop μ-loop
 part-finish-one-end c = search needs
 
 finish-one-requires : tie.Need-finish-one-requires Inv-loop μ-loop
-finish-one-requires c κs = let s = (c .before .before .before .before .before .before .before .before .before .before .before .before .before .before) in let l = c .before .before .before .before .loop in (s .pre .0, (s .pre .1 .0, (subst Rising (sym (c .before .before .list-part .ensures)) (s .pre .1 .1 .0 (l .i) (subst (λ (k : ℕ). l .i < k) (l .inv .1) (c .before .before .before .loop-test .taken))), ((subst (λ (k : ℕ). l .i < k) (l .inv .1) (c .before .before .before .loop-test .taken)), omega (arith, tail-room (finishedAt (s .args .lanes .now) (s .args .starts .now) (s .args .ids .now) (s .args .fstarts .now) (s .args .fids .now)) (bothLong (s .args .starts .now) (s .args .ids .now) (s .args .fstarts .now) (s .args .fids .now)) (λ k. finish-most (s .args .lanes .now) (listPart (s .args .starts .now) (s .args .ids .now) k) (listPart (s .args .fstarts .now) (s .args .fids .now) k) k) (length (s .args .lanes .now) / 10) (l .i) (l .at) (s .args .out .now) (l .out) (subst (λ (k : ℕ). l .i < k) (l .inv .1) (c .before .before .before .loop-test .taken)) (s .pre .1 .1 .1 .2) (l .inv .2) (l .inv .5), tail-size (l .at) (l .out) (omega (arith, tail-room (finishedAt (s .args .lanes .now) (s .args .starts .now) (s .args .ids .now) (s .args .fstarts .now) (s .args .fids .now)) (bothLong (s .args .starts .now) (s .args .ids .now) (s .args .fstarts .now) (s .args .fids .now)) (λ k. finish-most (s .args .lanes .now) (listPart (s .args .starts .now) (s .args .ids .now) k) (listPart (s .args .fstarts .now) (s .args .fids .now) k) k) (length (s .args .lanes .now) / 10) (l .i) (l .at) (s .args .out .now) (l .out) (subst (λ (k : ℕ). l .i < k) (l .inv .1) (c .before .before .before .loop-test .taken)) (s .pre .1 .1 .1 .2) (l .inv .2) (l .inv .5))), ap length (c .before .before .list-part .ensures), ap length (c .before .list-part2 .ensures))))))
+finish-one-requires c κs = let s = (c .before .before .before .before .before .before .before .before .before .before .before .before .before .before) in (s .pre .0, (s .pre .1 .0, (subst Rising (sym (c .before .before .list-part .ensures)) (s .pre .1 .1 .0 (c .before .before .before .before .loop .i) (subst (λ (k : ℕ). c .before .before .before .before .loop .i < k) (c .before .before .before .before .loop .inv .1) (c .before .before .before .loop-test .taken))), ((subst (λ (k : ℕ). c .before .before .before .before .loop .i < k) (c .before .before .before .before .loop .inv .1) (c .before .before .before .loop-test .taken)), omega (arith, tail-room (finishedAt (s .args .lanes .now) (s .args .starts .now) (s .args .ids .now) (s .args .fstarts .now) (s .args .fids .now)) (λ (k : ℕ). length ((finishedAt (s .args .lanes .now) (s .args .starts .now) (s .args .ids .now) (s .args .fstarts .now) (s .args .fids .now)) k)) (λ k. le-refl (length ((finishedAt (s .args .lanes .now) (s .args .starts .now) (s .args .ids .now) (s .args .fstarts .now) (s .args .fids .now)) k))) (length (s .args .lanes .now) / 10) (c .before .before .before .before .loop .i) (c .before .before .before .before .loop .at) (s .args .out .now) (c .before .before .before .before .loop .out) (subst (λ (k : ℕ). c .before .before .before .before .loop .i < k) (c .before .before .before .before .loop .inv .1) (c .before .before .before .loop-test .taken)) (s .pre .1 .1 .1 .2) (c .before .before .before .before .loop .inv .2) (c .before .before .before .before .loop .inv .5), tail-size (c .before .before .before .before .loop .at) (c .before .before .before .before .loop .out) (omega (arith, tail-room (finishedAt (s .args .lanes .now) (s .args .starts .now) (s .args .ids .now) (s .args .fstarts .now) (s .args .fids .now)) (λ (k : ℕ). length ((finishedAt (s .args .lanes .now) (s .args .starts .now) (s .args .ids .now) (s .args .fstarts .now) (s .args .fids .now)) k)) (λ k. le-refl (length ((finishedAt (s .args .lanes .now) (s .args .starts .now) (s .args .ids .now) (s .args .fstarts .now) (s .args .fids .now)) k))) (length (s .args .lanes .now) / 10) (c .before .before .before .before .loop .i) (c .before .before .before .before .loop .at) (s .args .out .now) (c .before .before .before .before .loop .out) (subst (λ (k : ℕ). c .before .before .before .before .loop .i < k) (c .before .before .before .before .loop .inv .1) (c .before .before .before .loop-test .taken)) (s .pre .1 .1 .1 .2) (c .before .before .before .before .loop .inv .2) (c .before .before .before .before .loop .inv .5))), ap length (ap₂ (λ (a b : List ℕ). finishedFrom (s .args .lanes .now) a b (c .before .before .before .before .loop .i)) (c .before .before .list-part .ensures) (c .before .list-part2 .ensures)))))))
 
 add-at : tie.Need-add-at Inv-loop μ-loop
-add-at c = let s = (c .before .before .before .before .before .before .before .before .before .before .before .before .before .before .before .before .before) in let l = c .before .before .before .before .before .before .before .loop in omega (arith, tail-room (finishedAt (s .args .lanes .now) (s .args .starts .now) (s .args .ids .now) (s .args .fstarts .now) (s .args .fids .now)) (bothLong (s .args .starts .now) (s .args .ids .now) (s .args .fstarts .now) (s .args .fids .now)) (λ k. finish-most (s .args .lanes .now) (listPart (s .args .starts .now) (s .args .ids .now) k) (listPart (s .args .fstarts .now) (s .args .fids .now) k) k) (length (s .args .lanes .now) / 10) (l .i) (l .at) (s .args .out .now) (l .out) (subst (λ (k : ℕ). l .i < k) (l .inv .1) (c .before .before .before .before .before .before .loop-test .taken)) (s .pre .1 .1 .1 .2) (l .inv .2) (l .inv .5), l .inv .5, s .pre .1 .1 .1 .1, c .before .before .finish-one .ensures .size, ap length (ap₂ (λ (a b : List ℕ). finishedFrom (s .args .lanes .now) a b (l .i)) (c .before .before .before .before .before .list-part .ensures) (c .before .before .before .before .list-part2 .ensures)), finish-most (s .args .lanes .now) (listPart (s .args .starts .now) (s .args .ids .now) (l .i)) (listPart (s .args .fstarts .now) (s .args .fids .now) (l .i)) (l .i))
+add-at c = let s = (c .before .before .before .before .before .before .before .before .before .before .before .before .before .before .before .before .before) in omega (arith, c .before .before .before .before .before .before .before .loop .inv .2, s .pre .1 .1 .1 .1, c .before .before .finish-one .ensures .size, ap length (ap₂ (λ (a b : List ℕ). finishedFrom (s .args .lanes .now) a b (c .before .before .before .before .before .before .before .loop .i)) (c .before .before .before .before .before .list-part .ensures) (c .before .before .before .before .list-part2 .ensures)), start-up (finishedAt (s .args .lanes .now) (s .args .starts .now) (s .args .ids .now) (s .args .fstarts .now) (s .args .fids .now)) (c .before .before .before .before .before .before .before .loop .i + 1) (length (s .args .lanes .now) / 10) (omega (arith, c .before .before .before .before .before .before .before .loop .inv .1, c .before .before .before .before .before .before .loop-test .taken)), start-more (finishedAt (s .args .lanes .now) (s .args .starts .now) (s .args .ids .now) (s .args .fstarts .now) (s .args .fids .now)) (c .before .before .before .before .before .before .before .loop .i))
 
 add-i : tie.Need-add-i Inv-loop μ-loop
 add-i c = omega (arith, c .before .before .before .before .before .before .loop-test .taken)
@@ -68,20 +68,10 @@ loop-less : tie.Need-loop-less Inv-loop μ-loop
 loop-less c = omega (arith, c .before .before .before .before .before .before .loop-test .taken)
 
 loop-again : tie.Need-loop-again Inv-loop μ-loop
-loop-again c = let s = (c .before .before .before .before .before .before .before .before .before .before .before .before .before .before .before .before .before) in
-    let l = c .before .before .before .before .before .before .before .loop in
-    let new = tail-more (finishedAt (s .args .lanes .now) (s .args .starts .now) (s .args .ids .now) (s .args .fstarts .now) (s .args .fids .now)) (bothLong (s .args .starts .now) (s .args .ids .now) (s .args .fstarts .now) (s .args .fids .now)) (λ k. finish-most (s .args .lanes .now) (listPart (s .args .starts .now) (s .args .ids .now) k) (listPart (s .args .fstarts .now) (s .args .fids .now) k) k) (length (s .args .lanes .now) / 10) (l .i) (l .at) (s .args .out .now) (l .out) (subst (λ (k : ℕ). l .i < k) (l .inv .1) (c .before .before .before .before .before .before .loop-test .taken)) (s .pre .1 .1 .1 .2) (l .inv .2) (l .inv .5) (l .inv .6) (finishedFrom (s .args .lanes .now) (c .before .before .before .before .before .list-part .result .now) (c .before .before .before .before .list-part2 .result .now) (l .i)) (c .before .before .finish-one .last .1 .1 .1 .1 .1 .1 .0) (ap₂ (λ (a b : List ℕ). finishedFrom (s .args .lanes .now) a b (l .i)) (c .before .before .before .before .before .list-part .ensures) (c .before .before .before .before .list-part2 .ensures)) (c .before .before .finish-one .ensures .list) in (
-      omega (arith, c .before .before .before .before .before .before .loop-test .taken),
-      l .inv .1,
-      omega (arith, l .inv .2, c .before .before .finish-one .ensures .size, ap length (ap₂ (λ (a b : List ℕ). finishedFrom (s .args .lanes .now) a b (l .i)) (c .before .before .before .before .before .list-part .ensures) (c .before .before .before .before .list-part2 .ensures)), total-more (l .i) (λ (k : ℕ). length ((finishedAt (s .args .lanes .now) (s .args .starts .now) (s .args .ids .now) (s .args .fstarts .now) (s .args .fids .now)) k))),
-      length-set (l .offsets) (l .i) (l .at) ∙ l .inv .3,
-      starts-more (startOf (finishedAt (s .args .lanes .now) (s .args .starts .now) (s .args .ids .now) (s .args .fstarts .now) (s .args .fids .now))) (l .i) (l .at) (s .args .offsets .now) (l .offsets) (l .inv .4) (l .inv .2) (omega (arith, l .inv .1, c .before .before .before .before .before .before .loop-test .taken, s .pre .1 .1 .1 .0)),
-      more-long (finishedAt (s .args .lanes .now) (s .args .starts .now) (s .args .ids .now) (s .args .fstarts .now) (s .args .fids .now)) (bothLong (s .args .starts .now) (s .args .ids .now) (s .args .fstarts .now) (s .args .fids .now)) (λ k. finish-most (s .args .lanes .now) (listPart (s .args .starts .now) (s .args .ids .now) k) (listPart (s .args .fstarts .now) (s .args .fids .now) k) k) (length (s .args .lanes .now) / 10) (l .i) (l .at) (s .args .out .now) (l .out) (subst (λ (k : ℕ). l .i < k) (l .inv .1) (c .before .before .before .before .before .before .loop-test .taken)) (s .pre .1 .1 .1 .2) (l .inv .2) (l .inv .5) (take (l .at) (l .out) ++ (c .before .before .finish-one .last .1 .1 .1 .1 .1 .1 .0 ++ drop (length (l .out) - l .at) (drop (l .at) (l .out)))) new,
-      new,
-    )
+loop-again c = let s = (c .before .before .before .before .before .before .before .before .before .before .before .before .before .before .before .before .before) in let new = tail-more (finishedAt (s .args .lanes .now) (s .args .starts .now) (s .args .ids .now) (s .args .fstarts .now) (s .args .fids .now)) (λ (k : ℕ). length ((finishedAt (s .args .lanes .now) (s .args .starts .now) (s .args .ids .now) (s .args .fstarts .now) (s .args .fids .now)) k)) (λ k. le-refl (length ((finishedAt (s .args .lanes .now) (s .args .starts .now) (s .args .ids .now) (s .args .fstarts .now) (s .args .fids .now)) k))) (length (s .args .lanes .now) / 10) (c .before .before .before .before .before .before .before .loop .i) (c .before .before .before .before .before .before .before .loop .at) (s .args .out .now) (c .before .before .before .before .before .before .before .loop .out) (subst (λ (k : ℕ). c .before .before .before .before .before .before .before .loop .i < k) (c .before .before .before .before .before .before .before .loop .inv .1) (c .before .before .before .before .before .before .loop-test .taken)) (s .pre .1 .1 .1 .2) (c .before .before .before .before .before .before .before .loop .inv .2) (c .before .before .before .before .before .before .before .loop .inv .5) (c .before .before .before .before .before .before .before .loop .inv .6) (finishedFrom (s .args .lanes .now) (c .before .before .before .before .before .list-part .result .now) (c .before .before .before .before .list-part2 .result .now) (c .before .before .before .before .before .before .before .loop .i)) (c .before .before .finish-one .last .1 .1 .1 .1 .1 .1 .0) (ap₂ (λ (a b : List ℕ). finishedFrom (s .args .lanes .now) a b (c .before .before .before .before .before .before .before .loop .i)) (c .before .before .before .before .before .list-part .ensures) (c .before .before .before .before .list-part2 .ensures)) (c .before .before .finish-one .ensures .list) in (omega (arith, c .before .before .before .before .before .before .loop-test .taken), c .before .before .before .before .before .before .before .loop .inv .1, omega (arith, c .before .before .before .before .before .before .before .loop .inv .2, c .before .before .finish-one .ensures .size, ap length (ap₂ (λ (a b : List ℕ). finishedFrom (s .args .lanes .now) a b (c .before .before .before .before .before .before .before .loop .i)) (c .before .before .before .before .before .list-part .ensures) (c .before .before .before .before .list-part2 .ensures)), start-more (finishedAt (s .args .lanes .now) (s .args .starts .now) (s .args .ids .now) (s .args .fstarts .now) (s .args .fids .now)) (c .before .before .before .before .before .before .before .loop .i)), length-set (c .before .before .before .before .before .before .before .loop .offsets) (c .before .before .before .before .before .before .before .loop .i) (c .before .before .before .before .before .before .before .loop .at) ∙ c .before .before .before .before .before .before .before .loop .inv .3, starts-more (startOf (finishedAt (s .args .lanes .now) (s .args .starts .now) (s .args .ids .now) (s .args .fstarts .now) (s .args .fids .now))) (c .before .before .before .before .before .before .before .loop .i) (c .before .before .before .before .before .before .before .loop .at) (s .args .offsets .now) (c .before .before .before .before .before .before .before .loop .offsets) (c .before .before .before .before .before .before .before .loop .inv .4) (c .before .before .before .before .before .before .before .loop .inv .2) (omega (arith, c .before .before .before .before .before .before .before .loop .inv .1, c .before .before .before .before .before .before .loop-test .taken, s .pre .1 .1 .1 .0)), more-long (finishedAt (s .args .lanes .now) (s .args .starts .now) (s .args .ids .now) (s .args .fstarts .now) (s .args .fids .now)) (λ (k : ℕ). length ((finishedAt (s .args .lanes .now) (s .args .starts .now) (s .args .ids .now) (s .args .fstarts .now) (s .args .fids .now)) k)) (λ k. le-refl (length ((finishedAt (s .args .lanes .now) (s .args .starts .now) (s .args .ids .now) (s .args .fstarts .now) (s .args .fids .now)) k))) (length (s .args .lanes .now) / 10) (c .before .before .before .before .before .before .before .loop .i) (c .before .before .before .before .before .before .before .loop .at) (s .args .out .now) (c .before .before .before .before .before .before .before .loop .out) (subst (λ (k : ℕ). c .before .before .before .before .before .before .before .loop .i < k) (c .before .before .before .before .before .before .before .loop .inv .1) (c .before .before .before .before .before .before .loop-test .taken)) (s .pre .1 .1 .1 .2) (c .before .before .before .before .before .before .before .loop .inv .2) (c .before .before .before .before .before .before .before .loop .inv .5) (take (c .before .before .before .before .before .before .before .loop .at) (c .before .before .before .before .before .before .before .loop .out) ++ (c .before .before .finish-one .last .1 .1 .1 .1 .1 .1 .0 ++ drop (length (c .before .before .before .before .before .before .before .loop .out) - c .before .before .before .before .before .before .before .loop .at) (drop (c .before .before .before .before .before .before .before .loop .at) (c .before .before .before .before .before .before .before .loop .out)))) new, new)
 
 cast-offsets-2 : tie.Need-cast-offsets-2 Inv-loop μ-loop
-cast-offsets-2 c = let s = (c .before .before .before .before .before .before .before .before .before .before .before) in let l = c .before .loop in omega (arith, l .inv .2, start-most (finishedAt (s .args .lanes .now) (s .args .starts .now) (s .args .ids .now) (s .args .fstarts .now) (s .args .fids .now)) (bothLong (s .args .starts .now) (s .args .ids .now) (s .args .fstarts .now) (s .args .fids .now)) (λ k. finish-most (s .args .lanes .now) (listPart (s .args .starts .now) (s .args .ids .now) k) (listPart (s .args .fstarts .now) (s .args .fids .now) k) k) (l .i), total-le (l .i) (length (s .args .lanes .now) / 10) (bothLong (s .args .starts .now) (s .args .ids .now) (s .args .fstarts .now) (s .args .fids .now)) (omega (arith, l .inv .0, l .inv .1)), (s .pre .1 .1 .1 .2), s .pre .1 .1 .1 .1)
+cast-offsets-2 c = let s = (c .before .before .before .before .before .before .before .before .before .before .before) in omega (arith, c .before .loop .inv .2, s .pre .1 .1 .1 .1, start-up (finishedAt (s .args .lanes .now) (s .args .starts .now) (s .args .ids .now) (s .args .fstarts .now) (s .args .fids .now)) (c .before .loop .i) (length (s .args .lanes .now) / 10) (omega (arith, c .before .loop .inv .0, c .before .loop .inv .1)))
 
 mul-offsets-2 : tie.Need-mul-offsets-2 Inv-loop μ-loop
 mul-offsets-2 c = search needs
@@ -96,10 +86,7 @@ same-length-2 : tie.Need-same-length-2 Inv-loop μ-loop
 same-length-2 c = c .before .loop .inv .5
 
 returns : tie.Need-returns Inv-loop μ-loop
-returns c = let s = (c .before .before .before .before .before .before .before .before .before .before .before) in
-    let l = c .before .loop in
-    let e : l .i ≡ (length (s .args .lanes .now) / 10) = omega (arith, l .inv .0, l .inv .1, c .loop-test .left) in
-    (record { starts = ap (λ (k : ℕ). set (l .offsets) k (l .at)) (sym e) ∙ starts-more (startOf (finishedAt (s .args .lanes .now) (s .args .starts .now) (s .args .ids .now) (s .args .fstarts .now) (s .args .fids .now))) (l .i) (l .at) (s .args .offsets .now) (l .offsets) (l .inv .4) (l .inv .2) (omega (arith, e, s .pre .1 .1 .1 .0)) ∙ ap (λ (k : ℕ). written (tab (k + 1) (startOf (finishedAt (s .args .lanes .now) (s .args .starts .now) (s .args .ids .now) (s .args .fstarts .now) (s .args .fids .now)))) (s .args .offsets .now)) e; content = l .inv .6 ∙ ap (λ (k : ℕ). written (ranged 0 k (finishedAt (s .args .lanes .now) (s .args .starts .now) (s .args .ids .now) (s .args .fstarts .now) (s .args .fids .now))) (s .args .out .now)) e }, l .inv .2 ∙ ap (startOf (finishedAt (s .args .lanes .now) (s .args .starts .now) (s .args .ids .now) (s .args .fstarts .now) (s .args .fids .now))) e)
+returns c = let s = (c .before .before .before .before .before .before .before .before .before .before .before) in let e : c .before .loop .i ≡ (length (s .args .lanes .now) / 10) = omega (arith, c .before .loop .inv .0, c .before .loop .inv .1, c .loop-test .left) in record { starts = ap (λ (k : ℕ). set (c .before .loop .offsets) k (c .before .loop .at)) (sym e) ∙ starts-more (startOf (finishedAt (s .args .lanes .now) (s .args .starts .now) (s .args .ids .now) (s .args .fstarts .now) (s .args .fids .now))) (c .before .loop .i) (c .before .loop .at) (s .args .offsets .now) (c .before .loop .offsets) (c .before .loop .inv .4) (c .before .loop .inv .2) (omega (arith, e, s .pre .1 .1 .1 .0)) ∙ ap (λ (k : ℕ). written (tab (k + 1) (startOf (finishedAt (s .args .lanes .now) (s .args .starts .now) (s .args .ids .now) (s .args .fstarts .now) (s .args .fids .now)))) (s .args .offsets .now)) e; content = c .before .loop .inv .6 ∙ ap (λ (k : ℕ). written (ranged 0 k (finishedAt (s .args .lanes .now) (s .args .starts .now) (s .args .ids .now) (s .args .fstarts .now) (s .args .fids .now))) (s .args .out .now)) e }
 
 pub finish-lists-spec : {M : Type 1} → statement M
 finish-lists-spec =

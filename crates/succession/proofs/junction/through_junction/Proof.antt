@@ -1,74 +1,52 @@
-use Prim.Native.Nat.{_-_, _≤_}
-use mathlib.Core.Path.{refl, sym, subst}
-use mathlib.Core.List.{List}
+use Rattle.succession.proofs.Walks.{Walk, walk-begin, walk-end, walk-less, walk-long, walk-on, walk-room}
+use Rattle.succession.specs.ByRow.{rowsOf}
+use lib.ListN.{length}
 use native.Mathlib.Omega.{arith}
-use borrow.Author.Needs.{needs}
-use Rattle.model.specs.Succession.{Entry}
-use Rattle.succession.specs.ByRow.{Room, Took, connectionByRow, ranged, rowsOf}
-use Rattle.succession.proofs.Turns.{junction-by, turns-begin, turns-end, turns-long, turns-on, turns-room}
+use Prim.Native.Nat.{_/_}
 use Rattle.succession.proofs.junction.through_junction.Statement.{statement}
 use Rattle.succession.proofs.junction.through_junction.Tie as tie
 
 abbrev Inv-loop : tie.InvT-loop
-Inv-loop roads sections junctions connections pairs lanes owner sides ends heads next j road k both run₀ start first end n₀ c₀ run n c =
-    (first ≤ c) × (c ≤ end) × Took both start (ranged first (c - first) (connectionByRow (rowsOf roads sections junctions connections pairs lanes owner sides ends) road k)) run₀ run n
+Inv-loop roads sections junctions connections pairs lanes owner sides ends heads next mheads mnext j road k both run₀ start count n₀ at₀ run n at = Walk both start (rowsOf roads sections junctions connections pairs lanes owner sides ends) (length connections / 7) j road k run₀ at run n
 
 abbrev μ-loop : tie.MeasureT-loop
-μ-loop roads sections junctions connections pairs lanes owner sides ends heads next j road k both run₀ start first end n₀ c₀ run n c =
-    end - c
+μ-loop roads sections junctions connections pairs lanes owner sides ends heads next mheads mnext j road k both run₀ start count n₀ at₀ run n at = at
 
-mul-word : tie.Need-mul-word Inv-loop μ-loop
-mul-word c = search needs
+add-bucket : tie.Need-add-bucket Inv-loop μ-loop
+add-bucket c = omega arith
 
-add-word : tie.Need-add-word Inv-loop μ-loop
-add-word c = search needs
+bucket-requires : tie.Need-bucket-requires Inv-loop μ-loop
+bucket-requires c κs = let s = (c .before .before .before .before .before .before .before .before .before .before .before .before .before .before) in (omega (arith, s .pre .1 .1 .0 .0, s .pre .1 .0 .few-junctions), s .pre .1 .1 .0 .1)
 
 word-requires : tie.Need-word-requires Inv-loop μ-loop
-word-requires c κs = omega (arith, c .before .before .before .before .before .before .before .before .before .before .before .before .pre .1 .0)
-
-mul-word-2 : tie.Need-mul-word-2 Inv-loop μ-loop
-mul-word-2 c = search needs
-
-add-word-2 : tie.Need-add-word-2 Inv-loop μ-loop
-add-word-2 c = search needs
-
-word-requires-2 : tie.Need-word-requires-2 Inv-loop μ-loop
-word-requires-2 c κs = omega (arith, c .before .before .before .before .before .before .before .before .before .before .before .before .before .pre .1 .0)
-
-add-end : tie.Need-add-end Inv-loop μ-loop
-add-end c = omega (arith, c .before .word .ensures .1, c .word2 .ensures .1)
+word-requires c κs = let s = (c .before .before .before .before .before .before .before .before .before .before .before .before .before .before .before) in omega (arith, c .bucket .ensures .1, s .pre .1 .0 .buckets)
 
 loop-holds : tie.Need-loop-holds Inv-loop μ-loop
-loop-holds c = let s = c .before .before .before .before .before .before .before .before .before .before .before .before .before .before in (omega arith, omega arith, turns-begin (s .args .both) (s .args .start) (c .before .word .result) (c .word2 .result) (connectionByRow (rowsOf (s .args .roads .now) (s .args .sections .now) (s .args .junctions .now) (s .args .connections .now) (s .args .pairs .now) (s .args .lanes .now) (s .args .owner .now) (s .args .sides .now) (s .args .ends .now)) (s .args .road) (s .args .k)) (s .args .run .now) (subst (λ (es : List Entry). Room (s .args .start) es (s .args .run .now)) (junction-by (rowsOf (s .args .roads .now) (s .args .sections .now) (s .args .junctions .now) (s .args .connections .now) (s .args .pairs .now) (s .args .lanes .now) (s .args .owner .now) (s .args .sides .now) (s .args .ends .now)) (s .args .road) (s .args .k) (s .args .j) (c .before .word .result) (c .word2 .result) (c .before .word .ensures .0) (c .word2 .ensures .0)) (s .pre .1 .1)) (c .before .word .result) refl)
+loop-holds c = let s = (c .before .before .before .before .before .before .before .before .before .before .before .before .before .before .before .before) in walk-begin (s .args .both) (s .args .start) (rowsOf (s .args .roads .now) (s .args .sections .now) (s .args .junctions .now) (s .args .connections .now) (s .args .pairs .now) (s .args .lanes .now) (s .args .owner .now) (s .args .sides .now) (s .args .ends .now)) (length (s .args .connections .now) / 7) (s .args .j) (s .args .road) (s .args .k) (s .args .run .now) (s .args .mheads .now) (s .args .mnext .now) (s .pre .1 .1 .1) (s .pre .1 .1 .0 .0) (s .pre .0 .connection-parts (s .args .j) (s .pre .1 .1 .0 .0)) (s .pre .1 .0 .homes) (s .pre .1 .0 .chained) (c .before .bucket .result) (c .word .result) (c .before .bucket .ensures .0) (omega (arith, c .before .bucket .ensures .1, s .pre .1 .0 .buckets)) (c .word .ensures .0)
+
+sub-through-connection : tie.Need-sub-through-connection Inv-loop μ-loop
+sub-through-connection c = omega (arith, c .before .loop .inv .below)
 
 through-connection-requires : tie.Need-through-connection-requires Inv-loop μ-loop
-through-connection-requires c κs =
-    let s = c .before .before .before .before .before .before .before .before .before .before .before .before .before .before .before .before .before in (
-      s .pre .0,
-      (
-        omega (arith, s .pre .0 .connection-parts (s .args .j) (s .pre .1 .0), c .before .before .before .before .word .ensures .0, c .before .before .before .word2 .ensures .0, c .before .before .loop .inv .1, c .before .loop-test .taken),
-        turns-room (s .args .both) (s .args .start) (c .before .before .before .before .word .result) (c .before .before .before .word2 .result) (connectionByRow (rowsOf (s .args .roads .now) (s .args .sections .now) (s .args .junctions .now) (s .args .connections .now) (s .args .pairs .now) (s .args .lanes .now) (s .args .owner .now) (s .args .sides .now) (s .args .ends .now)) (s .args .road) (s .args .k)) (s .args .run .now) (subst (λ (es : List Entry). Room (s .args .start) es (s .args .run .now)) (junction-by (rowsOf (s .args .roads .now) (s .args .sections .now) (s .args .junctions .now) (s .args .connections .now) (s .args .pairs .now) (s .args .lanes .now) (s .args .owner .now) (s .args .sides .now) (s .args .ends .now)) (s .args .road) (s .args .k) (s .args .j) (c .before .before .before .before .word .result) (c .before .before .before .word2 .result) (c .before .before .before .before .word .ensures .0) (c .before .before .before .word2 .ensures .0)) (s .pre .1 .1)) (c .before .before .loop .c) (c .before .before .loop .n) (c .before .before .loop .run) (c .before .before .loop .inv .2) (c .before .before .loop .inv .0) (omega (arith, c .before .loop-test .taken)),
-      ),
-    )
+through-connection-requires c κs = let s = (c .before .before .before .before .before .before .before .before .before .before .before .before .before .before .before .before .before .before .before) in (s .pre .0, ((s .pre .1 .1 .0 .0, omega (arith, c .before .before .loop .inv .below, c .before .loop-test .taken)), walk-room (s .args .both) (s .args .start) (rowsOf (s .args .roads .now) (s .args .sections .now) (s .args .junctions .now) (s .args .connections .now) (s .args .pairs .now) (s .args .lanes .now) (s .args .owner .now) (s .args .sides .now) (s .args .ends .now)) (length (s .args .connections .now) / 7) (s .args .j) (s .args .road) (s .args .k) (s .args .run .now) (s .args .mheads .now) (s .args .mnext .now) (s .pre .1 .1 .1) (s .pre .1 .1 .0 .0) (s .pre .0 .connection-parts (s .args .j) (s .pre .1 .1 .0 .0)) (s .pre .1 .0 .homes) (s .pre .1 .0 .chained) (c .before .before .loop .at) (c .before .before .loop .n) (c .before .before .loop .run) (c .before .before .loop .inv) (c .before .loop-test .taken)))
 
-add-c : tie.Need-add-c Inv-loop μ-loop
-add-c c = omega arith
+sub-word : tie.Need-sub-word Inv-loop μ-loop
+sub-word c = omega (arith, c .before .before .before .before .loop-test .taken)
+
+word-requires-2 : tie.Need-word-requires-2 Inv-loop μ-loop
+word-requires-2 c κs = let s = (c .before .before .before .before .before .before .before .before .before .before .before .before .before .before .before .before .before .before .before .before .before .before) in omega (arith, c .before .before .before .before .before .loop .inv .below, s .pre .1 .0 .links, c .before .before .before .before .loop-test .taken)
 
 loop-less : tie.Need-loop-less Inv-loop μ-loop
-loop-less c = omega arith
+loop-less c = let s = (c .before .before .before .before .before .before .before .before .before .before .before .before .before .before .before .before .before .before .before .before .before .before .before) in (let z = walk-less (s .args .both) (s .args .start) (rowsOf (s .args .roads .now) (s .args .sections .now) (s .args .junctions .now) (s .args .connections .now) (s .args .pairs .now) (s .args .lanes .now) (s .args .owner .now) (s .args .sides .now) (s .args .ends .now)) (length (s .args .connections .now) / 7) (s .args .j) (s .args .road) (s .args .k) (s .args .run .now) (s .args .mheads .now) (s .args .mnext .now) (s .pre .1 .1 .1) (s .pre .1 .1 .0 .0) (s .pre .0 .connection-parts (s .args .j) (s .pre .1 .1 .0 .0)) (s .pre .1 .0 .homes) (s .pre .1 .0 .chained) (c .before .before .before .before .before .before .loop .at) (c .before .before .before .before .before .before .loop .n) (c .before .before .before .before .before .before .loop .run) (c .before .before .before .before .before .before .loop .inv) (c .before .before .before .before .before .loop-test .taken) in omega (arith, c .word2 .ensures .0))
 
 loop-again : tie.Need-loop-again Inv-loop μ-loop
-loop-again c =
-    let s = c .before .before .before .before .before .before .before .before .before .before .before .before .before .before .before .before .before .before .before .before in
-    (omega (arith, c .before .before .before .before .before .loop .inv .0), omega (arith, c .before .before .before .before .loop-test .taken), turns-on (s .args .both) (s .args .start) (c .before .before .before .before .before .before .before .word .result) (c .before .before .before .before .before .before .word2 .result) (connectionByRow (rowsOf (s .args .roads .now) (s .args .sections .now) (s .args .junctions .now) (s .args .connections .now) (s .args .pairs .now) (s .args .lanes .now) (s .args .owner .now) (s .args .sides .now) (s .args .ends .now)) (s .args .road) (s .args .k)) (s .args .run .now) (subst (λ (es : List Entry). Room (s .args .start) es (s .args .run .now)) (junction-by (rowsOf (s .args .roads .now) (s .args .sections .now) (s .args .junctions .now) (s .args .connections .now) (s .args .pairs .now) (s .args .lanes .now) (s .args .owner .now) (s .args .sides .now) (s .args .ends .now)) (s .args .road) (s .args .k) (s .args .j) (c .before .before .before .before .before .before .before .word .result) (c .before .before .before .before .before .before .word2 .result) (c .before .before .before .before .before .before .before .word .ensures .0) (c .before .before .before .before .before .before .word2 .ensures .0)) (s .pre .1 .1)) (c .before .before .before .before .before .loop .c) (c .before .before .before .before .before .loop .n) (c .before .before .before .before .before .loop .run) (c .before .before .before .before .before .loop .inv .2) (c .before .before .before .before .before .loop .inv .0) (omega (arith, c .before .before .before .before .loop-test .taken)) (c .before .before .through-connection .last .1 .1 .1 .1 .1 .1 .1 .1 .1 .1 .1 .1 .1 .1 .1 .0) (c .before .before .through-connection .result) (c .before .before .through-connection .ensures))
+loop-again c = let s = (c .before .before .before .before .before .before .before .before .before .before .before .before .before .before .before .before .before .before .before .before .before .before .before) in walk-on (s .args .both) (s .args .start) (rowsOf (s .args .roads .now) (s .args .sections .now) (s .args .junctions .now) (s .args .connections .now) (s .args .pairs .now) (s .args .lanes .now) (s .args .owner .now) (s .args .sides .now) (s .args .ends .now)) (length (s .args .connections .now) / 7) (s .args .j) (s .args .road) (s .args .k) (s .args .run .now) (s .args .mheads .now) (s .args .mnext .now) (s .pre .1 .1 .1) (s .pre .1 .1 .0 .0) (s .pre .0 .connection-parts (s .args .j) (s .pre .1 .1 .0 .0)) (s .pre .1 .0 .homes) (s .pre .1 .0 .chained) (c .before .before .before .before .before .before .loop .at) (c .before .before .before .before .before .before .loop .n) (c .before .before .before .before .before .before .loop .run) (c .before .before .before .before .before .before .loop .inv) (c .before .before .before .before .before .loop-test .taken) (c .word2 .result) (c .before .before .before .through-connection .result) (c .before .before .before .through-connection .last .1 .1 .1 .1 .1 .1 .1 .1 .1 .1 .1 .1 .1 .1 .1 .1 .0) (c .word2 .ensures .0) (c .before .before .before .through-connection .ensures)
 
 same-length : tie.Need-same-length Inv-loop μ-loop
-same-length c = let s = c .before .before .before .before .before .before .before .before .before .before .before .before .before .before .before .before in turns-long (s .args .both) (s .args .start) (c .before .before .before .word .result) (c .before .before .word2 .result) (connectionByRow (rowsOf (s .args .roads .now) (s .args .sections .now) (s .args .junctions .now) (s .args .connections .now) (s .args .pairs .now) (s .args .lanes .now) (s .args .owner .now) (s .args .sides .now) (s .args .ends .now)) (s .args .road) (s .args .k)) (s .args .run .now) (subst (λ (es : List Entry). Room (s .args .start) es (s .args .run .now)) (junction-by (rowsOf (s .args .roads .now) (s .args .sections .now) (s .args .junctions .now) (s .args .connections .now) (s .args .pairs .now) (s .args .lanes .now) (s .args .owner .now) (s .args .sides .now) (s .args .ends .now)) (s .args .road) (s .args .k) (s .args .j) (c .before .before .before .word .result) (c .before .before .word2 .result) (c .before .before .before .word .ensures .0) (c .before .before .word2 .ensures .0)) (s .pre .1 .1)) (c .before .loop .c) (c .before .loop .n) (c .before .loop .run) (c .before .loop .inv .2) (c .before .loop .inv .0) (c .before .loop .inv .1)
+same-length c = let s = (c .before .before .before .before .before .before .before .before .before .before .before .before .before .before .before .before .before .before) in walk-long (s .args .both) (s .args .start) (rowsOf (s .args .roads .now) (s .args .sections .now) (s .args .junctions .now) (s .args .connections .now) (s .args .pairs .now) (s .args .lanes .now) (s .args .owner .now) (s .args .sides .now) (s .args .ends .now)) (length (s .args .connections .now) / 7) (s .args .j) (s .args .road) (s .args .k) (s .args .run .now) (s .args .mheads .now) (s .args .mnext .now) (s .pre .1 .1 .1) (s .pre .1 .1 .0 .0) (s .pre .0 .connection-parts (s .args .j) (s .pre .1 .1 .0 .0)) (s .pre .1 .0 .homes) (s .pre .1 .0 .chained) (c .before .loop .at) (c .before .loop .n) (c .before .loop .run) (c .before .loop .inv)
 
 returns : tie.Need-returns Inv-loop μ-loop
-returns c =
-    let s = c .before .before .before .before .before .before .before .before .before .before .before .before .before .before .before .before in
-    subst (λ (es : List Entry). Took (s .args .both) (s .args .start) es (s .args .run .now) (c .before .loop .run) (c .before .loop .n)) (sym (junction-by (rowsOf (s .args .roads .now) (s .args .sections .now) (s .args .junctions .now) (s .args .connections .now) (s .args .pairs .now) (s .args .lanes .now) (s .args .owner .now) (s .args .sides .now) (s .args .ends .now)) (s .args .road) (s .args .k) (s .args .j) (c .before .before .before .word .result) (c .before .before .word2 .result) (c .before .before .before .word .ensures .0) (c .before .before .word2 .ensures .0))) (turns-end (s .args .both) (s .args .start) (c .before .before .before .word .result) (c .before .before .word2 .result) (connectionByRow (rowsOf (s .args .roads .now) (s .args .sections .now) (s .args .junctions .now) (s .args .connections .now) (s .args .pairs .now) (s .args .lanes .now) (s .args .owner .now) (s .args .sides .now) (s .args .ends .now)) (s .args .road) (s .args .k)) (s .args .run .now) (subst (λ (es : List Entry). Room (s .args .start) es (s .args .run .now)) (junction-by (rowsOf (s .args .roads .now) (s .args .sections .now) (s .args .junctions .now) (s .args .connections .now) (s .args .pairs .now) (s .args .lanes .now) (s .args .owner .now) (s .args .sides .now) (s .args .ends .now)) (s .args .road) (s .args .k) (s .args .j) (c .before .before .before .word .result) (c .before .before .word2 .result) (c .before .before .before .word .ensures .0) (c .before .before .word2 .ensures .0)) (s .pre .1 .1)) (c .before .loop .c) (c .before .loop .n) (c .before .loop .run) (c .before .loop .inv .2) (omega (arith, c .before .loop .inv .1, c .loop-test .left)))
+returns c = let s = (c .before .before .before .before .before .before .before .before .before .before .before .before .before .before .before .before .before .before) in walk-end (s .args .both) (s .args .start) (rowsOf (s .args .roads .now) (s .args .sections .now) (s .args .junctions .now) (s .args .connections .now) (s .args .pairs .now) (s .args .lanes .now) (s .args .owner .now) (s .args .sides .now) (s .args .ends .now)) (length (s .args .connections .now) / 7) (s .args .j) (s .args .road) (s .args .k) (s .args .run .now) (s .args .mheads .now) (s .args .mnext .now) (s .pre .1 .1 .1) (s .pre .1 .1 .0 .0) (s .pre .0 .connection-parts (s .args .j) (s .pre .1 .1 .0 .0)) (s .pre .1 .0 .homes) (s .pre .1 .0 .chained) (c .before .loop .at) (c .before .loop .n) (c .before .loop .run) (c .before .loop .inv) (c .loop-test .left)
 
 pub through-junction-spec : {M : Type 1} → statement M
 through-junction-spec =
@@ -76,16 +54,14 @@ through-junction-spec =
     (tie.spec
     Inv-loop
     μ-loop
-    mul-word
-    add-word
+    add-bucket
+    bucket-requires
     word-requires
-    mul-word-2
-    add-word-2
-    word-requires-2
-    add-end
     loop-holds
+    sub-through-connection
     through-connection-requires
-    add-c
+    sub-word
+    word-requires-2
     loop-less
     loop-again
     same-length

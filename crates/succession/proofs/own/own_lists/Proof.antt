@@ -18,40 +18,40 @@ use Rattle.succession.proofs.own.own_lists.Statement.{statement}
 use Rattle.succession.proofs.own.own_lists.Tie as tie
 
 abbrev Inv-loop : tie.InvT-loop
-Inv-loop roads sections junctions connections pairs lanes owner sides ends heads next offsets₀ own₀ n at₀ i₀ offsets own at i = (i ≤ n) × (n ≡ length lanes / 10) × (at ≡ startOf (successorsByRow (rowsOf roads sections junctions connections pairs lanes owner sides ends)) i) × (length offsets ≡ length offsets₀) × (offsets ≡ written (tab i (startOf (successorsByRow (rowsOf roads sections junctions connections pairs lanes owner sides ends)))) offsets₀) × (length own ≡ length own₀) × (own ≡ written (ranged 0 i (successorsByRow (rowsOf roads sections junctions connections pairs lanes owner sides ends))) own₀)
+Inv-loop roads sections junctions connections pairs lanes owner sides ends heads next mheads mnext offsets₀ own₀ n at₀ i₀ offsets own at i = (i ≤ n) × (n ≡ length lanes / 10) × (at ≡ startOf (successorsByRow (rowsOf roads sections junctions connections pairs lanes owner sides ends)) i) × (length offsets ≡ length offsets₀) × (offsets ≡ written (tab i (startOf (successorsByRow (rowsOf roads sections junctions connections pairs lanes owner sides ends)))) offsets₀) × (length own ≡ length own₀) × (own ≡ written (ranged 0 i (successorsByRow (rowsOf roads sections junctions connections pairs lanes owner sides ends))) own₀)
 
 abbrev μ-loop : tie.MeasureT-loop
-μ-loop roads sections junctions connections pairs lanes owner sides ends heads next offsets₀ own₀ n at₀ i₀ offsets own at i = n - i
+μ-loop roads sections junctions connections pairs lanes owner sides ends heads next mheads mnext offsets₀ own₀ n at₀ i₀ offsets own at i = n - i
 
 loop-holds : tie.Need-loop-holds Inv-loop μ-loop
-loop-holds c = let s = (c .before .before .before .before .before .before .before .before .before .before .before .before .before) in (omega arith, refl, total-none (λ (k : ℕ). length ((successorsByRow (rowsOf (s .args .roads .now) (s .args .sections .now) (s .args .junctions .now) (s .args .connections .now) (s .args .pairs .now) (s .args .lanes .now) (s .args .owner .now) (s .args .sides .now) (s .args .ends .now))) k)), refl, starts-none (startOf (successorsByRow (rowsOf (s .args .roads .now) (s .args .sections .now) (s .args .junctions .now) (s .args .connections .now) (s .args .pairs .now) (s .args .lanes .now) (s .args .owner .now) (s .args .sides .now) (s .args .ends .now)))) (s .args .offsets .now), refl, packed-none (successorsByRow (rowsOf (s .args .roads .now) (s .args .sections .now) (s .args .junctions .now) (s .args .connections .now) (s .args .pairs .now) (s .args .lanes .now) (s .args .owner .now) (s .args .sides .now) (s .args .ends .now))) (s .args .own .now))
+loop-holds c = let s = (c .before .before .before .before .before .before .before .before .before .before .before .before .before .before .before) in (omega arith, refl, total-none (λ (k : ℕ). length ((successorsByRow (rowsOf (s .args .roads .now) (s .args .sections .now) (s .args .junctions .now) (s .args .connections .now) (s .args .pairs .now) (s .args .lanes .now) (s .args .owner .now) (s .args .sides .now) (s .args .ends .now))) k)), refl, starts-none (startOf (successorsByRow (rowsOf (s .args .roads .now) (s .args .sections .now) (s .args .junctions .now) (s .args .connections .now) (s .args .pairs .now) (s .args .lanes .now) (s .args .owner .now) (s .args .sides .now) (s .args .ends .now)))) (s .args .offsets .now), refl, packed-none (successorsByRow (rowsOf (s .args .roads .now) (s .args .sections .now) (s .args .junctions .now) (s .args .connections .now) (s .args .pairs .now) (s .args .lanes .now) (s .args .owner .now) (s .args .sides .now) (s .args .ends .now))) (s .args .own .now))
 
 cast-offsets : tie.Need-cast-offsets Inv-loop μ-loop
-cast-offsets c = let s = (c .before .before .before .before .before .before .before .before .before .before .before .before .before .before .before) in let l = c .before .loop in omega (arith, tail-room (successorsByRow (rowsOf (s .args .roads .now) (s .args .sections .now) (s .args .junctions .now) (s .args .connections .now) (s .args .pairs .now) (s .args .lanes .now) (s .args .owner .now) (s .args .sides .now) (s .args .ends .now))) (exitCount (rowsOf (s .args .roads .now) (s .args .sections .now) (s .args .junctions .now) (s .args .connections .now) (s .args .pairs .now) (s .args .lanes .now) (s .args .owner .now) (s .args .sides .now) (s .args .ends .now))) (successors-most (rowsOf (s .args .roads .now) (s .args .sections .now) (s .args .junctions .now) (s .args .connections .now) (s .args .pairs .now) (s .args .lanes .now) (s .args .owner .now) (s .args .sides .now) (s .args .ends .now))) (length (s .args .lanes .now) / 10) (l .i) (l .at) (s .args .own .now) (l .own) (subst (λ (k : ℕ). l .i < k) (l .inv .1) (c .loop-test .taken)) (s .pre .1 .2) (l .inv .2) (l .inv .5), l .inv .5, s .pre .1 .1)
+cast-offsets c = let s = (c .before .before .before .before .before .before .before .before .before .before .before .before .before .before .before .before .before) in let l = c .before .loop in omega (arith, tail-room (successorsByRow (rowsOf (s .args .roads .now) (s .args .sections .now) (s .args .junctions .now) (s .args .connections .now) (s .args .pairs .now) (s .args .lanes .now) (s .args .owner .now) (s .args .sides .now) (s .args .ends .now))) (exitCount (rowsOf (s .args .roads .now) (s .args .sections .now) (s .args .junctions .now) (s .args .connections .now) (s .args .pairs .now) (s .args .lanes .now) (s .args .owner .now) (s .args .sides .now) (s .args .ends .now))) (successors-most (rowsOf (s .args .roads .now) (s .args .sections .now) (s .args .junctions .now) (s .args .connections .now) (s .args .pairs .now) (s .args .lanes .now) (s .args .owner .now) (s .args .sides .now) (s .args .ends .now))) (length (s .args .lanes .now) / 10) (l .i) (l .at) (s .args .own .now) (l .own) (subst (λ (k : ℕ). l .i < k) (l .inv .1) (c .loop-test .taken)) (s .pre .1 .1 .2) (l .inv .2) (l .inv .5), l .inv .5, s .pre .1 .1 .1)
 
 mul-offsets : tie.Need-mul-offsets Inv-loop μ-loop
 mul-offsets c = search needs
 
 slice-write-offsets : tie.Need-slice-write-offsets Inv-loop μ-loop
-slice-write-offsets c = let s = (c .before .before .before .before .before .before .before .before .before .before .before .before .before .before .before) in omega (arith, c .before .loop .inv .3, c .before .loop .inv .1, c .loop-test .taken, s .pre .1 .0)
+slice-write-offsets c = let s = (c .before .before .before .before .before .before .before .before .before .before .before .before .before .before .before .before .before) in omega (arith, c .before .loop .inv .3, c .before .loop .inv .1, c .loop-test .taken, s .pre .1 .1 .0)
 
 mul-successors-of : tie.Need-mul-successors-of Inv-loop μ-loop
-mul-successors-of c = let s = (c .before .before .before .before .before .before .before .before .before .before .before .before .before .before .before) in let l = c .before .loop in omega (arith, tail-room (successorsByRow (rowsOf (s .args .roads .now) (s .args .sections .now) (s .args .junctions .now) (s .args .connections .now) (s .args .pairs .now) (s .args .lanes .now) (s .args .owner .now) (s .args .sides .now) (s .args .ends .now))) (exitCount (rowsOf (s .args .roads .now) (s .args .sections .now) (s .args .junctions .now) (s .args .connections .now) (s .args .pairs .now) (s .args .lanes .now) (s .args .owner .now) (s .args .sides .now) (s .args .ends .now))) (successors-most (rowsOf (s .args .roads .now) (s .args .sections .now) (s .args .junctions .now) (s .args .connections .now) (s .args .pairs .now) (s .args .lanes .now) (s .args .owner .now) (s .args .sides .now) (s .args .ends .now))) (length (s .args .lanes .now) / 10) (l .i) (l .at) (s .args .own .now) (l .own) (subst (λ (k : ℕ). l .i < k) (l .inv .1) (c .loop-test .taken)) (s .pre .1 .2) (l .inv .2) (l .inv .5), l .inv .5, s .pre .1 .1)
+mul-successors-of c = let s = (c .before .before .before .before .before .before .before .before .before .before .before .before .before .before .before .before .before) in let l = c .before .loop in omega (arith, tail-room (successorsByRow (rowsOf (s .args .roads .now) (s .args .sections .now) (s .args .junctions .now) (s .args .connections .now) (s .args .pairs .now) (s .args .lanes .now) (s .args .owner .now) (s .args .sides .now) (s .args .ends .now))) (exitCount (rowsOf (s .args .roads .now) (s .args .sections .now) (s .args .junctions .now) (s .args .connections .now) (s .args .pairs .now) (s .args .lanes .now) (s .args .owner .now) (s .args .sides .now) (s .args .ends .now))) (successors-most (rowsOf (s .args .roads .now) (s .args .sections .now) (s .args .junctions .now) (s .args .connections .now) (s .args .pairs .now) (s .args .lanes .now) (s .args .owner .now) (s .args .sides .now) (s .args .ends .now))) (length (s .args .lanes .now) / 10) (l .i) (l .at) (s .args .own .now) (l .own) (subst (λ (k : ℕ). l .i < k) (l .inv .1) (c .loop-test .taken)) (s .pre .1 .1 .2) (l .inv .2) (l .inv .5), l .inv .5, s .pre .1 .1 .1)
 
 sub-successors-of : tie.Need-sub-successors-of Inv-loop μ-loop
-sub-successors-of c = let s = (c .before .before .before .before .before .before .before .before .before .before .before .before .before .before .before) in let l = c .before .loop in omega (arith, tail-room (successorsByRow (rowsOf (s .args .roads .now) (s .args .sections .now) (s .args .junctions .now) (s .args .connections .now) (s .args .pairs .now) (s .args .lanes .now) (s .args .owner .now) (s .args .sides .now) (s .args .ends .now))) (exitCount (rowsOf (s .args .roads .now) (s .args .sections .now) (s .args .junctions .now) (s .args .connections .now) (s .args .pairs .now) (s .args .lanes .now) (s .args .owner .now) (s .args .sides .now) (s .args .ends .now))) (successors-most (rowsOf (s .args .roads .now) (s .args .sections .now) (s .args .junctions .now) (s .args .connections .now) (s .args .pairs .now) (s .args .lanes .now) (s .args .owner .now) (s .args .sides .now) (s .args .ends .now))) (length (s .args .lanes .now) / 10) (l .i) (l .at) (s .args .own .now) (l .own) (subst (λ (k : ℕ). l .i < k) (l .inv .1) (c .loop-test .taken)) (s .pre .1 .2) (l .inv .2) (l .inv .5))
+sub-successors-of c = let s = (c .before .before .before .before .before .before .before .before .before .before .before .before .before .before .before .before .before) in let l = c .before .loop in omega (arith, tail-room (successorsByRow (rowsOf (s .args .roads .now) (s .args .sections .now) (s .args .junctions .now) (s .args .connections .now) (s .args .pairs .now) (s .args .lanes .now) (s .args .owner .now) (s .args .sides .now) (s .args .ends .now))) (exitCount (rowsOf (s .args .roads .now) (s .args .sections .now) (s .args .junctions .now) (s .args .connections .now) (s .args .pairs .now) (s .args .lanes .now) (s .args .owner .now) (s .args .sides .now) (s .args .ends .now))) (successors-most (rowsOf (s .args .roads .now) (s .args .sections .now) (s .args .junctions .now) (s .args .connections .now) (s .args .pairs .now) (s .args .lanes .now) (s .args .owner .now) (s .args .sides .now) (s .args .ends .now))) (length (s .args .lanes .now) / 10) (l .i) (l .at) (s .args .own .now) (l .own) (subst (λ (k : ℕ). l .i < k) (l .inv .1) (c .loop-test .taken)) (s .pre .1 .1 .2) (l .inv .2) (l .inv .5))
 
 part-successors-of-start : tie.Need-part-successors-of-start Inv-loop μ-loop
-part-successors-of-start c = let s = (c .before .before .before .before .before .before .before .before .before .before .before .before .before .before .before) in let l = c .before .loop in omega (arith, tail-room (successorsByRow (rowsOf (s .args .roads .now) (s .args .sections .now) (s .args .junctions .now) (s .args .connections .now) (s .args .pairs .now) (s .args .lanes .now) (s .args .owner .now) (s .args .sides .now) (s .args .ends .now))) (exitCount (rowsOf (s .args .roads .now) (s .args .sections .now) (s .args .junctions .now) (s .args .connections .now) (s .args .pairs .now) (s .args .lanes .now) (s .args .owner .now) (s .args .sides .now) (s .args .ends .now))) (successors-most (rowsOf (s .args .roads .now) (s .args .sections .now) (s .args .junctions .now) (s .args .connections .now) (s .args .pairs .now) (s .args .lanes .now) (s .args .owner .now) (s .args .sides .now) (s .args .ends .now))) (length (s .args .lanes .now) / 10) (l .i) (l .at) (s .args .own .now) (l .own) (subst (λ (k : ℕ). l .i < k) (l .inv .1) (c .loop-test .taken)) (s .pre .1 .2) (l .inv .2) (l .inv .5))
+part-successors-of-start c = let s = (c .before .before .before .before .before .before .before .before .before .before .before .before .before .before .before .before .before) in let l = c .before .loop in omega (arith, tail-room (successorsByRow (rowsOf (s .args .roads .now) (s .args .sections .now) (s .args .junctions .now) (s .args .connections .now) (s .args .pairs .now) (s .args .lanes .now) (s .args .owner .now) (s .args .sides .now) (s .args .ends .now))) (exitCount (rowsOf (s .args .roads .now) (s .args .sections .now) (s .args .junctions .now) (s .args .connections .now) (s .args .pairs .now) (s .args .lanes .now) (s .args .owner .now) (s .args .sides .now) (s .args .ends .now))) (successors-most (rowsOf (s .args .roads .now) (s .args .sections .now) (s .args .junctions .now) (s .args .connections .now) (s .args .pairs .now) (s .args .lanes .now) (s .args .owner .now) (s .args .sides .now) (s .args .ends .now))) (length (s .args .lanes .now) / 10) (l .i) (l .at) (s .args .own .now) (l .own) (subst (λ (k : ℕ). l .i < k) (l .inv .1) (c .loop-test .taken)) (s .pre .1 .1 .2) (l .inv .2) (l .inv .5))
 
 part-successors-of-end : tie.Need-part-successors-of-end Inv-loop μ-loop
 part-successors-of-end c = search needs
 
 successors-of-requires : tie.Need-successors-of-requires Inv-loop μ-loop
-successors-of-requires c κs = let s = (c .before .before .before .before .before .before .before .before .before .before .before .before .before .before .before .before) in let l = c .before .before .loop in (s .pre .0, ((subst (λ (k : ℕ). l .i < k) (l .inv .1) (c .before .loop-test .taken)), omega (arith, tail-room (successorsByRow (rowsOf (s .args .roads .now) (s .args .sections .now) (s .args .junctions .now) (s .args .connections .now) (s .args .pairs .now) (s .args .lanes .now) (s .args .owner .now) (s .args .sides .now) (s .args .ends .now))) (exitCount (rowsOf (s .args .roads .now) (s .args .sections .now) (s .args .junctions .now) (s .args .connections .now) (s .args .pairs .now) (s .args .lanes .now) (s .args .owner .now) (s .args .sides .now) (s .args .ends .now))) (successors-most (rowsOf (s .args .roads .now) (s .args .sections .now) (s .args .junctions .now) (s .args .connections .now) (s .args .pairs .now) (s .args .lanes .now) (s .args .owner .now) (s .args .sides .now) (s .args .ends .now))) (length (s .args .lanes .now) / 10) (l .i) (l .at) (s .args .own .now) (l .own) (subst (λ (k : ℕ). l .i < k) (l .inv .1) (c .before .loop-test .taken)) (s .pre .1 .2) (l .inv .2) (l .inv .5), tail-size (l .at) (l .own) (omega (arith, tail-room (successorsByRow (rowsOf (s .args .roads .now) (s .args .sections .now) (s .args .junctions .now) (s .args .connections .now) (s .args .pairs .now) (s .args .lanes .now) (s .args .owner .now) (s .args .sides .now) (s .args .ends .now))) (exitCount (rowsOf (s .args .roads .now) (s .args .sections .now) (s .args .junctions .now) (s .args .connections .now) (s .args .pairs .now) (s .args .lanes .now) (s .args .owner .now) (s .args .sides .now) (s .args .ends .now))) (successors-most (rowsOf (s .args .roads .now) (s .args .sections .now) (s .args .junctions .now) (s .args .connections .now) (s .args .pairs .now) (s .args .lanes .now) (s .args .owner .now) (s .args .sides .now) (s .args .ends .now))) (length (s .args .lanes .now) / 10) (l .i) (l .at) (s .args .own .now) (l .own) (subst (λ (k : ℕ). l .i < k) (l .inv .1) (c .before .loop-test .taken)) (s .pre .1 .2) (l .inv .2) (l .inv .5))))))
+successors-of-requires c κs = let s = (c .before .before .before .before .before .before .before .before .before .before .before .before .before .before .before .before .before .before) in let l = c .before .before .loop in (s .pre .0, (s .pre .1 .0, ((subst (λ (k : ℕ). l .i < k) (l .inv .1) (c .before .loop-test .taken)), omega (arith, tail-room (successorsByRow (rowsOf (s .args .roads .now) (s .args .sections .now) (s .args .junctions .now) (s .args .connections .now) (s .args .pairs .now) (s .args .lanes .now) (s .args .owner .now) (s .args .sides .now) (s .args .ends .now))) (exitCount (rowsOf (s .args .roads .now) (s .args .sections .now) (s .args .junctions .now) (s .args .connections .now) (s .args .pairs .now) (s .args .lanes .now) (s .args .owner .now) (s .args .sides .now) (s .args .ends .now))) (successors-most (rowsOf (s .args .roads .now) (s .args .sections .now) (s .args .junctions .now) (s .args .connections .now) (s .args .pairs .now) (s .args .lanes .now) (s .args .owner .now) (s .args .sides .now) (s .args .ends .now))) (length (s .args .lanes .now) / 10) (l .i) (l .at) (s .args .own .now) (l .own) (subst (λ (k : ℕ). l .i < k) (l .inv .1) (c .before .loop-test .taken)) (s .pre .1 .1 .2) (l .inv .2) (l .inv .5), tail-size (l .at) (l .own) (omega (arith, tail-room (successorsByRow (rowsOf (s .args .roads .now) (s .args .sections .now) (s .args .junctions .now) (s .args .connections .now) (s .args .pairs .now) (s .args .lanes .now) (s .args .owner .now) (s .args .sides .now) (s .args .ends .now))) (exitCount (rowsOf (s .args .roads .now) (s .args .sections .now) (s .args .junctions .now) (s .args .connections .now) (s .args .pairs .now) (s .args .lanes .now) (s .args .owner .now) (s .args .sides .now) (s .args .ends .now))) (successors-most (rowsOf (s .args .roads .now) (s .args .sections .now) (s .args .junctions .now) (s .args .connections .now) (s .args .pairs .now) (s .args .lanes .now) (s .args .owner .now) (s .args .sides .now) (s .args .ends .now))) (length (s .args .lanes .now) / 10) (l .i) (l .at) (s .args .own .now) (l .own) (subst (λ (k : ℕ). l .i < k) (l .inv .1) (c .before .loop-test .taken)) (s .pre .1 .1 .2) (l .inv .2) (l .inv .5)))))))
 
 add-at : tie.Need-add-at Inv-loop μ-loop
-add-at c = let s = (c .before .before .before .before .before .before .before .before .before .before .before .before .before .before .before .before .before .before .before) in let l = c .before .before .before .before .before .loop in omega (arith, tail-room (successorsByRow (rowsOf (s .args .roads .now) (s .args .sections .now) (s .args .junctions .now) (s .args .connections .now) (s .args .pairs .now) (s .args .lanes .now) (s .args .owner .now) (s .args .sides .now) (s .args .ends .now))) (exitCount (rowsOf (s .args .roads .now) (s .args .sections .now) (s .args .junctions .now) (s .args .connections .now) (s .args .pairs .now) (s .args .lanes .now) (s .args .owner .now) (s .args .sides .now) (s .args .ends .now))) (successors-most (rowsOf (s .args .roads .now) (s .args .sections .now) (s .args .junctions .now) (s .args .connections .now) (s .args .pairs .now) (s .args .lanes .now) (s .args .owner .now) (s .args .sides .now) (s .args .ends .now))) (length (s .args .lanes .now) / 10) (l .i) (l .at) (s .args .own .now) (l .own) (subst (λ (k : ℕ). l .i < k) (l .inv .1) (c .before .before .before .before .loop-test .taken)) (s .pre .1 .2) (l .inv .2) (l .inv .5), l .inv .5, s .pre .1 .1, c .before .before .successors-of .ensures .size, (successors-most (rowsOf (s .args .roads .now) (s .args .sections .now) (s .args .junctions .now) (s .args .connections .now) (s .args .pairs .now) (s .args .lanes .now) (s .args .owner .now) (s .args .sides .now) (s .args .ends .now))) (l .i))
+add-at c = let s = (c .before .before .before .before .before .before .before .before .before .before .before .before .before .before .before .before .before .before .before .before .before) in let l = c .before .before .before .before .before .loop in omega (arith, tail-room (successorsByRow (rowsOf (s .args .roads .now) (s .args .sections .now) (s .args .junctions .now) (s .args .connections .now) (s .args .pairs .now) (s .args .lanes .now) (s .args .owner .now) (s .args .sides .now) (s .args .ends .now))) (exitCount (rowsOf (s .args .roads .now) (s .args .sections .now) (s .args .junctions .now) (s .args .connections .now) (s .args .pairs .now) (s .args .lanes .now) (s .args .owner .now) (s .args .sides .now) (s .args .ends .now))) (successors-most (rowsOf (s .args .roads .now) (s .args .sections .now) (s .args .junctions .now) (s .args .connections .now) (s .args .pairs .now) (s .args .lanes .now) (s .args .owner .now) (s .args .sides .now) (s .args .ends .now))) (length (s .args .lanes .now) / 10) (l .i) (l .at) (s .args .own .now) (l .own) (subst (λ (k : ℕ). l .i < k) (l .inv .1) (c .before .before .before .before .loop-test .taken)) (s .pre .1 .1 .2) (l .inv .2) (l .inv .5), l .inv .5, s .pre .1 .1 .1, c .before .before .successors-of .ensures .size, (successors-most (rowsOf (s .args .roads .now) (s .args .sections .now) (s .args .junctions .now) (s .args .connections .now) (s .args .pairs .now) (s .args .lanes .now) (s .args .owner .now) (s .args .sides .now) (s .args .ends .now))) (l .i))
 
 add-i : tie.Need-add-i Inv-loop μ-loop
 add-i c = omega (arith, c .before .before .before .before .loop-test .taken)
@@ -60,38 +60,38 @@ loop-less : tie.Need-loop-less Inv-loop μ-loop
 loop-less c = omega (arith, c .before .before .before .before .loop-test .taken)
 
 loop-again : tie.Need-loop-again Inv-loop μ-loop
-loop-again c = let s = (c .before .before .before .before .before .before .before .before .before .before .before .before .before .before .before .before .before .before .before) in
+loop-again c = let s = (c .before .before .before .before .before .before .before .before .before .before .before .before .before .before .before .before .before .before .before .before .before) in
     let l = c .before .before .before .before .before .loop in
-    let new = tail-more (successorsByRow (rowsOf (s .args .roads .now) (s .args .sections .now) (s .args .junctions .now) (s .args .connections .now) (s .args .pairs .now) (s .args .lanes .now) (s .args .owner .now) (s .args .sides .now) (s .args .ends .now))) (exitCount (rowsOf (s .args .roads .now) (s .args .sections .now) (s .args .junctions .now) (s .args .connections .now) (s .args .pairs .now) (s .args .lanes .now) (s .args .owner .now) (s .args .sides .now) (s .args .ends .now))) (successors-most (rowsOf (s .args .roads .now) (s .args .sections .now) (s .args .junctions .now) (s .args .connections .now) (s .args .pairs .now) (s .args .lanes .now) (s .args .owner .now) (s .args .sides .now) (s .args .ends .now))) (length (s .args .lanes .now) / 10) (l .i) (l .at) (s .args .own .now) (l .own) (subst (λ (k : ℕ). l .i < k) (l .inv .1) (c .before .before .before .before .loop-test .taken)) (s .pre .1 .2) (l .inv .2) (l .inv .5) (l .inv .6) (successorsByRow (rowsOf (s .args .roads .now) (s .args .sections .now) (s .args .junctions .now) (s .args .connections .now) (s .args .pairs .now) (s .args .lanes .now) (s .args .owner .now) (s .args .sides .now) (s .args .ends .now)) (l .i)) (c .before .before .successors-of .last .1 .1 .1 .1 .1 .1 .1 .1 .1 .1 .1 .1 .0) refl (c .before .before .successors-of .ensures .list) in (
+    let new = tail-more (successorsByRow (rowsOf (s .args .roads .now) (s .args .sections .now) (s .args .junctions .now) (s .args .connections .now) (s .args .pairs .now) (s .args .lanes .now) (s .args .owner .now) (s .args .sides .now) (s .args .ends .now))) (exitCount (rowsOf (s .args .roads .now) (s .args .sections .now) (s .args .junctions .now) (s .args .connections .now) (s .args .pairs .now) (s .args .lanes .now) (s .args .owner .now) (s .args .sides .now) (s .args .ends .now))) (successors-most (rowsOf (s .args .roads .now) (s .args .sections .now) (s .args .junctions .now) (s .args .connections .now) (s .args .pairs .now) (s .args .lanes .now) (s .args .owner .now) (s .args .sides .now) (s .args .ends .now))) (length (s .args .lanes .now) / 10) (l .i) (l .at) (s .args .own .now) (l .own) (subst (λ (k : ℕ). l .i < k) (l .inv .1) (c .before .before .before .before .loop-test .taken)) (s .pre .1 .1 .2) (l .inv .2) (l .inv .5) (l .inv .6) (successorsByRow (rowsOf (s .args .roads .now) (s .args .sections .now) (s .args .junctions .now) (s .args .connections .now) (s .args .pairs .now) (s .args .lanes .now) (s .args .owner .now) (s .args .sides .now) (s .args .ends .now)) (l .i)) (c .before .before .successors-of .last .1 .1 .1 .1 .1 .1 .1 .1 .1 .1 .1 .1 .1 .1 .0) refl (c .before .before .successors-of .ensures .list) in (
       omega (arith, c .before .before .before .before .loop-test .taken),
       l .inv .1,
       omega (arith, l .inv .2, c .before .before .successors-of .ensures .size, total-more (l .i) (λ (k : ℕ). length ((successorsByRow (rowsOf (s .args .roads .now) (s .args .sections .now) (s .args .junctions .now) (s .args .connections .now) (s .args .pairs .now) (s .args .lanes .now) (s .args .owner .now) (s .args .sides .now) (s .args .ends .now))) k))),
       length-set (l .offsets) (l .i) (l .at) ∙ l .inv .3,
-      starts-more (startOf (successorsByRow (rowsOf (s .args .roads .now) (s .args .sections .now) (s .args .junctions .now) (s .args .connections .now) (s .args .pairs .now) (s .args .lanes .now) (s .args .owner .now) (s .args .sides .now) (s .args .ends .now)))) (l .i) (l .at) (s .args .offsets .now) (l .offsets) (l .inv .4) (l .inv .2) (omega (arith, l .inv .1, c .before .before .before .before .loop-test .taken, s .pre .1 .0)),
-      more-long (successorsByRow (rowsOf (s .args .roads .now) (s .args .sections .now) (s .args .junctions .now) (s .args .connections .now) (s .args .pairs .now) (s .args .lanes .now) (s .args .owner .now) (s .args .sides .now) (s .args .ends .now))) (exitCount (rowsOf (s .args .roads .now) (s .args .sections .now) (s .args .junctions .now) (s .args .connections .now) (s .args .pairs .now) (s .args .lanes .now) (s .args .owner .now) (s .args .sides .now) (s .args .ends .now))) (successors-most (rowsOf (s .args .roads .now) (s .args .sections .now) (s .args .junctions .now) (s .args .connections .now) (s .args .pairs .now) (s .args .lanes .now) (s .args .owner .now) (s .args .sides .now) (s .args .ends .now))) (length (s .args .lanes .now) / 10) (l .i) (l .at) (s .args .own .now) (l .own) (subst (λ (k : ℕ). l .i < k) (l .inv .1) (c .before .before .before .before .loop-test .taken)) (s .pre .1 .2) (l .inv .2) (l .inv .5) (take (l .at) (l .own) ++ (c .before .before .successors-of .last .1 .1 .1 .1 .1 .1 .1 .1 .1 .1 .1 .1 .0 ++ drop (length (l .own) - l .at) (drop (l .at) (l .own)))) new,
+      starts-more (startOf (successorsByRow (rowsOf (s .args .roads .now) (s .args .sections .now) (s .args .junctions .now) (s .args .connections .now) (s .args .pairs .now) (s .args .lanes .now) (s .args .owner .now) (s .args .sides .now) (s .args .ends .now)))) (l .i) (l .at) (s .args .offsets .now) (l .offsets) (l .inv .4) (l .inv .2) (omega (arith, l .inv .1, c .before .before .before .before .loop-test .taken, s .pre .1 .1 .0)),
+      more-long (successorsByRow (rowsOf (s .args .roads .now) (s .args .sections .now) (s .args .junctions .now) (s .args .connections .now) (s .args .pairs .now) (s .args .lanes .now) (s .args .owner .now) (s .args .sides .now) (s .args .ends .now))) (exitCount (rowsOf (s .args .roads .now) (s .args .sections .now) (s .args .junctions .now) (s .args .connections .now) (s .args .pairs .now) (s .args .lanes .now) (s .args .owner .now) (s .args .sides .now) (s .args .ends .now))) (successors-most (rowsOf (s .args .roads .now) (s .args .sections .now) (s .args .junctions .now) (s .args .connections .now) (s .args .pairs .now) (s .args .lanes .now) (s .args .owner .now) (s .args .sides .now) (s .args .ends .now))) (length (s .args .lanes .now) / 10) (l .i) (l .at) (s .args .own .now) (l .own) (subst (λ (k : ℕ). l .i < k) (l .inv .1) (c .before .before .before .before .loop-test .taken)) (s .pre .1 .1 .2) (l .inv .2) (l .inv .5) (take (l .at) (l .own) ++ (c .before .before .successors-of .last .1 .1 .1 .1 .1 .1 .1 .1 .1 .1 .1 .1 .1 .1 .0 ++ drop (length (l .own) - l .at) (drop (l .at) (l .own)))) new,
       new,
     )
 
 cast-offsets-2 : tie.Need-cast-offsets-2 Inv-loop μ-loop
-cast-offsets-2 c = let s = (c .before .before .before .before .before .before .before .before .before .before .before .before .before .before .before) in let l = c .before .loop in omega (arith, l .inv .2, start-most (successorsByRow (rowsOf (s .args .roads .now) (s .args .sections .now) (s .args .junctions .now) (s .args .connections .now) (s .args .pairs .now) (s .args .lanes .now) (s .args .owner .now) (s .args .sides .now) (s .args .ends .now))) (exitCount (rowsOf (s .args .roads .now) (s .args .sections .now) (s .args .junctions .now) (s .args .connections .now) (s .args .pairs .now) (s .args .lanes .now) (s .args .owner .now) (s .args .sides .now) (s .args .ends .now))) (successors-most (rowsOf (s .args .roads .now) (s .args .sections .now) (s .args .junctions .now) (s .args .connections .now) (s .args .pairs .now) (s .args .lanes .now) (s .args .owner .now) (s .args .sides .now) (s .args .ends .now))) (l .i), total-le (l .i) (length (s .args .lanes .now) / 10) (exitCount (rowsOf (s .args .roads .now) (s .args .sections .now) (s .args .junctions .now) (s .args .connections .now) (s .args .pairs .now) (s .args .lanes .now) (s .args .owner .now) (s .args .sides .now) (s .args .ends .now))) (omega (arith, l .inv .0, l .inv .1)), (s .pre .1 .2), s .pre .1 .1)
+cast-offsets-2 c = let s = (c .before .before .before .before .before .before .before .before .before .before .before .before .before .before .before .before .before) in let l = c .before .loop in omega (arith, l .inv .2, start-most (successorsByRow (rowsOf (s .args .roads .now) (s .args .sections .now) (s .args .junctions .now) (s .args .connections .now) (s .args .pairs .now) (s .args .lanes .now) (s .args .owner .now) (s .args .sides .now) (s .args .ends .now))) (exitCount (rowsOf (s .args .roads .now) (s .args .sections .now) (s .args .junctions .now) (s .args .connections .now) (s .args .pairs .now) (s .args .lanes .now) (s .args .owner .now) (s .args .sides .now) (s .args .ends .now))) (successors-most (rowsOf (s .args .roads .now) (s .args .sections .now) (s .args .junctions .now) (s .args .connections .now) (s .args .pairs .now) (s .args .lanes .now) (s .args .owner .now) (s .args .sides .now) (s .args .ends .now))) (l .i), total-le (l .i) (length (s .args .lanes .now) / 10) (exitCount (rowsOf (s .args .roads .now) (s .args .sections .now) (s .args .junctions .now) (s .args .connections .now) (s .args .pairs .now) (s .args .lanes .now) (s .args .owner .now) (s .args .sides .now) (s .args .ends .now))) (omega (arith, l .inv .0, l .inv .1)), (s .pre .1 .1 .2), s .pre .1 .1 .1)
 
 mul-offsets-2 : tie.Need-mul-offsets-2 Inv-loop μ-loop
 mul-offsets-2 c = search needs
 
 slice-write-offsets-2 : tie.Need-slice-write-offsets-2 Inv-loop μ-loop
-slice-write-offsets-2 c = let s = (c .before .before .before .before .before .before .before .before .before .before .before .before .before .before .before) in omega (arith, c .before .loop .inv .3, c .before .loop .inv .1, s .pre .1 .0)
+slice-write-offsets-2 c = let s = (c .before .before .before .before .before .before .before .before .before .before .before .before .before .before .before .before .before) in omega (arith, c .before .loop .inv .3, c .before .loop .inv .1, s .pre .1 .1 .0)
 
 same-length : tie.Need-same-length Inv-loop μ-loop
-same-length c = let s = (c .before .before .before .before .before .before .before .before .before .before .before .before .before .before .before) in length-set (c .before .loop .offsets) (length (s .args .lanes .now) / 10) (c .before .loop .at) ∙ c .before .loop .inv .3
+same-length c = let s = (c .before .before .before .before .before .before .before .before .before .before .before .before .before .before .before .before .before) in length-set (c .before .loop .offsets) (length (s .args .lanes .now) / 10) (c .before .loop .at) ∙ c .before .loop .inv .3
 
 same-length-2 : tie.Need-same-length-2 Inv-loop μ-loop
 same-length-2 c = c .before .loop .inv .5
 
 returns : tie.Need-returns Inv-loop μ-loop
-returns c = let s = (c .before .before .before .before .before .before .before .before .before .before .before .before .before .before .before) in
+returns c = let s = (c .before .before .before .before .before .before .before .before .before .before .before .before .before .before .before .before .before) in
     let l = c .before .loop in
     let e : l .i ≡ (length (s .args .lanes .now) / 10) = omega (arith, l .inv .0, l .inv .1, c .loop-test .left) in
-    record { starts = ap (λ (k : ℕ). set (l .offsets) k (l .at)) (sym e) ∙ starts-more (startOf (successorsByRow (rowsOf (s .args .roads .now) (s .args .sections .now) (s .args .junctions .now) (s .args .connections .now) (s .args .pairs .now) (s .args .lanes .now) (s .args .owner .now) (s .args .sides .now) (s .args .ends .now)))) (l .i) (l .at) (s .args .offsets .now) (l .offsets) (l .inv .4) (l .inv .2) (omega (arith, e, s .pre .1 .0)) ∙ ap (λ (k : ℕ). written (tab (k + 1) (startOf (successorsByRow (rowsOf (s .args .roads .now) (s .args .sections .now) (s .args .junctions .now) (s .args .connections .now) (s .args .pairs .now) (s .args .lanes .now) (s .args .owner .now) (s .args .sides .now) (s .args .ends .now))))) (s .args .offsets .now)) e; content = l .inv .6 ∙ ap (λ (k : ℕ). written (ranged 0 k (successorsByRow (rowsOf (s .args .roads .now) (s .args .sections .now) (s .args .junctions .now) (s .args .connections .now) (s .args .pairs .now) (s .args .lanes .now) (s .args .owner .now) (s .args .sides .now) (s .args .ends .now)))) (s .args .own .now)) e }
+    record { starts = ap (λ (k : ℕ). set (l .offsets) k (l .at)) (sym e) ∙ starts-more (startOf (successorsByRow (rowsOf (s .args .roads .now) (s .args .sections .now) (s .args .junctions .now) (s .args .connections .now) (s .args .pairs .now) (s .args .lanes .now) (s .args .owner .now) (s .args .sides .now) (s .args .ends .now)))) (l .i) (l .at) (s .args .offsets .now) (l .offsets) (l .inv .4) (l .inv .2) (omega (arith, e, s .pre .1 .1 .0)) ∙ ap (λ (k : ℕ). written (tab (k + 1) (startOf (successorsByRow (rowsOf (s .args .roads .now) (s .args .sections .now) (s .args .junctions .now) (s .args .connections .now) (s .args .pairs .now) (s .args .lanes .now) (s .args .owner .now) (s .args .sides .now) (s .args .ends .now))))) (s .args .offsets .now)) e; content = l .inv .6 ∙ ap (λ (k : ℕ). written (ranged 0 k (successorsByRow (rowsOf (s .args .roads .now) (s .args .sections .now) (s .args .junctions .now) (s .args .connections .now) (s .args .pairs .now) (s .args .lanes .now) (s .args .owner .now) (s .args .sides .now) (s .args .ends .now)))) (s .args .own .now)) e }
 
 pub own-lists-spec : {M : Type 1} → statement M
 own-lists-spec =
