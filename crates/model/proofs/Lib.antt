@@ -3,6 +3,7 @@ pub mod CardMaps
 pub mod Computed
 pub mod TableCorners
 pub mod LookupCorners
+pub mod ReadingCorners
 pub mod RepairCorners
 pub mod SuccessionCorners
 pub mod GapCorners

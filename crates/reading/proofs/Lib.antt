@@ -1,0 +1,12 @@
+pub mod NumberLaws
+pub mod NameLaws
+pub mod RowLaws
+pub mod LaneLaws
+pub mod TargetLaws
+pub mod LengthLaws
+pub mod RunLaws
+pub mod LinkLaws
+pub mod ConnectionLaws
+pub mod RoomLaws
+pub mod JunctionLaws
+pub mod CallLaws

@@ -1,0 +1,24 @@
+use mathlib.Core.Bool.{not}
+use mathlib.Core.Path.{sym, ap, _∙_}
+use borrow.Author.Needs.{needs}
+use Rattle.model.specs.Tables.{nameIn}
+use Rattle.model.specs.Lists.{isSome}
+use Rattle.words.proofs.Scans.{and-off-left, and-on}
+use Rattle.reading.proofs.ConnectionLaws.{there-is}
+use Rattle.reading.proofs.connections.both_there.Statement.{statement}
+use Rattle.reading.proofs.connections.both_there.Tie as tie
+
+absent-at-requires : tie.Need-absent-at-requires
+absent-at-requires c κs = search needs
+
+returns : tie.Need-returns
+returns c = let s = (c .before .before .before) in sym (and-off-left _ (isSome (nameIn (s .args .ws .now) (s .args .b))) (sym (there-is (s .args .ws .now) (s .args .a)) ∙ ap not (sym (c .before .absent-at .ensures) ∙ c .if1 .taken)))
+
+absent-at-requires-2 : tie.Need-absent-at-requires-2
+absent-at-requires-2 c κs = search needs
+
+returns-2 : tie.Need-returns-2
+returns-2 c = let s = (c .before .before .before .before) in ap not (c .absent-at2 .ensures) ∙ there-is (s .args .ws .now) (s .args .b) ∙ sym (and-on _ (isSome (nameIn (s .args .ws .now) (s .args .b))) (sym (there-is (s .args .ws .now) (s .args .a)) ∙ ap not (sym (c .before .before .absent-at .ensures) ∙ c .before .if1 .left)))
+
+pub both-there-spec : {M : Type 1} → statement M
+both-there-spec = tie.close (tie.spec absent-at-requires returns absent-at-requires-2 returns-2)

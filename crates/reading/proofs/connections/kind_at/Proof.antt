@@ -1,0 +1,39 @@
+use mathlib.Core.Path.{sym, _∙_}
+use borrow.Author.Needs.{needs}
+use Rattle.model.specs.Tables.{nameIn}
+use Rattle.reading.proofs.ConnectionLaws.{kind-common, kind-direct, kind-virtual}
+use Rattle.reading.proofs.connections.kind_at.Statement.{statement}
+use Rattle.reading.proofs.connections.kind_at.Tie as tie
+
+slice-aggregate-reads-at : tie.Need-slice-aggregate-reads-at
+slice-aggregate-reads-at c = search needs
+
+reads-at-requires : tie.Need-reads-at-requires
+reads-at-requires c κs = search needs
+
+returns : tie.Need-returns
+returns c = let s = (c .before .before .before .before .before) in kind-direct (s .args .text .now) (nameIn (s .args .ws .now) (s .args .at)) (sym (c .before .reads-at .ensures) ∙ c .if1 .taken)
+
+slice-aggregate-reads-at-2 : tie.Need-slice-aggregate-reads-at-2
+slice-aggregate-reads-at-2 c = search needs
+
+reads-at-requires-2 : tie.Need-reads-at-requires-2
+reads-at-requires-2 c κs = search needs
+
+returns-2 : tie.Need-returns-2
+returns-2 c = let s = (c .before .before .before .before .before .before .before .before) in kind-virtual (s .args .text .now) (nameIn (s .args .ws .now) (s .args .at)) (sym (c .before .before .before .before .reads-at .ensures) ∙ c .before .before .before .if1 .left) (sym (c .before .reads-at2 .ensures) ∙ c .if2 .taken)
+
+returns-3 : tie.Need-returns-3
+returns-3 c = let s = (c .before .before .before .before .before .before .before .before) in kind-common (s .args .text .now) (nameIn (s .args .ws .now) (s .args .at)) (sym (c .before .before .before .before .reads-at .ensures) ∙ c .before .before .before .if1 .left) (sym (c .before .reads-at2 .ensures) ∙ c .if2 .left)
+
+pub kind-at-spec : {M : Type 1} → statement M
+kind-at-spec =
+    tie.close
+    (tie.spec
+    slice-aggregate-reads-at
+    reads-at-requires
+    returns
+    slice-aggregate-reads-at-2
+    reads-at-requires-2
+    returns-2
+    returns-3)

@@ -1,0 +1,58 @@
+use borrow.Author.Tests.{not-true, not-false}
+use lib.ListN.{length, drop}
+use mathlib.Core.Bool.{true}
+use Prim.Native.Nat.{ℕ, _*_, _/_, _-_, _≤_}
+use mathlib.Core.Path.{_≡_, sym, ap, _∙_}
+use native.Mathlib.Omega.{arith}
+use borrow.Author.Needs.{needs}
+use Rattle.model.specs.ReadingCalls.{rawTargetWorded}
+use Rattle.words.proofs.Scans.{all-miss, all-none, all-step, every-rows}
+use Rattle.words.specs.Rows.{all}
+use Rattle.reading.proofs.TargetLaws.{target-local}
+use Rattle.reading.proofs.targets.targets_fit.Statement.{statement}
+use Rattle.reading.proofs.targets.targets_fit.Tie as tie
+
+abbrev Inv-loop : tie.InvT-loop
+Inv-loop text raw n i₀ i = (i ≤ n) × (all i (λ k. rawTargetWorded text (drop (k * 9) raw)) ≡ true)
+
+abbrev μ-loop : tie.MeasureT-loop
+μ-loop text raw n i₀ i = n - i
+
+loop-holds : tie.Need-loop-holds Inv-loop μ-loop
+loop-holds c = (omega arith, all-none _)
+
+mul-target-fits : tie.Need-mul-target-fits Inv-loop μ-loop
+mul-target-fits c = search needs
+
+target-fits-requires : tie.Need-target-fits-requires Inv-loop μ-loop
+target-fits-requires c κs = omega arith
+
+returns : tie.Need-returns Inv-loop μ-loop
+returns c = let s = (c .before .before .before .before .before .before) in let l = c .before .before .before .loop in sym (every-rows 9 (s .args .raw .now) (rawTargetWorded (s .args .text .now)) (target-local (s .args .text .now)) ∙ all-miss (length (s .args .raw .now) / 9) (l .i) (λ k. rawTargetWorded (s .args .text .now) (drop (k * 9) (s .args .raw .now))) (omega arith) (sym (c .before .target-fits .ensures) ∙ not-true _ (c .if1 .taken)))
+
+add-i : tie.Need-add-i Inv-loop μ-loop
+add-i c = omega arith
+
+loop-less : tie.Need-loop-less Inv-loop μ-loop
+loop-less c = omega arith
+
+loop-again : tie.Need-loop-again Inv-loop μ-loop
+loop-again c = (omega arith, all-step _ _ (c .before .before .before .loop .inv .1) (sym (c .before .target-fits .ensures) ∙ not-false _ (c .if1 .left)))
+
+returns-2 : tie.Need-returns-2 Inv-loop μ-loop
+returns-2 c = let s = (c .before .before .before .before) in let l = c .before .loop in let past : length (s .args .raw .now) / 9 ≡ l .i = omega arith in sym (every-rows 9 (s .args .raw .now) (rawTargetWorded (s .args .text .now)) (target-local (s .args .text .now)) ∙ ap (λ (m : ℕ). all m (λ k. rawTargetWorded (s .args .text .now) (drop (k * 9) (s .args .raw .now)))) past ∙ l .inv .1)
+
+pub targets-fit-spec : {M : Type 1} → statement M
+targets-fit-spec =
+    tie.close
+    (tie.spec
+    Inv-loop
+    μ-loop
+    loop-holds
+    mul-target-fits
+    target-fits-requires
+    returns
+    add-i
+    loop-less
+    loop-again
+    returns-2)

@@ -1,0 +1,4 @@
+pub mod Links
+pub mod Laid
+pub mod Answers
+pub mod JunctionAnswers
