@@ -1,6 +1,6 @@
 -- The offsets that succession writes are words, and its identities keep within the limit; after it the gap check can refuse by 9 alone.
 use mathlib.Core.Path.{_≡_, sym, _∙_, ap}
-use mathlib.Core.Bool.{true, _&&_}
+use mathlib.Core.Bool.{Bool, true, _&&_}
 use mathlib.Core.Option.{none}
 use mathlib.Core.List.{map}
 use Prim.Native.Nat.{ℕ, suc, _+_, _*_, _/_, _%_, _≤_, _<_}
@@ -14,10 +14,10 @@ use Rattle.model.specs.Lists.{ascends, every, gather, member}
 use Rattle.model.specs.Records.{Connection, Junction, Lane, Road}
 use Rattle.model.specs.Rows.{partsFit, table}
 use Rattle.model.specs.Rules.{connectionPartsFit, connectionWorded, edgesEven, edgesFit, edgesSized, firstBroken, idsOnce, junctionWorded, lanesSized, lanesWorded, listedIn, listsSized, mapSized, mapWorded, pairPartsFit, placesOnce, roadWorded, same, sectionPartsFit, sectionsAscend, sized}
-use Rattle.model.specs.Succession.{sectionsOf, successorLists, successors}
+use Rattle.model.specs.Succession.{exits, sectionsOf, successorLists, successors}
 use Rattle.model.specs.Tables.{Tables, allConnections, allPairs, connectionIn, connectionsIn, connectionsOf, junctionsIn, junctionsOf, laneIn, lanesIn, lanesOf, mapOf, pairIn, pairsIn, pairsOf, roadsOf}
 use Rattle.laws.proofs.Admitted.{sized-most, sized-whole, sizes-of, worded-of}
-use Rattle.laws.proofs.Bound.{ids-few, predecessors-few}
+use Rattle.laws.proofs.Bound.{ids-few, predecessors-few, sumOf}
 use Rattle.laws.proofs.ByBytes.{alike-in}
 use Rattle.laws.proofs.Decoded.{connections-forth, junctions-forth}
 use Rattle.laws.proofs.Eleven.{eleven, offsets-count}
@@ -25,7 +25,7 @@ use Rattle.laws.proofs.ForEach.{each-map}
 use Rattle.laws.proofs.Lay.{length-table}
 use Rattle.laws.proofs.ListTests.{and-both, and-left, and-right, every-each}
 use Rattle.laws.proofs.RulesReversed.{Passes, all-pass, ascends-fact, pass-all}
-use Rattle.laws.proofs.Tight.{ids-tight}
+use Rattle.laws.proofs.Tight.{exits-all, ids-tight}
 use Rattle.laws.proofs.Valid.{Valid}
 use Rattle.laws.proofs.WordsReversed.{allPairs-nested}
 
@@ -103,6 +103,11 @@ module _ (t : Tables) (h : firstBroken (successionRules t) ≡ none) where
   unfolding listContent mapOf successionRules rulesTo5 laneRules placesOnce idsOnce
   ids-limit = let a = ids-tight (same t) (alike-in (t .text)) (mapOf t) valid (rules .1 .1 .1 .1 .1 .1 .1 .0) (rules .1 .1 .1 .1 .1 .0) in
       let b = pairs-few in let c = lanes-few in omega arith
+
+  -- at each end, at most one for each lane and one for each pair
+  pub exits-limit : (e : Bool) → sumOf (λ (l : Lane). length (exits (same t) (mapOf t) l e)) (lanesOf t) ≤ 32768
+  unfolding successionRules rulesTo5 laneRules placesOnce mapOf
+  exits-limit e = let a = exits-all (same t) (alike-in (t .text)) (mapOf t) valid (rules .1 .1 .1 .1 .1 .1 .1 .0) e in let b = pairs-few in let c = lanes-few in omega arith
 
   sized-one : (most n : ℕ) → n ≤ most → sized 1 most n ≡ true
   unfolding sized

@@ -184,7 +184,7 @@ module _ (same : Span → Span → Bool) (A : Alike same) (m : Map) (v : Valid s
           let b = sum-le (λ (c : Connection). sumOf (λ (l : Lane). sumOf (λ p. serves e c p l) (c .pairs)) (m .lanes)) (λ c. length (c .pairs)) (j .connections) two in
           let d = gather-sum (λ (c : Connection). c .pairs) (j .connections) in omega arith
 
-  exits-all : (e : Bool) → sumOf (λ l. length (exits same m l e)) (m .lanes) ≤ length (m .lanes) + pairsIn
+  pub exits-all : (e : Bool) → sumOf (λ l. length (exits same m l e)) (m .lanes) ≤ length (m .lanes) + pairsIn
   exits-all e =
       let a = sum-le-each (Placed same (m .roads)) (λ (l : Lane). length (exits same m l e)) (λ l. 1 + sumOf (served e l) (m .junctions)) (m .lanes) (v .placed) (exits-served e) in
       let b = sum-plus (λ (l : Lane). 1) (λ l. sumOf (served e l) (m .junctions)) (m .lanes) in

@@ -18,6 +18,7 @@ use Rattle.model.specs.Succession.{exits}
 use Rattle.model.specs.Tables.{Tables, laneIn, laneTables, lanesIn, lanesOf, mapOf, roadsIn}
 use Rattle.model.specs.Text.{sameIn}
 use Rattle.laws.proofs.Bound.{sumOf}
+use Rattle.laws.proofs.Offsets.{exits-limit}
 use Rattle.laws.proofs.RulesReversed.{Passes, all-pass}
 use Rattle.words.specs.Rows.{all, any, from, nameFrom, tab, total}
 use Rattle.words.specs.Keys.{bears, idBefore, keyBefore, nameBefore}
@@ -35,7 +36,6 @@ use Rattle.succession.specs.Finished.{exitCount}
 use Rattle.succession.specs.Outcome.{ownList}
 use Rattle.succession.proofs.ByName.{owner-known}
 use Rattle.succession.proofs.Bridge.{Ruled, exits-by-row, successors-by-row}
-use Rattle.succession.proofs.Served.{exits-limit}
 use Rattle.succession.proofs.Spreads.{total-plus}
 use Rattle.words.proofs.Laws.{total-same}
 
@@ -77,7 +77,7 @@ unfolding sumOf
 sum-snoc f [] y = omega arith
 sum-snoc f (x ∷ xs) y = let e : sumOf f (xs ++ (y ∷ [])) ≡ sumOf f xs + f y = sum-snoc f xs y in omega arith
 
-pub sum-tab : {A : Type 0} (f : A → ℕ) (n : ℕ) (g : ℕ → A) → sumOf f (tab n g) ≡ total n (λ i. f (g i))
+sum-tab : {A : Type 0} (f : A → ℕ) (n : ℕ) (g : ℕ → A) → sumOf f (tab n g) ≡ total n (λ i. f (g i))
 unfolding tab total sumOf
 sum-tab f zero g = refl
 sum-tab f (suc n) g = sum-snoc f (tab n g) (g n) ∙ ap (λ (k : ℕ). k + f (g n)) (sum-tab f n g)
@@ -127,6 +127,12 @@ module _ (text roads sections junctions connections pairs lanes : List ℕ) (h :
   lanes-known : all (length lanes / 10) (listedAt text roads sections lanes) ≡ true
   unfolding successionRules rulesTo5 laneRules
   lanes-known = sym (lanes-listed text roads sections lanes) ∙ rules .1 .1 .1 .1 .1 .1 .0
+
+  pub ends-sum : (e : Bool) → total (length lanes / 10) (λ i. length (exits (sameIn text) (mapOf T) (laneAt lanes i) e)) ≤ 32768
+  ends-sum e = let a = exits-limit T h e in let b : sumOf (λ (l : Lane). length (exits (sameIn text) (mapOf T) l e)) (lanesOf T) ≡ total (length lanes / 10) (λ i. length (exits (sameIn text) (mapOf T) (laneAt lanes i) e)) = over in omega arith
+    where
+      over : sumOf (λ (l : Lane). length (exits (sameIn text) (mapOf T) l e)) (lanesOf T) ≡ total (length lanes / 10) (λ i. length (exits (sameIn text) (mapOf T) (laneAt lanes i) e))
+      over = unfold lanesIn laneAt in (ap (sumOf (λ (l : Lane). length (exits (sameIn text) (mapOf T) l e))) (lanes-tab lanes) ∙ sum-tab (λ (l : Lane). length (exits (sameIn text) (mapOf T) l e)) (length lanes / 10) (λ i. laneIn (from 10 lanes i)))
 
   module _ (heads next owner kheads knext : List ℕ) (L : Linked text roads lanes heads next owner kheads knext) where
     keys-single : any (length lanes / 10) (keyBefore lanes owner) ≡ false
@@ -191,16 +197,12 @@ module _ (text roads sections junctions connections pairs lanes : List ℕ) (h :
 
       ends-few : (e : Bool) → total (length lanes / 10) (λ l. length (exitsByRow (rowsOf roads sections junctions connections pairs lanes owner sides ends) l e)) ≤ 32768
       ends-few e =
-          let a = exits-limit T h e in
-          let b : sumOf (λ (l : Lane). length (exits (sameIn text) (mapOf T) l e)) (lanesOf T) ≡ total (length lanes / 10) (λ i. length (exits (sameIn text) (mapOf T) (laneAt lanes i) e)) = over e in
-          let d : total (length lanes / 10) (λ l. length (exitsByRow (rowsOf roads sections junctions connections pairs lanes owner sides ends) l e)) ≡ total (length lanes / 10) (λ i. length (exits (sameIn text) (mapOf T) (laneAt lanes i) e)) = by-row e in
+          let a = ends-sum e in
+          let d : total (length lanes / 10) (λ l. length (exitsByRow (rowsOf roads sections junctions connections pairs lanes owner sides ends) l e)) ≡ total (length lanes / 10) (λ i. length (exits (sameIn text) (mapOf T) (laneAt lanes i) e)) = by-row in
           omega arith
         where
-          over : (e : Bool) → sumOf (λ (l : Lane). length (exits (sameIn text) (mapOf T) l e)) (lanesOf T) ≡ total (length lanes / 10) (λ i. length (exits (sameIn text) (mapOf T) (laneAt lanes i) e))
-          over e = unfold lanesIn laneAt in (ap (sumOf (λ (l : Lane). length (exits (sameIn text) (mapOf T) l e))) (lanes-tab lanes) ∙ sum-tab (λ (l : Lane). length (exits (sameIn text) (mapOf T) l e)) (length lanes / 10) (λ i. laneIn (from 10 lanes i)))
-
-          by-row : (e : Bool) → total (length lanes / 10) (λ l. length (exitsByRow (rowsOf roads sections junctions connections pairs lanes owner sides ends) l e)) ≡ total (length lanes / 10) (λ i. length (exits (sameIn text) (mapOf T) (laneAt lanes i) e))
-          by-row e = unfold mapOf in total-same (length lanes / 10) (λ l. length (exitsByRow (rowsOf roads sections junctions connections pairs lanes owner sides ends) l e)) (λ i. length (exits (sameIn text) (mapOf T) (laneAt lanes i) e))
+          by-row : total (length lanes / 10) (λ l. length (exitsByRow (rowsOf roads sections junctions connections pairs lanes owner sides ends) l e)) ≡ total (length lanes / 10) (λ i. length (exits (sameIn text) (mapOf T) (laneAt lanes i) e))
+          by-row = unfold mapOf in total-same (length lanes / 10) (λ l. length (exitsByRow (rowsOf roads sections junctions connections pairs lanes owner sides ends) l e)) (λ i. length (exits (sameIn text) (mapOf T) (laneAt lanes i) e))
               (λ l ll. ap length (exits-by-row text roads sections junctions connections pairs lanes owner sides ends named ruled l ll e))
 
       pub exits-fit : total (length lanes / 10) (exitCount (rowsOf roads sections junctions connections pairs lanes owner sides ends)) ≤ 65536

@@ -12,13 +12,12 @@ use borrow.Author.Tests.{le-leb, lt-leb}
 use Rattle.model.specs.Calls.{ListOutputs, listContent, listLengths, longEnough, putLists, refused, settled, successionCall, successionRefusal, successionRules, wrote}
 use Rattle.model.specs.Lists.{keep, sort}
 use Rattle.model.specs.Lookup.{listPart, offsetsFrom, packed}
-use Rattle.model.specs.Records.{Lane}
 use Rattle.model.specs.Rows.{written}
 use Rattle.model.specs.Rules.{firstBroken, fits, refusalWord}
 use Rattle.model.specs.Succession.{exits, predecessorLists, predecessors, successorLists, successors, successorsOf}
-use Rattle.model.specs.Tables.{Tables, laneIn, laneTables, lanesIn, lanesOf, mapOf}
+use Rattle.model.specs.Tables.{Tables, laneTables, lanesIn, mapOf}
 use Rattle.model.specs.Text.{sameIn}
-use Rattle.laws.proofs.Bound.{successorsOf-exits, sumOf}
+use Rattle.laws.proofs.Bound.{successorsOf-exits}
 use Rattle.laws.proofs.RulesReversed.{broken-append}
 use Rattle.laws.proofs.Sorting.{Ordered}
 use Rattle.words.specs.Keys.{idBefore}
@@ -35,8 +34,7 @@ use Rattle.succession.proofs.Absorbed.{ordered-rising}
 use Rattle.succession.proofs.Spreads.{as-many, listers-few, total-few, total-plus}
 use Rattle.succession.proofs.Packing.{filled-same, joined-long, joined-same, read-back, start-same}
 use Rattle.succession.proofs.Backs.{both-fit}
-use Rattle.succession.proofs.Admits.{ids-single, sum-tab}
-use Rattle.succession.proofs.Served.{exits-limit}
+use Rattle.succession.proofs.Admits.{ends-sum, ids-single}
 use Rattle.succession.proofs.Final.{all-borne, before-is, offsets-are, onward-is, ordered-own, packed-is}
 
 -- ---- 9, and what is written
@@ -151,18 +149,12 @@ module _ (text roads sections junctions connections pairs lanes : List ℕ) (h :
   unfolding mapOf lanesIn laneAt
   lanes-are = lanes-tab lanes
 
-  ends-sum : (e : Bool) → total (length lanes / 10) (λ i. length (exits (sameIn text) (mapOf T) (laneAt lanes i) e)) ≤ 32768
-  ends-sum e = let a = exits-limit T h e in let b : sumOf (λ (l : Lane). length (exits (sameIn text) (mapOf T) l e)) (lanesOf T) ≡ total (length lanes / 10) (λ i. length (exits (sameIn text) (mapOf T) (laneAt lanes i) e)) = over in omega arith
-    where
-      over : sumOf (λ (l : Lane). length (exits (sameIn text) (mapOf T) l e)) (lanesOf T) ≡ total (length lanes / 10) (λ i. length (exits (sameIn text) (mapOf T) (laneAt lanes i) e))
-      over = unfold lanesIn laneAt in (ap (sumOf (λ (l : Lane). length (exits (sameIn text) (mapOf T) l e))) (lanes-tab lanes) ∙ sum-tab (λ (l : Lane). length (exits (sameIn text) (mapOf T) l e)) (length lanes / 10) (λ i. laneIn (from 10 lanes i)))
-
   pub own-few : startOf ownAt (length lanes / 10) ≤ 65536
   unfolding ownList
   own-few =
       let a = total-few (length lanes / 10) (λ l. length (successorsOf (sameIn text) (mapOf T) (laneAt lanes l))) (λ i. length (exits (sameIn text) (mapOf T) (laneAt lanes i) true) + length (exits (sameIn text) (mapOf T) (laneAt lanes i) false)) (λ l ll. successorsOf-exits (sameIn text) (mapOf T) (laneAt lanes l)) in
       let b = total-plus (length lanes / 10) (λ i. length (exits (sameIn text) (mapOf T) (laneAt lanes i) true)) (λ i. length (exits (sameIn text) (mapOf T) (laneAt lanes i) false)) (λ i. length (exits (sameIn text) (mapOf T) (laneAt lanes i) true) + length (exits (sameIn text) (mapOf T) (laneAt lanes i) false)) (λ r. refl) in
-      let x = ends-sum true in let y = ends-sum false in omega arith
+      let x = ends-sum text roads sections junctions connections pairs lanes h true in let y = ends-sum text roads sections junctions connections pairs lanes h false in omega arith
 
   module _ (offsets ids : List ℕ) (back : (a : ℕ) → a < length lanes / 10 → listPart offsets ids a ≡ ownAt a) where
     pub own-rising : (l : ℕ) → l < length lanes / 10 → Rising (listPart offsets ids l)

@@ -14,7 +14,6 @@ pub mod Spills
 pub mod Packing
 pub mod Spreads
 pub mod Backs
-pub mod Served
 pub mod Admits
 pub mod Final
 pub mod Ends

@@ -185,6 +185,6 @@ pub fn converse(
     let mut counts = [0u32; 16384];
     count_all(lanes, heads, next, starts, ids, &mut counts);
     sums(&counts, n, offsets);
-    let mut used = [0u32; 16384];
-    spill_all(lanes, heads, next, starts, ids, offsets, &mut used, out);
+    list::clear(&mut counts);
+    spill_all(lanes, heads, next, starts, ids, offsets, &mut counts, out);
 }

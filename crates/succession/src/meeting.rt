@@ -1,11 +1,12 @@
 // Connections chained by their junction and incoming road: `heads` has a word for each bucket and `next` one for each connection, counted back from
 // the last; a word is such a count plus 1, and 0 for none.
+use crate::list;
 use words::rows;
 use words::tests::both;
 ghost use mathlib.Core.Path.{_≡_};
 ghost use mathlib.Core.Bool.{true};
-ghost use Prim.Native.Nat.{ℕ, _+_, _-_, _*_, _/_, _≤_, _<_};
-ghost use lib.ListN.{length, getD};
+ghost use Prim.Native.Nat.{_+_, _-_, _*_, _/_, _≤_, _<_};
+ghost use lib.ListN.{length};
 ghost use Rattle.model.specs.Rows.{partsFit, table};
 ghost use Rattle.words.specs.Chain.{Chained};
 ghost use Rattle.succession.specs.Meeting.{Homes, Meeting, connectionHash, endOf, firstOf, meetingHash, meets};
@@ -54,17 +55,6 @@ fn link_part(
     }
 }
 
-// Makes every word 0.
-fn clear(ws: &mut [u32])
-    ensures { λ _. ⌜ ((b : ℕ) → b < length (now (ws .exit)) → getD (now (ws .exit)) b 0 ≡ 0) ⌝ }
-{
-    let mut i = 0;
-    while i < ws.len() {
-        ws[i] = 0;
-        i += 1;
-    }
-}
-
 // Chains all connections, whatever the two arrays held.
 pub fn link_connections(
     junctions: &[u32],
@@ -77,7 +67,7 @@ pub fn link_connections(
     requires { ⌜ partsFit 3 4 0 (length (now connections) / 7) (table 5 (now junctions)) ≡ true ⌝ }
     ensures { λ _. ⌜ Meeting (now (junctions .entry)) (now (connections .entry)) (now (sides .entry)) (now (heads .exit)) (now (next .exit)) ⌝ }
 {
-    clear(heads);
+    list::clear(heads);
     let n = connections.len() / 7;
     let mut j = junctions.len() / 5;
     while j > 0 {
