@@ -1,0 +1,153 @@
+//! The calls beside the original on the same maps in one run, best of many; root and distance beside f32::sqrt and gaps.rs.
+use compare::calls::{self, vz_distance, vz_root};
+use compare::original;
+use compare::tables::{Dice, Tables, ABSENT, CONNECTION, EDGE, JUNCTION, LANE, PAIR, ROAD};
+use std::hint::black_box;
+use std::time::Instant;
+
+/// A town: in each group of eight roads four arms meet at a junction, and four roads connect them. Two sections a road, five lanes a section.
+fn town(roads: usize, lanes: usize) -> Tables {
+    let mut t = Tables::default();
+    let mut dice = Dice::new(5);
+    let name = |t: &mut Tables, s: String| {
+        let at = t.text.len() as u32;
+        t.text.extend(s.bytes());
+        (at, s.len() as u32)
+    };
+    let road: Vec<(u32, u32)> = (0..roads).map(|r| name(&mut t, format!("road{r}"))).collect();
+    let junction: Vec<(u32, u32)> = (0..roads / 8).map(|j| name(&mut t, format!("junction{j}"))).collect();
+    let to_road = |n: (u32, u32), contact: u32| [1, 0, n.0, n.1, contact, 1, 0];
+    for r in 0..roads {
+        let (j, k) = (r / 8, r % 8);
+        let (a, b) = (road[8 * j + k % 4], road[8 * j + (k + 1) % 4]);
+        let (inside, from, to) = if k < 4 {
+            // an arm: from the next group's arm to the junction; one in eight leaves the junction out
+            let next = road[(8 * (j + 1) + k) % roads];
+            let end = if dice.one_in(8) { [0; 7] } else { [1, 1, junction[j].0, junction[j].1, 0, 0, 0] };
+            ((ABSENT, 0), to_road(next, 0), end)
+        } else {
+            (junction[j], to_road(a, 1), to_road(b, 1))
+        };
+        t.roads.extend([road[r].0, road[r].1, inside.0, inside.1]);
+        t.roads.extend(from);
+        t.roads.extend(to);
+        t.roads.extend([2 * r as u32, 2]);
+        t.sections.extend([0, 1]);
+    }
+    for (j, n) in junction.iter().enumerate() {
+        let first = (t.connections.len() / CONNECTION) as u32;
+        for k in 0..4 {
+            for (from, to, contact) in [(k, 4 + k, 0u32), ((k + 1) % 4, 4 + k, 1)] {
+                let (a, b) = (road[8 * j + from], road[8 * j + to]);
+                let begin = (t.pairs.len() / PAIR) as u32;
+                for l in 1..6u32 {
+                    t.pairs.extend([l.wrapping_neg(), if contact == 0 { l.wrapping_neg() } else { l }]);
+                }
+                t.connections.extend([a.0, a.1, b.0, b.1, contact, begin, 5]);
+            }
+        }
+        t.junctions.extend([n.0, n.1, 0, first, 8]);
+    }
+    let more = lanes - 10 * roads;
+    for r in 0..roads {
+        for s in 0..2 {
+            for l in 1..=(5 + u32::from(s == 0 && r < more)) {
+                let id = (t.lanes.len() / LANE) as u32;
+                let way = if dice.one_in(10) { 2 } else { 0 };
+                let number = l.wrapping_neg();
+                t.lanes.extend([id, road[r].0, road[r].1, s, number, way, 1, number, 1, number]);
+                let x = dice.below(1000) as f32;
+                for e in 0..2 {
+                    for side in 0..2 {
+                        t.edges.extend([x + e as f32 * 30.0 + dice.below(3) as f32 * 0.06, l as f32 * 3.5 + side as f32 * 3.5, 0.0]);
+                    }
+                }
+            }
+        }
+    }
+    t
+}
+
+/// The least seconds of many runs.
+fn best(times: usize, mut run: impl FnMut() -> f64) -> f64 {
+    (0..times).map(|_| run()).fold(f64::INFINITY, f64::min)
+}
+
+fn clocked<T>(run: impl FnOnce() -> T) -> f64 {
+    let clock = Instant::now();
+    black_box(run());
+    clock.elapsed().as_secs_f64()
+}
+
+/// Repair, succession, gap check and reversal of this library, in seconds, and how many gap rows there were.
+fn ours(t: &Tables, times: usize) -> ([f64; 4], usize) {
+    let n = t.lanes.len() / LANE;
+    let mut out = calls::Buffers::new([t.roads.len(), t.junctions.len(), 2 * t.connections.len(), 2 * t.pairs.len(), 4 * t.connections.len()]);
+    let repair = best(times, || clocked(|| assert_eq!(out.repair(t), 0)));
+    let [roads, junctions, connections, pairs, _]: [Vec<u32>; 5] = out.contents(&calls::REPAIR_WIDTHS).try_into().unwrap();
+    let m = Tables { roads, junctions, connections, pairs, ..t.clone() };
+    let mut out = calls::Buffers::new([n + 1, 131_072, n + 1, 131_072]);
+    let lists = best(times, || clocked(|| assert_eq!(out.succession(&m), 0)));
+    let [offsets, ids, _, _]: [Vec<u32>; 4] = out.contents(&calls::LIST_WIDTHS).try_into().unwrap();
+    let mut out = calls::Buffers::new([3 * ids.len()]);
+    let check = best(times, || clocked(|| assert_eq!(out.gaps(&m, &offsets, &ids), 0)));
+    let rows = out.contents(&[3])[0].len() / 3;
+    let marks: Vec<u32> = (0..t.roads.len() / ROAD).map(|r| (r % 2) as u32).collect();
+    let mut out = calls::Buffers::new([t.roads.len(), t.sections.len(), t.connections.len(), t.pairs.len(), t.lanes.len()]);
+    let mut edges = vec![0.0; n * EDGE];
+    let turn = best(times, || clocked(|| assert_eq!(out.reverse(t, &marks, &mut edges), 0)));
+    ([repair, lists, check, turn], rows)
+}
+
+fn main() {
+    let times: usize = std::env::args().nth(1).and_then(|a| a.parse().ok()).unwrap_or(200);
+    let mut totals = Vec::new();
+    println!("| map | call | this library, us | original, us | ratio |");
+    println!("|---|---|---:|---:|---:|");
+    for (roads, lanes) in [(400, 4_000), (1_600, 16_384)] {
+        let t = town(roads, lanes);
+        assert_eq!((t.lanes.len() / LANE, t.junctions.len() / JUNCTION), (lanes, roads / 8));
+        let (a, rows) = ours(&t, times);
+        let mut b = [f64::INFINITY; 3];
+        for _ in 0..times.min(60) {
+            let (s, gaps) = original::timed(original::read(&t));
+            assert_eq!(gaps, rows, "the two find other gaps");
+            (0..3).for_each(|k| b[k] = b[k].min(s[k]));
+        }
+        let us = |s: f64| format!("{:.1}", s * 1e6);
+        for (k, call) in ["repair", "succession", "gap check"].iter().enumerate() {
+            println!("| {roads} roads, {lanes} lanes | {call} | {} | {} | {:.2} |", us(a[k]), us(b[k]), a[k] / b[k]);
+        }
+        let (x, y) = (a[..3].iter().sum::<f64>(), b.iter().sum::<f64>());
+        println!("| {roads} roads, {lanes} lanes | the three together | {} | {} | {:.2} |", us(x), us(y), x / y);
+        println!("| {roads} roads, {lanes} lanes | reversal | {} | | |", us(a[3]));
+        totals.push((x, y));
+    }
+    println!("\nFrom 4,000 to 16,384 lanes: this library {:.2} times, the original {:.2} times.", totals[1].0 / totals[0].0, totals[1].1 / totals[0].1);
+    geometry(times);
+}
+
+fn geometry(times: usize) {
+    let mut dice = Dice::new(9);
+    let xs: Vec<f32> = (0..4096).map(|_| f32::from_bits(dice.word() as u32 & 0x7f7f_ffff)).collect();
+    let root = best(times, || clocked(|| xs.iter().map(|&x| { let mut r = 0.0; unsafe { vz_root(black_box(x), &mut r) }; r }).fold(0.0f32, |a, b| a.max(b))));
+    let sqrt = best(times, || clocked(|| xs.iter().map(|&x| plain_sqrt(black_box(x))).fold(0.0f32, |a, b| a.max(b))));
+    let es: Vec<[f32; 6]> = (0..4096).map(|_| std::array::from_fn(|_| dice.below(1000) as f32 * 0.01)).collect();
+    let ours = best(times, || clocked(|| es.windows(2).map(|w| unsafe { vz_distance(w[0].as_ptr(), w[1].as_ptr()) }).fold(0.0f32, |a, b| a.max(b))));
+    let theirs = best(times, || clocked(|| es.windows(2).map(|w| plain_distance(&w[0], &w[1])).fold(0.0f32, |a, b| a.max(b))));
+    let ns = |s: f64| s * 1e9 / 4096.0;
+    println!("\n| | this library, ns | Rust, ns | ratio |\n|---|---:|---:|---:|");
+    println!("| root, beside f32::sqrt | {:.2} | {:.2} | {:.2} |", ns(root), ns(sqrt), root / sqrt);
+    println!("| distance, beside gaps.rs | {:.2} | {:.2} | {:.2} |", ns(ours), ns(theirs), ours / theirs);
+}
+
+/// Called and not inlined, as this library's functions are.
+#[inline(never)]
+fn plain_sqrt(x: f32) -> f32 {
+    x.sqrt()
+}
+
+#[inline(never)]
+fn plain_distance(a: &[f32; 6], b: &[f32; 6]) -> f32 {
+    original::distance(a, b)
+}

@@ -1,0 +1,183 @@
+//! The exported functions of this library, over slices. Outputs are filled with a mark, so that a word that should have stayed shows.
+use crate::raw::Raw;
+use crate::tables::{Tables, CONNECTION, EDGE, JUNCTION, LANE, PAIR, ROAD};
+
+/// What every output word holds before a call.
+pub const UNTOUCHED: u32 = 0xdead_beef;
+
+macro_rules! exported {
+    ($($name:ident($($arg:ident: $type:ty),*);)*) => {
+        extern "C" {
+            $(fn $name(t: *const u8, tl: usize, r: *const u32, rl: usize, s: *const u32, sl: usize, j: *const u32, jl: usize, c: *const u32, cl: usize, p: *const u32, pl: usize, $($arg: $type),*) -> u32;)*
+        }
+    };
+}
+
+exported! {
+    vz_repair(a: *mut u32, al: usize, b: *mut u32, bl: usize, d: *mut u32, dl: usize, e: *mut u32, el: usize, f: *mut u32, fl: usize, written: *mut u32);
+    vz_succession(l: *const u32, ll: usize, a: *mut u32, al: usize, b: *mut u32, bl: usize, d: *mut u32, dl: usize, e: *mut u32, el: usize, written: *mut u32);
+    vz_gaps(l: *const u32, ll: usize, x: *const f32, xl: usize, o: *const u32, ol: usize, i: *const u32, il: usize, a: *mut u32, al: usize, written: *mut u32);
+    vz_reverse(l: *const u32, ll: usize, x: *const f32, xl: usize, m: *const u32, ml: usize, a: *mut u32, al: usize, b: *mut u32, bl: usize, d: *mut u32, dl: usize, e: *mut u32, el: usize, f: *mut u32, fl: usize, g: *mut f32, gl: usize, written: *mut u32);
+}
+
+extern "C" {
+    pub fn vz_root(x: f32, out: *mut f32) -> u32;
+    pub fn vz_distance(first: *const f32, second: *const f32) -> f32;
+    fn vz_length(s: *const f64, sl: usize, l: *const f64, ll: usize, length: f64, sum: *mut f64) -> u32;
+    fn vz_read_targets(t: *const u8, tl: usize, r: *const u32, rl: usize, a: *mut u32, al: usize, written: *mut u32) -> u32;
+    fn vz_read_lanes(t: *const u8, tl: usize, r: *const u32, rl: usize, a: *mut u32, al: usize, written: *mut u32) -> u32;
+    fn vz_read_junctions(t: *const u8, tl: usize, j: *const u32, jl: usize, c: *const u32, cl: usize, l: *const u32, ll: usize, a: *mut u32, al: usize, b: *mut u32, bl: usize, d: *mut u32, dl: usize, e: *mut u32, el: usize, written: *mut u32) -> u32;
+}
+
+/// Calls an exported function with the map first, then slices as a pointer and a length, then `written`.
+macro_rules! call {
+    ($name:ident, $t:expr, [$($read:expr),*], [$($out:expr),*], $written:expr) => {
+        unsafe {
+            call!(@ $name, $t, [$($read),*], [$($out),*], $written)
+        }
+    };
+    (@ $name:ident, $t:expr, [], [$a:expr, $b:expr, $c:expr, $d:expr, $e:expr], $w:expr) => {
+        $name($t.text.as_ptr(), $t.text.len(), $t.roads.as_ptr(), $t.roads.len(), $t.sections.as_ptr(), $t.sections.len(), $t.junctions.as_ptr(), $t.junctions.len(), $t.connections.as_ptr(), $t.connections.len(), $t.pairs.as_ptr(), $t.pairs.len(),
+            $a.as_mut_ptr(), $a.len(), $b.as_mut_ptr(), $b.len(), $c.as_mut_ptr(), $c.len(), $d.as_mut_ptr(), $d.len(), $e.as_mut_ptr(), $e.len(), $w.as_mut_ptr())
+    };
+    (@ $name:ident, $t:expr, [$l:expr], [$a:expr, $b:expr, $c:expr, $d:expr], $w:expr) => {
+        $name($t.text.as_ptr(), $t.text.len(), $t.roads.as_ptr(), $t.roads.len(), $t.sections.as_ptr(), $t.sections.len(), $t.junctions.as_ptr(), $t.junctions.len(), $t.connections.as_ptr(), $t.connections.len(), $t.pairs.as_ptr(), $t.pairs.len(),
+            $l.as_ptr(), $l.len(), $a.as_mut_ptr(), $a.len(), $b.as_mut_ptr(), $b.len(), $c.as_mut_ptr(), $c.len(), $d.as_mut_ptr(), $d.len(), $w.as_mut_ptr())
+    };
+    (@ $name:ident, $t:expr, [$l:expr, $x:expr, $o:expr, $i:expr], [$a:expr], $w:expr) => {
+        $name($t.text.as_ptr(), $t.text.len(), $t.roads.as_ptr(), $t.roads.len(), $t.sections.as_ptr(), $t.sections.len(), $t.junctions.as_ptr(), $t.junctions.len(), $t.connections.as_ptr(), $t.connections.len(), $t.pairs.as_ptr(), $t.pairs.len(),
+            $l.as_ptr(), $l.len(), $x.as_ptr(), $x.len(), $o.as_ptr(), $o.len(), $i.as_ptr(), $i.len(), $a.as_mut_ptr(), $a.len(), $w.as_mut_ptr())
+    };
+    (@ $name:ident, $t:expr, [$l:expr, $x:expr, $m:expr], [$a:expr, $b:expr, $c:expr, $d:expr, $e:expr, $f:expr], $w:expr) => {
+        $name($t.text.as_ptr(), $t.text.len(), $t.roads.as_ptr(), $t.roads.len(), $t.sections.as_ptr(), $t.sections.len(), $t.junctions.as_ptr(), $t.junctions.len(), $t.connections.as_ptr(), $t.connections.len(), $t.pairs.as_ptr(), $t.pairs.len(),
+            $l.as_ptr(), $l.len(), $x.as_ptr(), $x.len(), $m.as_ptr(), $m.len(),
+            $a.as_mut_ptr(), $a.len(), $b.as_mut_ptr(), $b.len(), $c.as_mut_ptr(), $c.len(), $d.as_mut_ptr(), $d.len(), $e.as_mut_ptr(), $e.len(), $f.as_mut_ptr(), $f.len(), $w.as_mut_ptr())
+    };
+}
+
+/// What a call answered and left: the refusal number (0 accepted), the counts, and each output word for word.
+#[derive(Clone, Debug, PartialEq)]
+pub struct Outcome {
+    pub refusal: u32,
+    pub written: Vec<u32>,
+    pub outs: Vec<Vec<u32>>,
+}
+
+impl Outcome {
+    /// A refusal changes no lent word.
+    pub fn untouched(&self) -> bool {
+        self.written.iter().chain(self.outs.iter().flatten()).all(|&w| w == UNTOUCHED)
+    }
+
+    /// The rows written, output by output, after a look that every word behind them is untouched.
+    pub fn contents(&self, widths: &[usize]) -> Vec<Vec<u32>> {
+        assert_eq!(self.refusal, 0);
+        self.outs
+            .iter()
+            .zip(widths)
+            .zip(&self.written)
+            .map(|((out, width), rows)| {
+                let (content, rest) = out.split_at(*rows as usize * width);
+                assert!(rest.iter().all(|&w| w == UNTOUCHED), "a word behind the rows was touched");
+                content.to_vec()
+            })
+            .collect()
+    }
+}
+
+pub const REPAIR_WIDTHS: [usize; 5] = [ROAD, JUNCTION, CONNECTION, PAIR, 4];
+pub const LIST_WIDTHS: [usize; 4] = [1, 1, 1, 1];
+pub const READING_WIDTHS: [usize; 4] = [JUNCTION, CONNECTION, PAIR, 4];
+pub const REVERSAL_WIDTHS: [usize; 6] = [ROAD, 1, CONNECTION, PAIR, LANE, EDGE];
+
+/// Outputs that are kept from call to call.
+pub struct Buffers {
+    pub written: Vec<u32>,
+    pub outs: Vec<Vec<u32>>,
+}
+
+impl Buffers {
+    pub fn new<const N: usize>(lengths: [usize; N]) -> Self {
+        Buffers { written: vec![UNTOUCHED; N.max(6)], outs: lengths.iter().map(|&n| vec![UNTOUCHED; n]).collect() }
+    }
+    pub fn repair(&mut self, t: &Tables) -> u32 {
+        let [a, b, c, d, e] = &mut self.outs[..] else { unreachable!() };
+        call!(vz_repair, t, [], [a, b, c, d, e], self.written)
+    }
+    pub fn succession(&mut self, t: &Tables) -> u32 {
+        let [a, b, c, d] = &mut self.outs[..] else { unreachable!() };
+        call!(vz_succession, t, [t.lanes], [a, b, c, d], self.written)
+    }
+    pub fn gaps(&mut self, t: &Tables, offsets: &[u32], ids: &[u32]) -> u32 {
+        let [a] = &mut self.outs[..] else { unreachable!() };
+        call!(vz_gaps, t, [t.lanes, t.edges, offsets, ids], [a], self.written)
+    }
+    pub fn reverse(&mut self, t: &Tables, marks: &[u32], edges: &mut [f32]) -> u32 {
+        let [a, b, c, d, e] = &mut self.outs[..] else { unreachable!() };
+        call!(vz_reverse, t, [t.lanes, t.edges, marks], [a, b, c, d, e, edges], self.written)
+    }
+    /// The rows written, output by output.
+    pub fn contents(&self, widths: &[usize]) -> Vec<Vec<u32>> {
+        self.outs.iter().zip(widths).zip(&self.written).map(|((o, w), n)| o[..*n as usize * w].to_vec()).collect()
+    }
+    fn outcome(mut self, refusal: u32) -> Outcome {
+        self.written.truncate(self.outs.len());
+        Outcome { refusal, written: self.written, outs: self.outs }
+    }
+}
+
+pub fn repair(t: &Tables, lengths: [usize; 5]) -> Outcome {
+    let mut b = Buffers::new(lengths);
+    let refusal = b.repair(t);
+    b.outcome(refusal)
+}
+
+pub fn succession(t: &Tables, lengths: [usize; 4]) -> Outcome {
+    let mut b = Buffers::new(lengths);
+    let refusal = b.succession(t);
+    b.outcome(refusal)
+}
+
+pub fn gaps(t: &Tables, offsets: &[u32], ids: &[u32], length: usize) -> Outcome {
+    let mut b = Buffers::new([length]);
+    let refusal = b.gaps(t, offsets, ids);
+    b.outcome(refusal)
+}
+
+/// The edges come back as their bits.
+pub fn reverse(t: &Tables, marks: &[u32], [roads, sections, connections, pairs, lanes, edges]: [usize; 6]) -> Outcome {
+    let mut b = Buffers::new([roads, sections, connections, pairs, lanes]);
+    let mut floats = vec![f32::from_bits(UNTOUCHED); edges];
+    let refusal = b.reverse(t, marks, &mut floats);
+    b.outs.push(floats.iter().map(|x| x.to_bits()).collect());
+    b.outcome(refusal)
+}
+
+pub fn read_targets(raw: &Raw, length: usize) -> Outcome {
+    let mut b = Buffers::new([length]);
+    let refusal = unsafe { vz_read_targets(raw.text.as_ptr(), raw.text.len(), raw.targets.as_ptr(), raw.targets.len(), b.outs[0].as_mut_ptr(), length, b.written.as_mut_ptr()) };
+    b.outcome(refusal)
+}
+
+pub fn read_lanes(raw: &Raw, length: usize) -> Outcome {
+    let mut b = Buffers::new([length]);
+    let refusal = unsafe { vz_read_lanes(raw.text.as_ptr(), raw.text.len(), raw.lanes.as_ptr(), raw.lanes.len(), b.outs[0].as_mut_ptr(), length, b.written.as_mut_ptr()) };
+    b.outcome(refusal)
+}
+
+pub fn read_junctions(raw: &Raw, lengths: [usize; 4]) -> Outcome {
+    let mut b = Buffers::new(lengths);
+    let [j, c, p, w] = &mut b.outs[..] else { unreachable!() };
+    let refusal = unsafe {
+        vz_read_junctions(raw.text.as_ptr(), raw.text.len(), raw.junctions.as_ptr(), raw.junctions.len(), raw.connections.as_ptr(), raw.connections.len(), raw.links.as_ptr(), raw.links.len(),
+            j.as_mut_ptr(), j.len(), c.as_mut_ptr(), c.len(), p.as_mut_ptr(), p.len(), w.as_mut_ptr(), w.len(), b.written.as_mut_ptr())
+    };
+    b.outcome(refusal)
+}
+
+/// The length check's answer, and what stands in `sum` after it.
+pub fn length(starts: &[f64], lengths: &[f64], length: f64) -> (u32, f64) {
+    let mut sum = f64::from_bits(u64::from(UNTOUCHED));
+    let answer = unsafe { vz_length(starts.as_ptr(), starts.len(), lengths.as_ptr(), lengths.len(), length, &mut sum) };
+    (answer, sum)
+}

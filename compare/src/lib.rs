@@ -1,0 +1,18 @@
+//! The original Rust and this library side by side: tables, calls, rules, random maps.
+#![allow(dead_code)] // of the original, only what is compared is called
+include!(concat!(env!("OUT_DIR"), "/original.rs"));
+pub mod calls;
+pub mod damage;
+pub mod maps;
+pub mod original;
+pub mod ours;
+pub mod raw;
+pub mod reversal;
+pub mod rules;
+mod shim;
+pub mod tables;
+pub mod turned;
+pub use shim::{Direction, Lane, LaneId};
+pub mod road {
+    pub use crate::shim::Road;
+}

@@ -1,0 +1,70 @@
+//! Runs the original and this library on random maps and compares repaired tables, warnings, lists and gap rows; then faulty tables; then sequences of reversals; then attribute reading.
+use compare::tables::{Dice, Tables, CONNECTION, LANE};
+use compare::{damage, maps, original, ours, raw, turned};
+
+/// How much the maps gave to compare.
+#[derive(Default)]
+struct Seen {
+    warnings: usize,
+    added: usize,
+    successors: usize,
+    two_way: usize,
+    gaps: usize,
+}
+
+/// One admitted map through both.
+fn beside(t: &Tables, seen: &mut Seen) -> Result<(), String> {
+    let theirs = original::repair(t);
+    let (m, found) = ours::repair(t);
+    if theirs != found {
+        return Err(format!("repair\n theirs {theirs:?}\n ours   {found:?}"));
+    }
+    let (a, b) = (original::lists_and_gaps(t), ours::lists_and_gaps(&m));
+    if a.0 != b.0 {
+        return Err(format!("lists\n theirs {:?}\n ours   {:?}", a.0, b.0));
+    }
+    if a.1 != b.1 {
+        return Err(format!("gaps\n theirs {:?}\n ours   {:?}", a.1, b.1));
+    }
+    seen.warnings += found.warnings.len();
+    seen.added += Tables::rows(&m.connections, CONNECTION) - Tables::rows(&t.connections, CONNECTION);
+    seen.successors += b.0.successors.iter().map(Vec::len).sum::<usize>();
+    seen.two_way += t.lanes.chunks(LANE).zip(&b.0.successors).filter(|(l, s)| l[5] == 2 && !s.is_empty()).count();
+    seen.gaps += b.1.len();
+    Ok(())
+}
+
+fn main() {
+    let mut args = std::env::args().skip(1);
+    let n: u64 = args.next().and_then(|a| a.parse().ok()).unwrap_or(1000);
+    let seed: u64 = args.next().and_then(|a| a.parse().ok()).unwrap_or(1);
+    let mut dice = Dice::new(seed);
+    let (mut seen, mut tally, mut count, mut wrong) = (Seen::default(), damage::Tally::default(), turned::Count::default(), 0);
+    let mut say = |k: &str, r: Result<(), String>| {
+        if let Err(e) = r {
+            wrong += 1;
+            if wrong <= 5 {
+                println!("{k}: {e}");
+            }
+        }
+    };
+    say("limits", damage::limits());
+    for k in 0..n {
+        let t = maps::random(&mut dice);
+        say(&format!("map {k}"), beside(&t, &mut seen));
+        say(&format!("map {k} damaged"), damage::run(&t, &mut dice, &mut tally));
+        say(&format!("map {k} reversed"), turned::run(&t, &mut dice, &mut count));
+        say(&format!("raw tables {k}"), raw::run(&mut dice, &mut tally));
+    }
+    println!("{n} maps, seed {seed}");
+    println!("  beside the original: {} warnings, {} connections added, {} successors, {} two-way lanes with successors, {} gap rows", seen.warnings, seen.added, seen.successors, seen.two_way, seen.gaps);
+    println!("  damaged tables:");
+    tally.print();
+    println!("  reversals: {} accepted, {} refused", count.accepted, count.refused);
+    let missing = tally.missing();
+    if !missing.is_empty() {
+        println!("  answers that no table brought about: {missing:?}");
+    }
+    println!("{wrong} disagreements");
+    std::process::exit(i32::from(wrong > 0 || (n >= 2000 && !missing.is_empty())));
+}

@@ -1,0 +1,6 @@
+pub mod Left
+pub mod WarningsFew
+pub mod CountsFit
+pub mod ReadingFits
+pub mod PlaceLaws
+pub mod Accepted

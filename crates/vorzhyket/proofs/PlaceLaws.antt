@@ -1,0 +1,93 @@
+-- The words of a place are the part.
+use mathlib.Core.Path.{_≡_, refl, sym, ap, _∙_}
+use mathlib.Core.Bool.{Bool, true, false, not, _&&_, cond}
+use mathlib.Core.List.{List, [], _∷_}
+use Prim.Native.Nat.{ℕ, zero, suc, _-_, _≤_, _<_}
+use native.Mathlib.Omega.{arith}
+use lib.Dec.{leb, ltb}
+use lib.ListN.{length, take, drop, length-take}
+use borrow.Author.Tests.{eq-eqb, ltb-true, ne-eqb}
+use Rattle.model.specs.Lists.{pick}
+use Rattle.model.specs.Lookup.{listLookup, listPart, rowListed}
+use Rattle.model.specs.Rows.{part, word}
+use Rattle.model.specs.Text.{bytesOf, nameBytes, placed}
+use Rattle.words.specs.Rows.{span}
+use Rattle.words.proofs.Scans.{left-on}
+use Rattle.vorzhyket.specs.Places.{asksBefore, listPlace, lookupPlace, namePlace, partAt, placeOf}
+
+-- ---- a place written down
+pub place-empty : (first : ℕ) {n m : ℕ} → n ≡ m → n ≡ 0 → 0 ∷ 0 ∷ [] ≡ placeOf first m
+place-empty first e z = ap (placeOf first) (sym z ∙ e)
+
+pub place-full : (first : ℕ) {n m : ℕ} → n ≡ m → (n ≡ 0 → ⊥) → first ∷ n ∷ [] ≡ placeOf first m
+place-full first {n} e z = go n z ∙ ap (placeOf first) e
+  where
+    go : (n : ℕ) → (n ≡ 0 → ⊥) → first ∷ n ∷ [] ≡ placeOf first n
+    go zero z = absurd (z refl)
+    go (suc n) z = refl
+
+-- ---- and read back
+module _ {A : Type 0} where
+  take-again : (c : ℕ) (xs : List A) → take (length (take c xs)) xs ≡ take c xs
+  take-again zero xs = refl
+  take-again (suc c) [] = refl
+  take-again (suc c) (x ∷ xs) = ap {B = List A} (λ l. x ∷ l) (take-again c xs)
+
+  no-length : (xs : List A) → length xs ≡ 0 → [] ≡ xs
+  no-length [] e = refl
+  no-length (x ∷ xs) e = absurd (let z : suc (length xs) ≡ 0 = e in omega arith)
+
+  place-there : (first c : ℕ) (xs : List A) → partAt (placeOf first (length (part first c xs))) xs ≡ part first c xs
+  place-there first c xs = go (length (part first c xs)) refl
+    where
+      go : (n : ℕ) → length (part first c xs) ≡ n → partAt (placeOf first n) xs ≡ part first c xs
+      go zero e = no-length (part first c xs) e
+      go (suc n) e = ap (λ (k : ℕ). part first k xs) (sym e) ∙ take-again c (drop first xs)
+
+  -- the part, or none
+  place-if : (b : Bool) (first c : ℕ) (xs : List A) → partAt (placeOf first (length (cond b (part first c xs) []))) xs ≡ cond b (part first c xs) []
+  place-if true first c xs = place-there first c xs
+  place-if false first c xs = refl
+
+-- THE LIST: its place names the lanes that list lookup gives, in the identities that are asked
+pub list-there : (so si po pi : List ℕ) (row : ℕ) (before : Bool) → partAt (lookupPlace so si po pi row before) (pick before si pi) ≡ listLookup so si po pi row before
+unfolding lookupPlace listLookup listPlace listPart
+list-there so si po pi row false = place-if (rowListed so si row) (word so row) (word so (suc row) - word so row) si
+list-there so si po pi row true = place-if (rowListed po pi row) (word po row) (word po (suc row) - word po row) pi
+
+-- THE NAME: its place names the name's bytes
+pub name-there : (text : List ℕ) (start size : ℕ) → partAt (namePlace text start size) text ≡ nameBytes text (span start size)
+unfolding namePlace nameBytes bytesOf
+name-there text start size = place-if (placed text (span start size)) start size text
+
+-- ---- the side that is asked
+module _ (so si po pi : List ℕ) (row before : ℕ) {p : List ℕ} where
+  pub asked-onward : before ≡ 0 → p ≡ listPlace so si row → p ≡ lookupPlace so si po pi row (asksBefore before)
+  unfolding lookupPlace
+  asked-onward z e = e ∙ ap (λ (b : Bool). pick (not b) (listPlace so si row) (listPlace po pi row)) (sym (eq-eqb before 0 z))
+
+  pub asked-before : (before ≡ 0 → ⊥) → p ≡ listPlace po pi row → p ≡ lookupPlace so si po pi row (asksBefore before)
+  unfolding lookupPlace
+  asked-before z e = e ∙ ap (λ (b : Bool). pick (not b) (listPlace so si row) (listPlace po pi row)) (sym (ne-eqb before 0 z))
+
+-- ---- what a part that is not empty says
+module _ (offsets ids : List ℕ) (row : ℕ) where
+  pub list-long : (length (listPart offsets ids row) ≡ 0 → ⊥) → (suc row < length offsets) × (length (listPart offsets ids row) ≤ word offsets (suc row))
+  unfolding listPart
+  list-long = go (rowListed offsets ids row) refl
+    where
+      go : (b : Bool) → rowListed offsets ids row ≡ b → (length (cond b (part (word offsets row) (word offsets (suc row) - word offsets row) ids) []) ≡ 0 → ⊥) →
+          (suc row < length offsets) × (length (cond b (part (word offsets row) (word offsets (suc row) - word offsets row) ids) []) ≤ word offsets (suc row))
+      go false e z = absurd (z refl)
+      go true e z = (inside e, let l = length-take (word offsets (suc row) - word offsets row) (drop (word offsets row) ids) in omega arith)
+        where
+          inside : rowListed offsets ids row ≡ true → suc row < length offsets
+          inside e = unfold rowListed in ltb-true (suc row) (length offsets) (left-on (ltb (suc row) (length offsets)) (leb (word offsets row) (word offsets (suc row))) (left-on (ltb (suc row) (length offsets) && leb (word offsets row) (word offsets (suc row))) (leb (word offsets (suc row)) (length ids)) e))
+
+pub name-long : (text : List ℕ) (start size : ℕ) → length (nameBytes text (span start size)) ≤ size
+unfolding nameBytes bytesOf
+name-long text start size = go (placed text (span start size))
+  where
+    go : (b : Bool) → length (cond b (take size (drop start text)) []) ≤ size
+    go true = let l = length-take size (drop start text) in omega arith
+    go false = omega arith

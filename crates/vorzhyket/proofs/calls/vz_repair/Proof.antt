@@ -1,0 +1,42 @@
+use Rattle.vorzhyket.proofs.Left.{counted, leaves}
+use Rattle.vorzhyket.proofs.CountsFit.{repair-fits}
+use borrow.Author.Needs.{needs}
+use Rattle.vorzhyket.proofs.calls.vz_repair.Statement.{statement}
+use Rattle.vorzhyket.proofs.calls.vz_repair.Tie as tie
+
+repair-requires : tie.Need-repair-requires
+repair-requires c κs = search needs
+
+repaired-requires : tie.Need-repaired-requires
+repaired-requires c κs = counted (c .before .before .before .before .before .before .before .before .before .before .before .repair .ensures) (repair-fits _ _)
+
+same-length : tie.Need-same-length
+same-length c = search needs
+
+same-length-2 : tie.Need-same-length-2
+same-length-2 c = search needs
+
+same-length-3 : tie.Need-same-length-3
+same-length-3 c = search needs
+
+same-length-4 : tie.Need-same-length-4
+same-length-4 c = search needs
+
+same-length-5 : tie.Need-same-length-5
+same-length-5 c = search needs
+
+returns : tie.Need-returns
+returns c = leaves (c .before .before .before .before .before .before .before .before .before .before .before .before .repair .ensures) (c .before .before .before .before .before .before .before .before .before .before .before .before .before .before .before .before .before .before .before .before .before .before .before .before .before .before .before .before .before .args .written .now) (c .repaired .ensures)
+
+pub vz-repair-spec : {M : Type 1} → statement M
+vz-repair-spec =
+    tie.close
+    (tie.spec
+    repair-requires
+    repaired-requires
+    same-length
+    same-length-2
+    same-length-3
+    same-length-4
+    same-length-5
+    returns)

@@ -1,0 +1,40 @@
+use mathlib.Core.Path.{_∙_}
+use mathlib.Core.List.{[], _∷_}
+use Rattle.geometry.specs.Segment.{distanceOf}
+use borrow.Author.Needs.{needs}
+use Rattle.vorzhyket.proofs.measures.vz_distance.Statement.{statement}
+use Rattle.vorzhyket.proofs.measures.vz_distance.Tie as tie
+
+point-at-requires : tie.Need-point-at-requires
+point-at-requires c κs = search needs
+
+point-at-requires-2 : tie.Need-point-at-requires-2
+point-at-requires-2 c κs = search needs
+
+point-at-requires-3 : tie.Need-point-at-requires-3
+point-at-requires-3 c κs = search needs
+
+point-at-requires-4 : tie.Need-point-at-requires-4
+point-at-requires-4 c κs = search needs
+
+distance-requires : tie.Need-distance-requires
+distance-requires c κs = search needs
+
+returns : tie.Need-returns
+returns c =
+    let p = c .before .before .before .before .before .before .before .point-at .ensures in
+    let q = c .before .before .before .before .before .point-at2 .ensures in
+    let r = c .before .before .before .point-at3 .ensures in
+    let s = c .before .point-at4 .ensures in
+    c .distance .ensures ∙ (λ i. distanceOf (p i ∷ q i ∷ []) (r i ∷ s i ∷ []))
+
+pub vz-distance-spec : {M : Type 1} → statement M
+vz-distance-spec =
+    tie.close
+    (tie.spec
+    point-at-requires
+    point-at-requires-2
+    point-at-requires-3
+    point-at-requires-4
+    distance-requires
+    returns)
