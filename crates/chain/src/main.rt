@@ -121,14 +121,7 @@ fn say_read(name: &[u8], answer: ReadTable) {
     }
 }
 
-fn say_lists<'a>(
-    a: &[u32],
-    b: &'a [u32],
-    c: &[u32],
-    d: &'a [u32],
-    identity: u32,
-    row: usize,
-) {
+fn say_lists<'a>(a: &[u32], b: &'a [u32], c: &[u32], d: &'a [u32], identity: u32, row: usize) {
     print(b"lane ");
     print_number(identity);
     print(b", onward:");
