@@ -324,8 +324,8 @@ fn lengths(dice: &mut Dice) -> Result<(), String> {
     }
 }
 
-/// The three calls on damaged raw tables.
-fn damaged(map: &Raw, dice: &mut Dice, tally: &mut Tally) -> Result<(), String> {
+/// One change at random.
+pub fn damage(map: &Raw, dice: &mut Dice) -> Raw {
     let mut raw = map.clone();
     let size = raw.text.len() as u32;
     let k = dice.below(5);
@@ -343,18 +343,29 @@ fn damaged(map: &Raw, dice: &mut Dice, tally: &mut Tally) -> Result<(), String> 
         }
         _ => (),
     }
+    raw
+}
+
+/// The three calls on damaged raw tables.
+fn damaged(map: &Raw, dice: &mut Dice, tally: &mut Tally) -> Result<(), String> {
+    let raw = damage(map, dice);
     let long = 4 * (raw.targets.len() + raw.lanes.len() + raw.junctions.len() + raw.connections.len() + raw.links.len()) + 4;
     judge("targets", rules::read_targets(&raw), || calls::read_targets(&raw, long), &[7], |n| calls::read_targets(&raw, n[0]), dice, tally)?;
     judge("lanes", rules::read_lanes(&raw), || calls::read_lanes(&raw, long), &[4], |n| calls::read_lanes(&raw, n[0]), dice, tally)?;
     judge("junctions", rules::read_junctions(&raw), || calls::read_junctions(&raw, [long; 4]), &calls::READING_WIDTHS, |n| calls::read_junctions(&raw, lengths_of(n)), dice, tally)
 }
 
+/// Reading beside the original.
+pub fn beside(raw: &Raw) -> Result<(), String> {
+    targets(raw)?;
+    lanes(raw)?;
+    read_junctions(raw)
+}
+
 /// All of reading on one set of raw tables, and on a damaged copy.
 pub fn run(dice: &mut Dice, tally: &mut Tally) -> Result<(), String> {
     let raw = random(dice);
-    targets(&raw)?;
-    lanes(&raw)?;
-    read_junctions(&raw)?;
+    beside(&raw)?;
     whole(&raw, dice)?;
     damaged(&raw, dice, tally)?;
     lengths(dice)

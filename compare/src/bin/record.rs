@@ -4,11 +4,15 @@
 //! 1 the tables: text, roads, sections, junctions, connections, pairs, lanes, edges (as bits), each as its length and its words;
 //! 2 the tables that repair writes in place of the last ones: roads, junctions, connections, pairs;
 //! 3 repair, 4 succession, 5 gap check (offsets and identities come first), 6 reversal (marks come first): the refusal (0 accepted), then
-//!   for each output its length, how many words are written to it, and these words; 0 ends the stream.
+//!   for each output its length, how many words are written to it, and these words;
+//! 7 reading of targets and 8 of lanes (text and raw rows come first), 9 of junctions (text, raw junctions, connections and lane links come first): likewise;
+//! 10 the length check: starts, lengths and the road's length in thousandths, then the answer and the two halves of the sum's bits, the high one first;
+//! 0 ends the stream.
 //! Every other word of an output, and every count after a refusal, must stay what it was before the call.
 use compare::calls;
 use compare::original;
 use compare::tables::{Dice, Tables, LANE};
+use compare::raw::{self, Raw};
 use compare::{damage, maps, ours, reversal, rules};
 
 fn put(words: &[u32]) {
@@ -111,6 +115,39 @@ fn damaged(map: &Tables, dice: &mut Dice) {
     refused(6, &[&marks], rules::reverse(&t, &marks), 6);
 }
 
+/// The three readings of raw tables, as far as they are refused or, for tables that are not damaged, accepted.
+fn read(raw: &Raw, dice: &mut Dice, accepted: bool) {
+    let text: Vec<u32> = raw.text.iter().map(|&b| u32::from(b)).collect();
+    let words = |out: calls::Outcome, widths: &[usize]| if out.refusal == 0 { out.contents(widths) } else { vec![vec![0; 20]; widths.len()] };
+    let broken = [rules::read_targets(raw), rules::read_lanes(raw), rules::read_junctions(raw)];
+    if accepted || broken[0] != 0 {
+        step(7, &[&text, &raw.targets], broken[0], words(calls::read_targets(raw, 1000), &[7]), dice);
+    }
+    if accepted || broken[1] != 0 {
+        step(8, &[&text, &raw.lanes], broken[1], words(calls::read_lanes(raw, 1000), &[4]), dice);
+    }
+    if accepted || broken[2] != 0 {
+        step(9, &[&text, &raw.junctions, &raw.connections, &raw.links], broken[2], words(calls::read_junctions(raw, [1000; 4]), &calls::READING_WIDTHS), dice);
+    }
+}
+
+/// A length check, in thousandths.
+fn length(dice: &mut Dice) {
+    let n = dice.below(3);
+    let mut some = |n: usize| (0..n).map(|_| dice.below(5_000) as u32).collect::<Vec<_>>();
+    let (starts, sizes, off) = (some(n), some(n), some(2));
+    let sizes = if off[0] < 500 { [sizes, vec![1]].concat() } else { sizes };
+    let total = starts.last().unwrap_or(&0) + sizes.last().unwrap_or(&0) + off[1] % 25;
+    let metres = |ns: &[u32]| ns.iter().map(|&n| f64::from(n) / 1000.0).collect::<Vec<_>>();
+    let report = if starts.len() == sizes.len() { original::road_length(&metres(&starts), &metres(&sizes), f64::from(total) / 1000.0) } else { None };
+    println!("10");
+    put(&starts);
+    put(&sizes);
+    let bits = report.unwrap_or(0.0).to_bits();
+    let answer = if starts.len() != sizes.len() { 16 } else { u32::from(report.is_some()) };
+    println!("{total} {answer} {} {}", bits >> 32, bits & 0xffff_ffff);
+}
+
 fn main() {
     let mut args = std::env::args().skip(1);
     let n: usize = args.next().and_then(|a| a.parse().ok()).unwrap_or(200);
@@ -123,6 +160,17 @@ fn main() {
             left -= 1;
             admitted(&t, &mut dice);
             damaged(&t, &mut dice);
+        }
+    }
+    let mut left = n * 3 / 4;
+    while left > 0 {
+        let tables = raw::random(&mut dice);
+        if tables.text.len() <= 900 && tables.links.len() + tables.connections.len() < 300 {
+            left -= 1;
+            raw::beside(&tables).expect("record what the two agree on");
+            read(&tables, &mut dice, true);
+            read(&raw::damage(&tables, &mut dice), &mut dice, false);
+            length(&mut dice);
         }
     }
     println!("0");

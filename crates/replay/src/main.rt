@@ -1,6 +1,7 @@
 // Recorded answers of the original, run through the proved calls: how many come out as recorded.
 mod compare;
 mod print;
+mod readings;
 mod state;
 mod steps;
 mod stream;

@@ -1,5 +1,5 @@
 // What is known between steps, a word each: the places of six tables (0 to 5), the lengths of text and edges (6, 7),
-// and for each of the four calls how many answers were accepted and refused as recorded, and how many were not (8 to 19).
+// and for each of eight calls how many answers were accepted and refused as recorded, and how many were not (8 to 31).
 ghost use Prim.Native.Nat.{_≤_};
 
 pub fn get(state: &[usize], k: usize) -> usize {

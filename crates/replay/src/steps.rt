@@ -25,7 +25,7 @@ fn table<'a>(nums: &'a [u32], state: &[usize], k: usize) -> &'a [u32] {
     list(nums, get(state, k))
 }
 
-fn found(told: bool, outputs: bool) -> u32 {
+pub fn found(told: bool, outputs: bool) -> u32 {
     if !told {
         return 1;
     }

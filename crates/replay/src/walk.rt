@@ -4,6 +4,10 @@ use crate::print::print;
 use crate::print::print_number;
 use crate::print::say;
 use crate::print::say_other;
+use crate::readings::junctions_again;
+use crate::readings::lanes_again;
+use crate::readings::length_again;
+use crate::readings::targets_again;
 use crate::state::count;
 use crate::state::front;
 use crate::state::front_floats;
@@ -122,6 +126,76 @@ fn reversal_call(
     past(nums, out, 6)
 }
 
+// A reading of targets or lanes: text and raw rows come before its answer.
+fn table_call(nums: &[u32], at: usize, text: &mut [u8], state: &mut [usize], what: u32) -> usize {
+    let words = list(nums, at);
+    put_bytes(words, text);
+    let raw = after(nums, at);
+    let answer = after(nums, raw);
+    let out = next(nums, answer);
+    if what == 7 {
+        let found = targets_again(nums, front(text, words.len()), list(nums, raw), answer, out);
+        count(state, 20 + kind(number(nums, answer), found));
+        say_other(found, at);
+        return past(nums, out, 1);
+    }
+    let found = lanes_again(nums, front(text, words.len()), list(nums, raw), answer, out);
+    count(state, 23 + kind(number(nums, answer), found));
+    say_other(found, at);
+    past(nums, out, 1)
+}
+
+// A reading of junctions: text and three raw tables come before its answer.
+fn junctions_call(nums: &[u32], at: usize, text: &mut [u8], state: &mut [usize]) -> usize {
+    let words = list(nums, at);
+    put_bytes(words, text);
+    let raw = after(nums, at);
+    let connections = after(nums, raw);
+    let links = after(nums, connections);
+    let answer = after(nums, links);
+    let out = next(nums, answer);
+    let found = junctions_again(
+        nums,
+        front(text, words.len()),
+        list(nums, raw),
+        list(nums, connections),
+        list(nums, links),
+        answer,
+        out,
+    );
+    count(state, 26 + kind(number(nums, answer), found));
+    say_other(found, at);
+    past(nums, out, 4)
+}
+
+// 16 is the length check's refusal.
+fn refusal(answer: u32) -> u32 {
+    if answer == 16 {
+        return 16;
+    }
+    0
+}
+
+// A length check: starts, lengths, the road's length, the answer, and the halves of the sum's bits.
+fn length_call(nums: &[u32], at: usize, state: &mut [usize]) -> usize {
+    let sizes = after(nums, at);
+    let length = after(nums, sizes);
+    let answer = next(nums, length);
+    let high = next(nums, answer);
+    let low = next(nums, high);
+    let found = length_again(
+        list(nums, at),
+        list(nums, sizes),
+        number(nums, length),
+        number(nums, answer),
+        number(nums, high),
+        number(nums, low),
+    );
+    count(state, 29 + kind(refusal(number(nums, answer)), found));
+    say_other(found, at);
+    next(nums, low)
+}
+
 // One step, whose kind stands before that place. Returns the place of the next, or 0 for a kind that is not known.
 fn step(
     nums: &[u32],
@@ -138,6 +212,10 @@ fn step(
         4 => map_call(nums, at, text, state, what),
         5 => gap_call(nums, at, text, edges, state),
         6 => reversal_call(nums, at, text, edges, state),
+        7 => table_call(nums, at, text, state, what),
+        8 => table_call(nums, at, text, state, what),
+        9 => junctions_call(nums, at, text, state),
+        10 => length_call(nums, at, state),
         _ => 0,
     }
 }
@@ -171,6 +249,30 @@ fn report(nums: &[u32], n: usize, at: usize, state: &[usize]) {
     );
     say(b"gap check", get(state, 14), get(state, 15), get(state, 16));
     say(b"reversal", get(state, 17), get(state, 18), get(state, 19));
+    say(
+        b"reading of targets",
+        get(state, 20),
+        get(state, 21),
+        get(state, 22),
+    );
+    say(
+        b"reading of lanes",
+        get(state, 23),
+        get(state, 24),
+        get(state, 25),
+    );
+    say(
+        b"reading of junctions",
+        get(state, 26),
+        get(state, 27),
+        get(state, 28),
+    );
+    say(
+        b"length check",
+        get(state, 29),
+        get(state, 30),
+        get(state, 31),
+    );
     if next(nums, at) != n {
         print(b"the stream breaks off at number ");
         print_number(at);
@@ -187,6 +289,6 @@ fn run(nums: &[u32], n: usize, text: &mut [u8], edges: &mut [f32], state: &mut [
 pub fn replay(nums: &[u32], n: usize) {
     let mut text = [0u8; 1024];
     let mut edges = [0.0f32; 1024];
-    let mut state = [0usize; 20];
+    let mut state = [0usize; 32];
     run(nums, n, &mut text, &mut edges, &mut state);
 }
