@@ -68,6 +68,22 @@ fn town(roads: usize, lanes: usize) -> Tables {
     t
 }
 
+/// The same town with one junction that has all connections.
+fn one_junction(mut t: Tables) -> Tables {
+    let name = [t.junctions[0], t.junctions[1]];
+    let all = (t.connections.len() / CONNECTION) as u32;
+    t.junctions = vec![name[0], name[1], 0, 0, all];
+    for r in t.roads.chunks_mut(ROAD) {
+        if r[2..4] != [ABSENT, 0] {
+            r[2..4].copy_from_slice(&name);
+        }
+        if r[11..13] == [1, 1] {
+            r[13..15].copy_from_slice(&name);
+        }
+    }
+    t
+}
+
 /// The least seconds of many runs.
 fn best(times: usize, mut run: impl FnMut() -> f64) -> f64 {
     (0..times).map(|_| run()).fold(f64::INFINITY, f64::min)
@@ -104,23 +120,24 @@ fn main() {
     let mut totals = Vec::new();
     println!("| map | call | this library, us | original, us | ratio |");
     println!("|---|---|---:|---:|---:|");
-    for (roads, lanes) in [(400, 4_000), (1_600, 16_384)] {
-        let t = town(roads, lanes);
-        assert_eq!((t.lanes.len() / LANE, t.junctions.len() / JUNCTION), (lanes, roads / 8));
+    for (roads, lanes, joined) in [(400, 4_000, false), (1_600, 16_384, false), (1_600, 16_384, true)] {
+        let t = if joined { one_junction(town(roads, lanes)) } else { town(roads, lanes) };
+        assert_eq!((t.lanes.len() / LANE, t.junctions.len() / JUNCTION), (lanes, if joined { 1 } else { roads / 8 }));
+        let map = format!("{roads} roads, {lanes} lanes{}", if joined { ", one junction" } else { "" });
         let (a, rows) = ours(&t, times);
         let mut b = [f64::INFINITY; 3];
-        for _ in 0..times.min(60) {
+        for _ in 0..times.min(if joined { 5 } else { 60 }) {
             let (s, gaps) = original::timed(original::read(&t));
             assert_eq!(gaps, rows, "the two find other gaps");
             (0..3).for_each(|k| b[k] = b[k].min(s[k]));
         }
         let us = |s: f64| format!("{:.1}", s * 1e6);
         for (k, call) in ["repair", "succession", "gap check"].iter().enumerate() {
-            println!("| {roads} roads, {lanes} lanes | {call} | {} | {} | {:.2} |", us(a[k]), us(b[k]), a[k] / b[k]);
+            println!("| {map} | {call} | {} | {} | {:.2} |", us(a[k]), us(b[k]), a[k] / b[k]);
         }
         let (x, y) = (a[..3].iter().sum::<f64>(), b.iter().sum::<f64>());
-        println!("| {roads} roads, {lanes} lanes | the three together | {} | {} | {:.2} |", us(x), us(y), x / y);
-        println!("| {roads} roads, {lanes} lanes | reversal | {} | | |", us(a[3]));
+        println!("| {map} | the three together | {} | {} | {:.2} |", us(x), us(y), x / y);
+        println!("| {map} | reversal | {} | | |", us(a[3]));
         totals.push((x, y));
     }
     println!("\nFrom 4,000 to 16,384 lanes: this library {:.2} times, the original {:.2} times.", totals[1].0 / totals[0].0, totals[1].1 / totals[0].1);
