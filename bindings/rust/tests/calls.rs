@@ -124,3 +124,16 @@ fn distances() {
     assert_eq!(distance(&[0., 0., 0., 0., 2., 0.], &[0.25, 0., 0., 0.25, 2., 0.]), 0.25);
     assert_eq!(distance(&[0., 0., 0., 0., 0., 0.], &[1., 2., 2., 1., 2., 2.]), 3.0);
 }
+
+/// A call fits a thread of 1.5 MiB, as the header says.
+#[test]
+fn little_stack() {
+    let run = || {
+        let m = three_lanes();
+        repaired(&m, 100).unwrap();
+        let [offsets, ids, ..] = lists(&m, 10).unwrap();
+        gap_rows(&m, &offsets, &ids, 0).unwrap();
+        reversed(&m, &[1, 0], 200).unwrap();
+    };
+    std::thread::Builder::new().stack_size(1536 * 1024).spawn(run).unwrap().join().unwrap();
+}
