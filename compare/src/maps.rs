@@ -61,10 +61,11 @@ impl Maker<'_> {
         if self.narrow && !self.dice.one_in(12) {
             return self.dice.pick(&[1, u32::MAX]);
         }
-        match self.dice.below(40) {
+        match self.dice.below(60) {
             0 => 0x7fff_ffff,
             1 => 0x8000_0001,
-            2 => 0,
+            2 => 0x8000_0000,
+            3 => 0,
             _ => self.dice.pick(&[1, 2, u32::MAX, u32::MAX - 1, 1, u32::MAX]),
         }
     }
