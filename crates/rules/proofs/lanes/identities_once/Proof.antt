@@ -1,9 +1,9 @@
-use lib.ListN.{length, length-replicate, getD-replicate}
+use lib.ListN.{length-replicate, getD-replicate}
 use mathlib.Core.Bool.{not}
 use Prim.Native.Nat.{ℕ}
 use mathlib.Core.Path.{ap}
 use borrow.Author.Needs.{needs}
-use Rattle.words.proofs.KeyLaws.{rows-in}
+use native.Mathlib.Omega.{arith}
 use Rattle.rules.proofs.lanes.identities_once.Statement.{statement}
 use Rattle.rules.proofs.lanes.identities_once.Tie as tie
 
@@ -14,7 +14,7 @@ slice-aggregate-link-ids-2 : tie.Need-slice-aggregate-link-ids-2
 slice-aggregate-link-ids-2 c = search needs
 
 link-ids-requires : tie.Need-link-ids-requires
-link-ids-requires c κs = ((rows-in (length (c .before .before .before .args .lanes .now)) 10, c .before .before .before .pre, length-replicate {A = ℕ} 16384 0, length-replicate {A = ℕ} 16384 0), λ b h. getD-replicate {A = ℕ} 16384 b 0 0 h)
+link-ids-requires c κs = ((omega arith, omega (arith, c .before .before .before .pre), length-replicate {A = ℕ} 16384 0, length-replicate {A = ℕ} 16384 0), λ b h. getD-replicate {A = ℕ} 16384 b 0 0 h)
 
 returns : tie.Need-returns
 returns c = ap not (c .before .before .link-ids .ensures .0)
