@@ -46,13 +46,14 @@ pub fn find_name(
     requires { ⌜ Chained (nameHash (now text) w k (now ws)) n (now heads) (now next) ⌝ }
     ensures { λ r. ⌜ r ≡ lastOf n (bears (now (text .entry)) w k (now (ws .entry)) (span start size)) ⌝ }
 {
-    let mut at = rows::word(heads, names::bucket(text, start, size));
-    while at != 0 {
-        let r = at - 1;
+    let mut last = rows::word(heads, names::bucket(text, start, size));
+    while last != 0 {
+        let r = last - 1;
+        let before = rows::word(next, r);
         if names::named(text, ws, r * w + k, start, size) {
-            return at;
+            return last;
         }
-        at = rows::word(next, r);
+        last = before;
     }
     0
 }
