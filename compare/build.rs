@@ -1,5 +1,5 @@
 //! Takes links.rs, gaps.rs and coords.rs of libopendrive-rs from the checkout that LIBOPENDRIVE names, at build time.
-//! Only `across` is replaced, by the lent points; the build fails if the source is not as expected. Behind the two files stand doors to private functions, for the benchmark.
+//! Only `across` is replaced, by the lent points; the build fails if the source is not as expected. Behind two of the files stand doors to private functions, for the benchmark and for the distance.
 use std::{env, fs, path::PathBuf};
 
 const ACROSS: &str = "fn across(lane: &Lane, end: bool) -> [Point; 2] {";
@@ -20,8 +20,8 @@ pub(crate) fn repair_row(id: &str, kind: u32, conns: &mut Vec<JunctionConn>, roa
 
 /// Appended to gaps.rs.
 const GAPS_DOORS: &str = "
-pub(crate) fn distance_of(first: [Point; 2], second: [Point; 2]) -> f32 {
-    distance(first, second)
+pub(crate) fn distance_of(first: &[Point; 2], second: &[Point; 2]) -> f32 {
+    distance(*first, *second)
 }
 ";
 

@@ -21,8 +21,10 @@ exported! {
 }
 
 extern "C" {
-    pub fn vz_root(x: f32, out: *mut f32) -> u32;
-    pub fn vz_distance(first: *const f32, second: *const f32) -> f32;
+    fn vz_root(x: f32, out: *mut f32) -> u32;
+    fn vz_distance(first: *const f32, second: *const f32) -> f32;
+    fn vz_list(so: *const u32, sol: usize, si: *const u32, sil: usize, po: *const u32, pol: usize, pi: *const u32, pil: usize, row: u32, before: u32, part: *mut u32);
+    fn vz_name(t: *const u8, tl: usize, start: u32, length: u32, part: *mut u32);
     fn vz_length(s: *const f64, sl: usize, l: *const f64, ll: usize, length: f64, sum: *mut f64) -> u32;
     fn vz_read_targets(t: *const u8, tl: usize, r: *const u32, rl: usize, a: *mut u32, al: usize, written: *mut u32) -> u32;
     fn vz_read_lanes(t: *const u8, tl: usize, r: *const u32, rl: usize, a: *mut u32, al: usize, written: *mut u32) -> u32;
@@ -180,4 +182,31 @@ pub fn length(starts: &[f64], lengths: &[f64], length: f64) -> (u32, f64) {
     let mut sum = f64::from_bits(u64::from(UNTOUCHED));
     let answer = unsafe { vz_length(starts.as_ptr(), starts.len(), lengths.as_ptr(), lengths.len(), length, &mut sum) };
     (answer, sum)
+}
+
+/// The part of a row's list, of the lists' offsets and identities, successors first.
+pub fn list([so, si, po, pi]: &[Vec<u32>; 4], row: u32, before: u32) -> [u32; 2] {
+    let mut part = [UNTOUCHED; 2];
+    unsafe { vz_list(so.as_ptr(), so.len(), si.as_ptr(), si.len(), po.as_ptr(), po.len(), pi.as_ptr(), pi.len(), row, before, part.as_mut_ptr()) };
+    part
+}
+
+/// The part of the text that a name is.
+pub fn name(text: &[u8], start: u32, length: u32) -> [u32; 2] {
+    let mut part = [UNTOUCHED; 2];
+    unsafe { vz_name(text.as_ptr(), text.len(), start, length, part.as_mut_ptr()) };
+    part
+}
+
+/// The root's answer, and what stands in `out` after it.
+#[inline]
+pub fn root(x: f32) -> (u32, f32) {
+    let mut out = f32::from_bits(UNTOUCHED);
+    let answer = unsafe { vz_root(x, &mut out) };
+    (answer, out)
+}
+
+#[inline]
+pub fn distance(first: &[f32; 6], second: &[f32; 6]) -> f32 {
+    unsafe { vz_distance(first.as_ptr(), second.as_ptr()) }
 }

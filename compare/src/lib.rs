@@ -3,7 +3,9 @@
 include!(concat!(env!("OUT_DIR"), "/original.rs"));
 pub mod calls;
 pub mod damage;
+pub mod lookups;
 pub mod maps;
+pub mod measures;
 pub mod original;
 pub mod ours;
 pub mod raw;

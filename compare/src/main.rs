@@ -1,6 +1,7 @@
-//! Runs the original and this library on random maps and compares repaired tables, warnings, lists and gap rows; then faulty tables; then sequences of reversals; then attribute reading.
+//! Runs the original and this library on random maps and compares repaired tables, warnings, lists and gap rows; then faulty tables; then sequences of reversals; then attribute reading; then lookups of lists and names, roots and distances.
+use compare::original::Lists;
 use compare::tables::{Dice, Tables, CONNECTION, LANE};
-use compare::{damage, maps, original, ours, raw, turned};
+use compare::{damage, lookups, maps, measures, original, ours, raw, turned};
 
 /// How much the maps gave to compare.
 #[derive(Default)]
@@ -12,8 +13,30 @@ struct Seen {
     gaps: usize,
 }
 
-/// One admitted map through both.
-fn beside(t: &Tables, seen: &mut Seen) -> Result<(), String> {
+/// All that was counted.
+#[derive(Default)]
+struct Counts {
+    seen: Seen,
+    tally: damage::Tally,
+    turned: turned::Count,
+    lookups: lookups::Count,
+    measures: measures::Count,
+}
+
+impl Counts {
+    fn print(&self) {
+        let seen = &self.seen;
+        println!("  beside the original: {} warnings, {} connections added, {} successors, {} two-way lanes with successors, {} gap rows", seen.warnings, seen.added, seen.successors, seen.two_way, seen.gaps);
+        println!("  damaged tables:");
+        self.tally.print();
+        println!("  reversals: {} accepted, {} refused", self.turned.accepted, self.turned.refused);
+        self.lookups.print();
+        self.measures.print();
+    }
+}
+
+/// One admitted map through both: the repaired tables, and the lists that both found.
+fn beside(t: &Tables, seen: &mut Seen) -> Result<(Tables, Lists), String> {
     let theirs = original::repair(t);
     let (m, found) = ours::repair(t);
     if theirs != found {
@@ -31,15 +54,16 @@ fn beside(t: &Tables, seen: &mut Seen) -> Result<(), String> {
     seen.successors += b.0.successors.iter().map(Vec::len).sum::<usize>();
     seen.two_way += t.lanes.chunks(LANE).zip(&b.0.successors).filter(|(l, s)| l[5] == 2 && !s.is_empty()).count();
     seen.gaps += b.1.len();
-    Ok(())
+    Ok((m, a.0))
 }
 
 fn main() {
     let mut args = std::env::args().skip(1);
     let n: u64 = args.next().and_then(|a| a.parse().ok()).unwrap_or(1000);
     let seed: u64 = args.next().and_then(|a| a.parse().ok()).unwrap_or(1);
-    let mut dice = Dice::new(seed);
-    let (mut seen, mut tally, mut count, mut wrong) = (Seen::default(), damage::Tally::default(), turned::Count::default(), 0);
+    // the second dice are for what came later, so that a seed's maps stay the same
+    let (mut dice, mut others) = (Dice::new(seed), Dice::new(!seed));
+    let (mut counts, mut wrong) = (Counts::default(), 0);
     let mut say = |k: &str, r: Result<(), String>| {
         if let Err(e) = r {
             wrong += 1;
@@ -49,19 +73,18 @@ fn main() {
         }
     };
     say("limits", damage::limits());
+    say("exponents", measures::exponents(&mut counts.measures));
     for k in 0..n {
         let t = maps::random(&mut dice);
-        say(&format!("map {k}"), beside(&t, &mut seen));
-        say(&format!("map {k} damaged"), damage::run(&t, &mut dice, &mut tally));
-        say(&format!("map {k} reversed"), turned::run(&t, &mut dice, &mut count));
-        say(&format!("raw tables {k}"), raw::run(&mut dice, &mut tally));
+        say(&format!("map {k}"), beside(&t, &mut counts.seen).and_then(|(m, lists)| lookups::run(&m, &lists, &mut others, &mut counts.lookups)));
+        say(&format!("map {k} damaged"), damage::run(&t, &mut dice, &mut counts.tally));
+        say(&format!("map {k} reversed"), turned::run(&t, &mut dice, &mut counts.turned));
+        say(&format!("raw tables {k}"), raw::run(&mut dice, &mut counts.tally));
+        say(&format!("measures {k}"), measures::run(&mut others, &mut counts.measures));
     }
     println!("{n} maps, seed {seed}");
-    println!("  beside the original: {} warnings, {} connections added, {} successors, {} two-way lanes with successors, {} gap rows", seen.warnings, seen.added, seen.successors, seen.two_way, seen.gaps);
-    println!("  damaged tables:");
-    tally.print();
-    println!("  reversals: {} accepted, {} refused", count.accepted, count.refused);
-    let missing = tally.missing();
+    counts.print();
+    let missing = counts.tally.missing();
     if !missing.is_empty() {
         println!("  answers that no table brought about: {missing:?}");
     }

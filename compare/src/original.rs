@@ -265,10 +265,24 @@ pub fn timed(mut map: Read) -> ([f64; 3], usize) {
     ([repair, lists, check], gaps.len())
 }
 
-/// The original's distance between two segments.
+/// A segment in the original's form.
+pub type Segment = [Point; 2];
+
+/// A segment of six coordinates.
+pub fn segment(e: &[f32; 6]) -> Segment {
+    [point(&e[0..3]), point(&e[3..6])]
+}
+
+/// The original's distance of two segments, built from their coordinates on the way.
+#[inline(never)]
 pub fn distance(first: &[f32; 6], second: &[f32; 6]) -> f32 {
-    let pair = |e: &[f32; 6]| [point(&e[0..3]), point(&e[3..6])];
-    crate::parse::gaps::distance_of(pair(first), pair(second))
+    distance_in_place(&segment(first), &segment(second))
+}
+
+/// The original's distance of two segments that stand ready. Called and not inlined, as this library's is.
+#[inline(never)]
+pub fn distance_in_place(first: &Segment, second: &Segment) -> f32 {
+    crate::parse::gaps::distance_of(first, second)
 }
 
 /// The original's length check: the sum that it reports.

@@ -1,5 +1,5 @@
 //! The calls beside the original on the same maps in one run, best of many; root and distance beside f32::sqrt and gaps.rs.
-use compare::calls::{self, vz_distance, vz_root};
+use compare::calls;
 use compare::original;
 use compare::tables::{Dice, Tables, ABSENT, CONNECTION, EDGE, JUNCTION, LANE, PAIR, ROAD};
 use std::hint::black_box;
@@ -144,27 +144,83 @@ fn main() {
     geometry(times);
 }
 
+/// How many places the loops below go through: too many for a processor to learn their branches by heart.
+const PLACES: usize = 65_536;
+
+/// The seconds of calls that do not wait for each other. Bits are added up: a float would be put away and fetched around each call, which takes longer than a root.
+fn apart(call: impl Fn(usize) -> f32) -> f64 {
+    clocked(|| (0..PLACES).fold(0u32, |sum, i| sum.wrapping_add(call(i).to_bits())))
+}
+
+/// The seconds of calls of which each waits for the last: its place is worked out with the last result, of which no bit is kept.
+fn chained(call: impl Fn(usize) -> f32) -> f64 {
+    let none = black_box(0);
+    clocked(|| (0..PLACES).fold(0u32, |last, i| call(i + (last & none) as usize).to_bits()))
+}
+
+/// Two rows of the table. The three take turns, so that all meet the same machine.
+fn rows(what: &str, times: usize, ours: impl Fn(usize) -> f32, theirs: impl Fn(usize) -> f32, empty: impl Fn(usize) -> f32) {
+    let mut least = [[f64::INFINITY; 3]; 2];
+    for _ in 0..times {
+        let now = [[apart(&ours), apart(&theirs), apart(&empty)], [chained(&ours), chained(&theirs), chained(&empty)]];
+        for (l, n) in least.iter_mut().flatten().zip(now.iter().flatten()) {
+            *l = l.min(*n);
+        }
+    }
+    for (calls, [a, b, c]) in ["apart", "in a chain"].iter().zip(least) {
+        let ns = |s: f64| s * 1e9 / PLACES as f64;
+        println!("| {what} | {calls} | {:.2} | {:.2} | {:.2} | {:.2} |", ns(a), ns(b), a / b, ns(c));
+    }
+}
+
+fn roots(what: &str, times: usize, xs: &[f32]) {
+    let nothing: fn(f32) -> f32 = black_box(|x| x);
+    rows(what, times, |i| calls::root(xs[i]).1, |i| plain_sqrt(xs[i]), |i| nothing(xs[i]));
+}
+
+type Two = [[f32; 6]; 2];
+
+/// The original is handed segments that stand ready, or segments that were stored just before.
+fn distances(what: &str, times: usize, two: &[Two], ready: bool) {
+    let nothing: fn(&[f32; 6], &[f32; 6]) -> f32 = black_box(|a, _| a[0]);
+    let ours = |i: usize| calls::distance(&two[i][0], &two[i][1]);
+    let empty = |i: usize| nothing(&two[i][0], &two[i][1]);
+    if ready {
+        let theirs: Vec<[original::Segment; 2]> = two.iter().map(|t| [original::segment(&t[0]), original::segment(&t[1])]).collect();
+        rows(what, times, ours, |i| original::distance_in_place(&theirs[i][0], &theirs[i][1]), empty);
+    } else {
+        rows(what, times, ours, |i| original::distance(&two[i][0], &two[i][1]), empty);
+    }
+}
+
+/// The lines across two lanes that meet: some metres long, some kilometres from the origin, up to a centimetre apart. One lane in eight opens out of nothing, one in eight is half as wide.
+fn lane_ends(dice: &mut Dice) -> Two {
+    let (x, y, z) = (dice.below(100_000) as f32 * 0.05, dice.below(100_000) as f32 * 0.05, dice.below(1000) as f32 * 0.1);
+    let (turn, wide) = (dice.below(6283) as f32 * 0.001, 2.5 + dice.below(150) as f32 * 0.01);
+    let other = wide * dice.pick(&[0.0, 0.5, 1.0, 1.0, 1.0, 1.0, 1.0, 1.0]);
+    let mut off = || (dice.below(11) as f32 - 5.0) * 0.001;
+    let (c, s) = (turn.cos(), turn.sin());
+    let (u, v) = (x + off(), y + off());
+    [[x, y, z, x + c * wide, y + s * wide, z], [u, v, z, u + c * other, v + s * other, z]]
+}
+
+/// Root and distance beside Rust's, a call each.
 fn geometry(times: usize) {
     let mut dice = Dice::new(9);
-    let xs: Vec<f32> = (0..4096).map(|_| f32::from_bits(dice.word() as u32 & 0x7f7f_ffff)).collect();
-    let root = best(times, || clocked(|| xs.iter().map(|&x| { let mut r = 0.0; unsafe { vz_root(black_box(x), &mut r) }; r }).fold(0.0f32, |a, b| a.max(b))));
-    let sqrt = best(times, || clocked(|| xs.iter().map(|&x| plain_sqrt(black_box(x))).fold(0.0f32, |a, b| a.max(b))));
-    let es: Vec<[f32; 6]> = (0..4096).map(|_| std::array::from_fn(|_| dice.below(1000) as f32 * 0.01)).collect();
-    let ours = best(times, || clocked(|| es.windows(2).map(|w| unsafe { vz_distance(w[0].as_ptr(), w[1].as_ptr()) }).fold(0.0f32, |a, b| a.max(b))));
-    let theirs = best(times, || clocked(|| es.windows(2).map(|w| plain_distance(&w[0], &w[1])).fold(0.0f32, |a, b| a.max(b))));
-    let ns = |s: f64| s * 1e9 / 4096.0;
-    println!("\n| | this library, ns | Rust, ns | ratio |\n|---|---:|---:|---:|");
-    println!("| root, beside f32::sqrt | {:.2} | {:.2} | {:.2} |", ns(root), ns(sqrt), root / sqrt);
-    println!("| distance, beside gaps.rs | {:.2} | {:.2} | {:.2} |", ns(ours), ns(theirs), ours / theirs);
+    println!("\n| | calls | this library, ns | Rust, ns | ratio | an empty call, ns |\n|---|---|---:|---:|---:|---:|");
+    let mut many = |number: fn(&mut Dice) -> f32| -> Vec<f32> { (0..PLACES).map(|_| number(&mut dice)).collect() };
+    roots("root, any number above zero", times, &many(|d| f32::from_bits((d.word() % 0x7f80_0000) as u32)));
+    roots("root, 0 to 1000", times, &many(|d| d.below(1_000_000) as f32 * 0.001));
+    let random: Vec<Two> = (0..PLACES).map(|_| [(); 2].map(|_| std::array::from_fn(|_| dice.below(1000) as f32 * 0.01))).collect();
+    let lanes: Vec<Two> = (0..PLACES).map(|_| lane_ends(&mut dice)).collect();
+    distances("distance, random", times, &random, true);
+    distances("distance, lane ends", times, &lanes, true);
+    distances("distance, one pair of lane ends again and again", times, &vec![lanes[0]; PLACES], true);
+    distances("distance, lane ends, stored just before for the Rust", times, &lanes, false);
 }
 
 /// Called and not inlined, as this library's functions are.
 #[inline(never)]
 fn plain_sqrt(x: f32) -> f32 {
     x.sqrt()
-}
-
-#[inline(never)]
-fn plain_distance(a: &[f32; 6], b: &[f32; 6]) -> f32 {
-    original::distance(a, b)
 }
