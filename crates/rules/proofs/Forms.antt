@@ -1,4 +1,4 @@
--- Each rule of words' specs/Rules by row numbers.
+-- Each rule of the model's specs/Rules by row numbers.
 use native.Mathlib.Numerals.{add-one}
 use mathlib.Core.Logic.{⊎-elim}
 use Prim.Native.Nat.{ℕ, zero, suc, _+_, _*_, _/_, _<_, _-_}

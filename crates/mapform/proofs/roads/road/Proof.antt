@@ -1,0 +1,176 @@
+use mathlib.Core.Path.{refl, _∙_}
+use native.Mathlib.Omega.{arith}
+use borrow.Author.Needs.{needs}
+use Rattle.mapform.proofs.roads.road.Statement.{statement}
+use Rattle.mapform.proofs.roads.road.Tie as tie
+use Rattle.mapform.proofs.roads.road.Reads as reads
+use Rattle.mapform.proofs.roads.road.Lts as lts
+use Rattle.mapform.proofs.faults.breaks.Reads as breaks-reads
+use Rattle.mapform.proofs.roads.inside.Reads as inside-reads
+use Rattle.mapform.proofs.roads.less.Reads as less-reads
+use Rattle.mapform.proofs.roads.name.Reads as name-reads
+use Rattle.mapform.proofs.roads.sections.Reads as sections-reads
+use Rattle.mapform.proofs.roads.target_after.Reads as target-after-reads
+use Rattle.mapform.proofs.state.bump.Reads as bump-reads
+use Rattle.mapform.proofs.state.count.Reads as count-reads
+use Rattle.mapform.proofs.state.put.Reads as put-reads
+
+-- src/roads.rt:235:9
+count-requires : tie.Need-count-requires
+count-requires c κs = search needs
+
+-- src/roads.rt:237:30
+slice-aggregate-breaks : tie.Need-slice-aggregate-breaks
+slice-aggregate-breaks c = search needs
+
+-- src/roads.rt:237:9
+breaks-requires : tie.Need-breaks-requires
+breaks-requires c κs = search needs
+
+-- src/roads.rt:237:9
+same-length : tie.Need-same-length
+same-length c = search needs
+
+-- src/roads.rt:237:9
+returns : tie.Need-returns
+returns c = search needs
+
+-- src/roads.rt:239:14
+mul-to : tie.Need-mul-to
+mul-to c = search needs
+
+-- src/roads.rt:240:9
+name-requires : tie.Need-name-requires
+name-requires c κs = search needs
+
+-- src/roads.rt:241:56
+add-inside : tie.Need-add-inside
+add-inside c = search needs
+
+-- src/roads.rt:241:9
+inside-requires : tie.Need-inside-requires
+inside-requires c κs = search needs
+
+-- src/roads.rt:242:62
+add-target-after : tie.Need-add-target-after
+add-target-after c = search needs
+
+-- src/roads.rt:242:70
+slice-aggregate-target-after : tie.Need-slice-aggregate-target-after
+slice-aggregate-target-after c = search needs
+
+-- src/roads.rt:242:9
+target-after-requires : tie.Need-target-after-requires
+target-after-requires c κs = search needs
+
+-- src/roads.rt:243:62
+add-target-after-2 : tie.Need-add-target-after-2
+add-target-after-2 c = omega (arith, c .before .before .before .before .before .before .before .before .before .before .before .before .before .before .before .before .before .before .before .before .before .before .before .before .before .before .before .before .before .before .before .before .before .before .before .before .before .before .before .before .before .before .before .before .if1 .left, c .before .before .before .before .before .before .before .before .before .before .before .before .before .before .before .before .before .before .before .before .before .before .before .before .before .before .before .before .before .before .before .before .before .before .before .before .before .before .before .before .before .before .before .before .before .count .ensures)
+
+-- src/roads.rt:243:71
+slice-aggregate-target-after-2 : tie.Need-slice-aggregate-target-after-2
+slice-aggregate-target-after-2 c = search needs
+
+-- src/roads.rt:243:9
+target-after-requires-2 : tie.Need-target-after-requires-2
+target-after-requires-2 c κs = search needs
+
+-- src/roads.rt:244:9
+count-requires-2 : tie.Need-count-requires-2
+count-requires-2 c κs = search needs
+
+-- src/roads.rt:245:9
+sections-requires : tie.Need-sections-requires
+sections-requires c κs = search needs
+
+-- src/roads.rt:246:9
+count-requires-3 : tie.Need-count-requires-3
+count-requires-3 c κs = search needs
+
+-- src/roads.rt:247:16
+add-put : tie.Need-add-put
+add-put c = omega (arith, c .before .before .before .before .before .before .before .before .before .before .before .before .before .before .before .before .before .before .before .before .before .before .before .before .before .before .before .before .before .before .before .before .before .before .before .before .before .before .before .before .before .before .before .before .before .before .before .before .before .before .before .before .before .before .before .before .before .before .before .before .before .before .before .before .before .before .if1 .left, c .before .count3 .ensures, c .before .before .before .before .before .before .before .before .before .before .count2 .ensures, c .before .before .before .before .before .before .before .before .before .before .before .before .before .before .before .before .before .before .before .before .before .before .before .before .before .before .before .before .before .before .before .before .before .before .before .before .before .before .before .before .before .before .before .before .before .before .before .before .before .before .before .before .before .before .before .before .before .before .before .before .before .before .before .before .before .before .before .count .ensures)
+
+-- src/roads.rt:247:25
+cast-put : tie.Need-cast-put
+cast-put c = search needs
+
+-- src/roads.rt:247:5
+put-requires : tie.Need-put-requires
+put-requires c κs = search needs
+
+-- src/roads.rt:248:16
+add-put-2 : tie.Need-add-put-2
+add-put-2 c = omega (arith, c .before .before .before .before .before .before .before .before .before .before .before .before .before .before .before .before .before .before .before .before .before .before .before .before .before .before .before .before .before .before .before .before .before .before .before .before .before .before .before .before .before .before .before .before .before .before .before .before .before .before .before .before .before .before .before .before .before .before .before .before .before .before .before .before .before .before .before .before .before .before .if1 .left, c .before .before .before .before .before .count3 .ensures, c .before .before .before .before .before .before .before .before .before .before .before .before .before .before .count2 .ensures, c .before .before .before .before .before .before .before .before .before .before .before .before .before .before .before .before .before .before .before .before .before .before .before .before .before .before .before .before .before .before .before .before .before .before .before .before .before .before .before .before .before .before .before .before .before .before .before .before .before .before .before .before .before .before .before .before .before .before .before .before .before .before .before .before .before .before .before .before .before .before .before .count .ensures)
+
+-- src/roads.rt:248:25
+less-requires : tie.Need-less-requires
+less-requires c κs = search needs
+
+-- src/roads.rt:248:5
+put-requires-2 : tie.Need-put-requires-2
+put-requires-2 c κs = search needs
+
+-- src/roads.rt:249:5
+bump-requires : tie.Need-bump-requires
+bump-requires c κs = search needs
+
+-- src/roads.rt:226:1
+same-length-2 : tie.Need-same-length-2
+same-length-2 c = c .before .before .bump .kept .0 ∙ c .before .before .before .before .before .before .before .before .before .before .before .before .before .before .before .before .before .before .before .sections .kept .1 .1 .0 ∙ c .before .before .before .before .before .before .before .before .before .before .before .before .before .before .before .before .before .before .before .before .before .before .before .before .before .before .before .before .before .before .before .before .target-after2 .kept .1 .1 .0 ∙ c .before .before .before .before .before .before .before .before .before .before .before .before .before .before .before .before .before .before .before .before .before .before .before .before .before .before .before .before .before .before .before .before .before .before .before .before .before .before .before .before .before .before .before .before .before .before .target-after .kept .1 .1 .0 ∙ c .before .before .before .before .before .before .before .before .before .before .before .before .before .before .before .before .before .before .before .before .before .before .before .before .before .before .before .before .before .before .before .before .before .before .before .before .before .before .before .before .before .before .before .before .before .before .before .before .before .before .before .before .before .before .before .before .before .before .before .before .inside .kept .1 .1 .0 ∙ c .before .before .before .before .before .before .before .before .before .before .before .before .before .before .before .before .before .before .before .before .before .before .before .before .before .before .before .before .before .before .before .before .before .before .before .before .before .before .before .before .before .before .before .before .before .before .before .before .before .before .before .before .before .before .before .before .before .before .before .before .before .before .before .before .before .before .before .before .before .before .before .before .before .name .kept .1 .1 .0
+
+-- src/roads.rt:226:1
+same-length-3 : tie.Need-same-length-3
+same-length-3 c = c .before .before .before .before .before .before .before .before .before .before .before .before .before .before .before .before .before .before .before .before .before .before .before .before .before .before .before .before .before .before .before .before .target-after2 .kept .1 .1 .1 .0 ∙ c .before .before .before .before .before .before .before .before .before .before .before .before .before .before .before .before .before .before .before .before .before .before .before .before .before .before .before .before .before .before .before .before .before .before .before .before .before .before .before .before .before .before .before .before .before .before .target-after .kept .1 .1 .1 .0 ∙ c .before .before .before .before .before .before .before .before .before .before .before .before .before .before .before .before .before .before .before .before .before .before .before .before .before .before .before .before .before .before .before .before .before .before .before .before .before .before .before .before .before .before .before .before .before .before .before .before .before .before .before .before .before .before .before .before .before .before .before .before .inside .kept .1 .1 .1 .0 ∙ c .before .before .before .before .before .before .before .before .before .before .before .before .before .before .before .before .before .before .before .before .before .before .before .before .before .before .before .before .before .before .before .before .before .before .before .before .before .before .before .before .before .before .before .before .before .before .before .before .before .before .before .before .before .before .before .before .before .before .before .before .before .before .before .before .before .before .before .before .before .before .before .before .before .name .kept .1 .1 .1 .0
+
+-- src/roads.rt:226:1
+same-length-4 : tie.Need-same-length-4
+same-length-4 c = c .before .before .before .before .before .before .before .before .before .before .before .before .before .before .before .before .before .before .before .before .before .before .before .before .before .before .before .before .before .before .before .before .target-after2 .kept .1 .1 .1 .1 .0 ∙ c .before .before .before .before .before .before .before .before .before .before .before .before .before .before .before .before .before .before .before .before .before .before .before .before .before .before .before .before .before .before .before .before .before .before .before .before .before .before .before .before .before .before .before .before .before .before .target-after .kept .1 .1 .1 .1 .0 ∙ c .before .before .before .before .before .before .before .before .before .before .before .before .before .before .before .before .before .before .before .before .before .before .before .before .before .before .before .before .before .before .before .before .before .before .before .before .before .before .before .before .before .before .before .before .before .before .before .before .before .before .before .before .before .before .before .before .before .before .before .before .inside .kept .1 .1 .1 .1 .0 ∙ c .before .before .before .before .before .before .before .before .before .before .before .before .before .before .before .before .before .before .before .before .before .before .before .before .before .before .before .before .before .before .before .before .before .before .before .before .before .before .before .before .before .before .before .before .before .before .before .before .before .before .before .before .before .before .before .before .before .before .before .before .before .before .before .before .before .before .before .before .before .before .before .before .before .name .kept .1 .1 .1 .1 .0
+
+-- src/roads.rt:226:1
+same-length-5 : tie.Need-same-length-5
+same-length-5 c = c .before .before .before .before .before .before .put2 .kept .0 ∙ c .before .before .before .before .before .before .before .before .before .before .before .put .kept .0 ∙ c .before .before .before .before .before .before .before .before .before .before .before .before .before .before .before .before .before .before .before .before .before .before .before .before .before .before .before .before .before .before .before .before .target-after2 .kept .1 .1 .1 .1 .1 .0 ∙ c .before .before .before .before .before .before .before .before .before .before .before .before .before .before .before .before .before .before .before .before .before .before .before .before .before .before .before .before .before .before .before .before .before .before .before .before .before .before .before .before .before .before .before .before .before .before .target-after .kept .1 .1 .1 .1 .1 .0 ∙ c .before .before .before .before .before .before .before .before .before .before .before .before .before .before .before .before .before .before .before .before .before .before .before .before .before .before .before .before .before .before .before .before .before .before .before .before .before .before .before .before .before .before .before .before .before .before .before .before .before .before .before .before .before .before .before .before .before .before .before .before .inside .kept .1 .1 .1 .1 .1 .0 ∙ c .before .before .before .before .before .before .before .before .before .before .before .before .before .before .before .before .before .before .before .before .before .before .before .before .before .before .before .before .before .before .before .before .before .before .before .before .before .before .before .before .before .before .before .before .before .before .before .before .before .before .before .before .before .before .before .before .before .before .before .before .before .before .before .before .before .before .before .before .before .before .before .before .before .name .kept .1 .1 .1 .1 .1 .0
+
+-- src/roads.rt:226:1
+same-length-6 : tie.Need-same-length-6
+same-length-6 c = search needs
+
+-- src/roads.rt:226:1
+returns-2 : tie.Need-returns-2
+returns-2 c = search needs
+
+pub road-spec : {M : Type 1} → statement M
+road-spec =
+    tie.close
+    (tie.spec
+    count-requires
+    slice-aggregate-breaks
+    breaks-requires
+    same-length
+    returns
+    mul-to
+    name-requires
+    add-inside
+    inside-requires
+    add-target-after
+    slice-aggregate-target-after
+    target-after-requires
+    add-target-after-2
+    slice-aggregate-target-after-2
+    target-after-requires-2
+    count-requires-2
+    sections-requires
+    count-requires-3
+    add-put
+    cast-put
+    put-requires
+    add-put-2
+    less-requires
+    put-requires-2
+    bump-requires
+    same-length-2
+    same-length-3
+    same-length-4
+    same-length-5
+    same-length-6
+    returns-2)
