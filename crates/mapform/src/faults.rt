@@ -37,6 +37,18 @@ pub fn wanted(line: &[u8], at: usize, state: &mut [u32], what: &[u8]) -> usize {
     state::BAD
 }
 
+// A table that is larger than a call takes.
+pub fn refused(state: &mut [u32], most: usize, what: &[u8]) -> usize {
+    state::put(state, state::FAULT, 1);
+    say_line(state);
+    say(b"refused, 1: more than ");
+    say_number(most);
+    say(b" ");
+    say(what);
+    say(b"\n");
+    state::BAD
+}
+
 // The line breaks a rule.
 pub fn breaks(state: &mut [u32], what: &[u8]) -> usize {
     state::put(state, state::FAULT, 1);

@@ -1,6 +1,7 @@
 // A junction's line, junction NAME common|direct|virtual; after it, those of its connections, connection INCOMING CONNECTING start|end; after each of
 // these, those of its pairs, pair FROM TO.
 use crate::faults::breaks;
+use crate::faults::refused;
 use crate::faults::wanted;
 use crate::integers::signed;
 use crate::roads::name;
@@ -11,10 +12,11 @@ use crate::state;
 use crate::state::BAD;
 use crate::state::CONNECTION_WORDS;
 use crate::state::JUNCTION_WORDS;
-use crate::state::PAIR_WORDS;
 use crate::state::bump;
 use crate::state::count;
+use crate::state::pair_words;
 use crate::state::put;
+use crate::state::room;
 
 // Reads one of three words into word `to`, as 0, 1 or 2.
 pub fn choice(
@@ -57,7 +59,7 @@ pub fn junction(
 ) -> usize {
     let j = count(state, state::JUNCTIONS);
     if j >= 16384 {
-        return breaks(state, b"refused, 1: more than 16384 junctions");
+        return refused(state, 16384, b"junctions");
     }
     let to = JUNCTION_WORDS + j * 5;
     let a = name(line, at, state, text, index, rest, to);
@@ -91,8 +93,8 @@ pub fn connection(
         return breaks(state, b"a connection, but no junction before it");
     }
     let c = count(state, state::CONNECTIONS);
-    if c >= 16384 {
-        return breaks(state, b"refused, 1: more than 16384 connections");
+    if c >= room(rest) {
+        return refused(state, room(rest), b"connections");
     }
     let to = CONNECTION_WORDS + c * 7;
     let a = name(line, at, state, text, index, rest, to);
@@ -140,10 +142,10 @@ pub fn pair(line: &[u8], at: usize, state: &mut [u32], rest: &mut [u32]) -> usiz
         return breaks(state, b"a pair, but no connection before it");
     }
     let p = count(state, state::PAIRS);
-    if p >= 16384 {
-        return breaks(state, b"refused, 1: more than 16384 pairs");
+    if p >= room(rest) {
+        return refused(state, room(rest), b"pairs");
     }
-    let to = PAIR_WORDS + p * 2;
+    let to = pair_words(rest) + p * 2;
     let a = lane_number(line, at, state, rest, to);
     let b = lane_number(line, a, state, rest, to + 1);
     bump(rest, CONNECTION_WORDS + c * 7 - 1);

@@ -3,6 +3,7 @@
 use crate::bits::float;
 use crate::decimals::real;
 use crate::faults::breaks;
+use crate::faults::refused;
 use crate::faults::wanted;
 use crate::integers::unsigned;
 use crate::junctions::choice;
@@ -71,7 +72,7 @@ pub fn lane(
 ) -> usize {
     let l = count(state, state::LANES);
     if l >= 16384 {
-        return breaks(state, b"refused, 1: more than 16384 lanes");
+        return refused(state, 16384, b"lanes");
     }
     let to = LANE_WORDS + l * 10;
     let a = number(line, at, state, rest, to, b"a lane's identity");

@@ -15,6 +15,7 @@ use crate::state::BAD;
 use crate::state::bump;
 use crate::state::count;
 use crate::state::get;
+use crate::state::put;
 
 // Reads a line that says something.
 fn row(
@@ -117,7 +118,7 @@ fn step(
     }
     if n >= line.len() {
         bump(state, state::LINE);
-        breaks(state, b"the line has more than 262144 bytes");
+        breaks(state, b"the line has more than 1310720 bytes");
         return 0;
     }
     set(line, n, b);
@@ -145,6 +146,24 @@ fn feed(
     k
 }
 
+// Reads some bytes: how many, 0 at the end of the file or once a line was at fault, or BAD where they can't be read.
+fn some(fd: i32, chunk: &mut [u8], state: &[u32]) -> usize {
+    if get(state, state::FAULT) != 0 {
+        return 0;
+    }
+    let got = libc::read(fd, chunk);
+    if got < 0 {
+        return BAD;
+    }
+    io::count(got, chunk)
+}
+
+// Says why the file can't be read.
+fn unread(state: &mut [u32]) {
+    put(state, state::FAULT, 1);
+    os::fail(b"lanes: the map");
+}
+
 // Reads the file up to its end, and returns how many bytes its last line has without an end of line.
 fn read_lines(
     fd: i32,
@@ -159,10 +178,14 @@ fn read_lines(
 ) -> usize {
     let mut n: usize = 0;
     let mut k: usize = 0;
-    while k < 4096 {
-        let got = io::read_full(fd, chunk);
+    while k < 268435456 {
+        let got = some(fd, chunk, state);
         if got == 0 {
             return n;
+        }
+        if got == BAD {
+            unread(state);
+            return 0;
         }
         n = feed(
             front(chunk, got),
@@ -177,7 +200,7 @@ fn read_lines(
         );
         k += 1;
     }
-    breaks(state, b"the map has more than 268435456 bytes");
+    breaks(state, b"the map does not end");
     0
 }
 
@@ -244,7 +267,7 @@ pub fn load(
     edges: &mut [f32],
 ) {
     let mut chunk = io::large_buffer();
-    let mut line = [0u8; 262144];
+    let mut line = [0u8; 1310720];
     let mut index = [0u32; 409600];
     read_all(
         fd,

@@ -1,6 +1,7 @@
 // A road's line: road NAME [inside JUNCTION] [from TARGET] [to TARGET] [sections N..].
 // A target: road NAME CONTACT [along], or junction NAME [CONTACT] [along]. A contact: start, end, start? or end?.
 use crate::faults::breaks;
+use crate::faults::refused;
 use crate::faults::wanted;
 use crate::integers::unsigned;
 use crate::names;
@@ -13,6 +14,17 @@ use crate::state::bump;
 use crate::state::count;
 use crate::state::get;
 use crate::state::put;
+
+// The names have more bytes than there is room for.
+fn too_long(state: &mut [u32], text: &[u8]) -> usize {
+    if text.len() < names::TEXT {
+        return breaks(
+            state,
+            b"the names have more than 393216 bytes, the most that reverse and form take",
+        );
+    }
+    refused(state, names::TEXT, b"bytes of names")
+}
 
 // Reads a name, puts it at words `to` and `to + 1` of a table, and returns the place after it.
 pub fn name(
@@ -34,7 +46,7 @@ pub fn name(
         return wanted(line, at, state, b"a name");
     }
     if !names::intern(word(line, at), state, text, index) {
-        return breaks(state, b"the names together have more than 524288 bytes");
+        return too_long(state, text);
     }
     put(table, to, names::narrow(get(state, state::START)));
     put(table, to + 1, names::narrow(get(state, state::SIZE)));
@@ -178,7 +190,7 @@ fn section(line: &[u8], at: usize, state: &mut [u32], rest: &mut [u32]) -> usize
     }
     let n = count(state, state::SECTIONS);
     if n >= 16384 {
-        return breaks(state, b"refused, 1: more than 16384 sections");
+        return refused(state, 16384, b"sections");
     }
     let v = unsigned(word(line, at));
     if !v.good {
@@ -234,7 +246,7 @@ pub fn road(
 ) -> usize {
     let r = count(state, state::ROADS);
     if r >= 16384 {
-        return breaks(state, b"refused, 1: more than 16384 roads");
+        return refused(state, 16384, b"roads");
     }
     let to = r * 20;
     let a = name(line, at, state, text, index, roads, to);

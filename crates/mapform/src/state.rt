@@ -37,16 +37,35 @@ pub const ABSENT: u32 = 4294967295;
 // In place of a place in a line: the line is at fault.
 pub const BAD: usize = 4294967295;
 
-// Where the tables begin that share one slice of words.
+// Where the tables begin that share one slice of words. Connections, and after them pairs, have what is left, in equal numbers of rows.
 pub const SECTION_WORDS: usize = 0;
 
 pub const JUNCTION_WORDS: usize = 16384;
 
-pub const CONNECTION_WORDS: usize = 98304;
+pub const LANE_WORDS: usize = 98304;
 
-pub const PAIR_WORDS: usize = 212992;
+pub const CONNECTION_WORDS: usize = 262144;
 
-pub const LANE_WORDS: usize = 245760;
+// How many connections there is room for, and how many pairs.
+pub fn room(rest: &[u32]) -> usize
+    ensures { λ r. ⌜ r ≤ 16384 ⌝ }
+{
+    if rest.len() < CONNECTION_WORDS {
+        return 0;
+    }
+    let n = (rest.len() - CONNECTION_WORDS) / 9;
+    if n > ROWS {
+        return ROWS;
+    }
+    n
+}
+
+// Where the pairs begin.
+pub fn pair_words(rest: &[u32]) -> usize
+    ensures { λ r. ⌜ r ≤ 376832 ⌝ }
+{
+    CONNECTION_WORDS + room(rest) * 7
+}
 
 pub fn put(table: &mut [u32], at: usize, x: u32) {
     if at < table.len() {

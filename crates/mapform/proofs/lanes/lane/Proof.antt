@@ -5,7 +5,7 @@ use Rattle.mapform.proofs.lanes.lane.Statement.{statement}
 use Rattle.mapform.proofs.lanes.lane.Tie as tie
 use Rattle.mapform.proofs.lanes.lane.Reads as reads
 use Rattle.mapform.proofs.lanes.lane.Lts as lts
-use Rattle.mapform.proofs.faults.breaks.Reads as breaks-reads
+use Rattle.mapform.proofs.faults.refused.Reads as refused-reads
 use Rattle.mapform.proofs.junctions.choice.Reads as choice-reads
 use Rattle.mapform.proofs.junctions.lane_number.Reads as lane-number-reads
 use Rattle.mapform.proofs.lanes.link.Reads as link-reads
@@ -14,139 +14,139 @@ use Rattle.mapform.proofs.roads.name.Reads as name-reads
 use Rattle.mapform.proofs.state.bump.Reads as bump-reads
 use Rattle.mapform.proofs.state.count.Reads as count-reads
 
--- src/lanes.rt:72:9
+-- src/lanes.rt:73:9
 count-requires : tie.Need-count-requires
 count-requires c κs = search needs
 
--- src/lanes.rt:74:30
-slice-aggregate-breaks : tie.Need-slice-aggregate-breaks
-slice-aggregate-breaks c = search needs
+-- src/lanes.rt:75:38
+slice-aggregate-refused : tie.Need-slice-aggregate-refused
+slice-aggregate-refused c = search needs
 
--- src/lanes.rt:74:9
-breaks-requires : tie.Need-breaks-requires
-breaks-requires c κs = search needs
+-- src/lanes.rt:75:9
+refused-requires : tie.Need-refused-requires
+refused-requires c κs = search needs
 
--- src/lanes.rt:74:9
+-- src/lanes.rt:75:9
 same-length : tie.Need-same-length
 same-length c = search needs
 
--- src/lanes.rt:74:9
+-- src/lanes.rt:75:9
 returns : tie.Need-returns
 returns c = search needs
 
--- src/lanes.rt:76:27
+-- src/lanes.rt:77:27
 mul-to : tie.Need-mul-to
 mul-to c = search needs
 
--- src/lanes.rt:76:14
+-- src/lanes.rt:77:14
 add-to : tie.Need-add-to
 add-to c = search needs
 
--- src/lanes.rt:77:47
+-- src/lanes.rt:78:47
 slice-aggregate-number : tie.Need-slice-aggregate-number
 slice-aggregate-number c = search needs
 
--- src/lanes.rt:77:9
+-- src/lanes.rt:78:9
 number-requires : tie.Need-number-requires
 number-requires c κs = search needs
 
--- src/lanes.rt:78:53
+-- src/lanes.rt:79:53
 add-name : tie.Need-add-name
 add-name c = search needs
 
--- src/lanes.rt:78:9
+-- src/lanes.rt:79:9
 name-requires : tie.Need-name-requires
 name-requires c κs = search needs
 
--- src/lanes.rt:79:42
+-- src/lanes.rt:80:42
 add-number : tie.Need-add-number
 add-number c = search needs
 
--- src/lanes.rt:79:50
+-- src/lanes.rt:80:50
 slice-aggregate-number-2 : tie.Need-slice-aggregate-number-2
 slice-aggregate-number-2 c = search needs
 
--- src/lanes.rt:79:9
+-- src/lanes.rt:80:9
 number-requires-2 : tie.Need-number-requires-2
 number-requires-2 c κs = search needs
 
--- src/lanes.rt:80:47
+-- src/lanes.rt:81:47
 add-lane-number : tie.Need-add-lane-number
 add-lane-number c = search needs
 
--- src/lanes.rt:80:9
+-- src/lanes.rt:81:9
 lane-number-requires : tie.Need-lane-number-requires
 lane-number-requires c κs = search needs
 
--- src/lanes.rt:86:9
-add-choice : tie.Need-add-choice
-add-choice c = omega (arith, c .before .before .before .before .before .before .before .before .before .before .before .before .before .before .before .before .before .before .before .before .before .before .before .before .before .before .before .before .before .before .before .before .before .before .before .before .before .before .if1 .left, c .before .before .before .before .before .before .before .before .before .before .before .before .before .before .before .before .before .before .before .before .before .before .before .before .before .before .before .before .before .before .before .before .before .before .before .before .before .before .before .count .ensures)
-
 -- src/lanes.rt:87:9
+add-choice : tie.Need-add-choice
+add-choice c = omega (arith, c .before .before .before .before .before .before .before .before .before .before .before .before .before .before .before .before .before .before .before .before .before .before .before .before .before .before .before .before .before .before .before .before .before .before .before .before .before .before .before .count .ensures)
+
+-- src/lanes.rt:88:9
 slice-aggregate-choice : tie.Need-slice-aggregate-choice
 slice-aggregate-choice c = search needs
 
--- src/lanes.rt:88:9
+-- src/lanes.rt:89:9
 slice-aggregate-choice-2 : tie.Need-slice-aggregate-choice-2
 slice-aggregate-choice-2 c = search needs
 
--- src/lanes.rt:89:9
+-- src/lanes.rt:90:9
 slice-aggregate-choice-3 : tie.Need-slice-aggregate-choice-3
 slice-aggregate-choice-3 c = search needs
 
--- src/lanes.rt:90:9
+-- src/lanes.rt:91:9
 slice-aggregate-choice-4 : tie.Need-slice-aggregate-choice-4
 slice-aggregate-choice-4 c = search needs
 
--- src/lanes.rt:81:9
+-- src/lanes.rt:82:9
 choice-requires : tie.Need-choice-requires
 choice-requires c κs = search needs
 
--- src/lanes.rt:92:40
+-- src/lanes.rt:93:40
 add-link : tie.Need-add-link
-add-link c = omega (arith, c .before .before .before .before .before .before .before .before .before .before .before .before .before .before .before .before .before .before .before .before .before .before .before .before .before .before .before .before .before .before .before .before .before .before .before .before .before .before .before .before .before .before .before .before .before .before .before .before .before .if1 .left, c .before .before .before .before .before .before .before .before .before .before .before .before .before .before .before .before .before .before .before .before .before .before .before .before .before .before .before .before .before .before .before .before .before .before .before .before .before .before .before .before .before .before .before .before .before .before .before .before .before .before .count .ensures)
+add-link c = omega (arith, c .before .before .before .before .before .before .before .before .before .before .before .before .before .before .before .before .before .before .before .before .before .before .before .before .before .before .before .before .before .before .before .before .before .before .before .before .before .before .before .before .before .before .before .before .before .before .before .before .before .before .count .ensures)
 
--- src/lanes.rt:92:48
+-- src/lanes.rt:93:48
 slice-aggregate-link : tie.Need-slice-aggregate-link
 slice-aggregate-link c = search needs
 
--- src/lanes.rt:92:9
+-- src/lanes.rt:93:9
 link-requires : tie.Need-link-requires
 link-requires c κs = search needs
 
--- src/lanes.rt:93:40
+-- src/lanes.rt:94:40
 add-link-2 : tie.Need-add-link-2
-add-link-2 c = omega (arith, c .before .before .before .before .before .before .before .before .before .before .before .before .before .before .before .before .before .before .before .before .before .before .before .before .before .before .before .before .before .before .before .before .before .before .before .before .before .before .before .before .before .before .before .before .before .before .before .before .before .before .before .before .before .before .before .before .before .if1 .left, c .before .before .before .before .before .before .before .before .before .before .before .before .before .before .before .before .before .before .before .before .before .before .before .before .before .before .before .before .before .before .before .before .before .before .before .before .before .before .before .before .before .before .before .before .before .before .before .before .before .before .before .before .before .before .before .before .before .before .count .ensures)
+add-link-2 c = omega (arith, c .before .before .before .before .before .before .before .before .before .before .before .before .before .before .before .before .before .before .before .before .before .before .before .before .before .before .before .before .before .before .before .before .before .before .before .before .before .before .before .before .before .before .before .before .before .before .before .before .before .before .before .before .before .before .before .before .before .before .count .ensures)
 
--- src/lanes.rt:93:48
+-- src/lanes.rt:94:48
 slice-aggregate-link-2 : tie.Need-slice-aggregate-link-2
 slice-aggregate-link-2 c = search needs
 
--- src/lanes.rt:93:9
+-- src/lanes.rt:94:9
 link-requires-2 : tie.Need-link-requires-2
 link-requires-2 c κs = search needs
 
--- src/lanes.rt:94:5
+-- src/lanes.rt:95:5
 bump-requires : tie.Need-bump-requires
 bump-requires c κs = search needs
 
--- src/lanes.rt:64:1
+-- src/lanes.rt:65:1
 same-length-2 : tie.Need-same-length-2
 same-length-2 c = c .before .before .bump .kept .0 ∙ c .before .before .before .before .before .before .before .before .link2 .kept .1 .1 .0 ∙ c .before .before .before .before .before .before .before .before .before .before .before .before .before .before .before .before .link .kept .1 .1 .0 ∙ c .before .before .before .before .before .before .before .before .before .before .before .before .before .before .before .before .before .before .before .before .before .before .before .before .choice .kept .1 .1 .0 ∙ c .before .before .before .before .before .before .before .before .before .before .before .before .before .before .before .before .before .before .before .before .before .before .before .before .before .before .before .before .before .before .before .before .before .before .before .lane-number .kept .1 .1 .0 ∙ c .before .before .before .before .before .before .before .before .before .before .before .before .before .before .before .before .before .before .before .before .before .before .before .before .before .before .before .before .before .before .before .before .before .before .before .before .before .before .before .before .before .before .number2 .kept .1 .1 .0 ∙ c .before .before .before .before .before .before .before .before .before .before .before .before .before .before .before .before .before .before .before .before .before .before .before .before .before .before .before .before .before .before .before .before .before .before .before .before .before .before .before .before .before .before .before .before .before .before .before .before .before .before .before .before .before .before .name .kept .1 .1 .0 ∙ c .before .before .before .before .before .before .before .before .before .before .before .before .before .before .before .before .before .before .before .before .before .before .before .before .before .before .before .before .before .before .before .before .before .before .before .before .before .before .before .before .before .before .before .before .before .before .before .before .before .before .before .before .before .before .before .before .before .before .before .before .before .before .before .number .kept .1 .1 .0
 
--- src/lanes.rt:64:1
+-- src/lanes.rt:65:1
 same-length-3 : tie.Need-same-length-3
 same-length-3 c = c .before .before .before .before .before .before .before .before .before .before .before .before .before .before .before .before .before .before .before .before .before .before .before .before .before .before .before .before .before .before .before .before .before .before .before .before .before .before .before .before .before .before .before .before .before .before .before .before .before .before .before .before .before .before .name .kept .1 .1 .1 .0
 
--- src/lanes.rt:64:1
+-- src/lanes.rt:65:1
 same-length-4 : tie.Need-same-length-4
 same-length-4 c = c .before .before .before .before .before .before .before .before .before .before .before .before .before .before .before .before .before .before .before .before .before .before .before .before .before .before .before .before .before .before .before .before .before .before .before .before .before .before .before .before .before .before .before .before .before .before .before .before .before .before .before .before .before .before .name .kept .1 .1 .1 .1 .0
 
--- src/lanes.rt:64:1
+-- src/lanes.rt:65:1
 same-length-5 : tie.Need-same-length-5
 same-length-5 c = c .before .before .before .before .before .before .before .before .link2 .kept .1 .1 .1 .0 ∙ c .before .before .before .before .before .before .before .before .before .before .before .before .before .before .before .before .link .kept .1 .1 .1 .0 ∙ c .before .before .before .before .before .before .before .before .before .before .before .before .before .before .before .before .before .before .before .before .before .before .before .before .choice .kept .1 .1 .1 .0 ∙ c .before .before .before .before .before .before .before .before .before .before .before .before .before .before .before .before .before .before .before .before .before .before .before .before .before .before .before .before .before .before .before .before .before .before .before .lane-number .kept .1 .1 .1 .0 ∙ c .before .before .before .before .before .before .before .before .before .before .before .before .before .before .before .before .before .before .before .before .before .before .before .before .before .before .before .before .before .before .before .before .before .before .before .before .before .before .before .before .before .before .number2 .kept .1 .1 .1 .0 ∙ c .before .before .before .before .before .before .before .before .before .before .before .before .before .before .before .before .before .before .before .before .before .before .before .before .before .before .before .before .before .before .before .before .before .before .before .before .before .before .before .before .before .before .before .before .before .before .before .before .before .before .before .before .before .before .name .kept .1 .1 .1 .1 .1 .0 ∙ c .before .before .before .before .before .before .before .before .before .before .before .before .before .before .before .before .before .before .before .before .before .before .before .before .before .before .before .before .before .before .before .before .before .before .before .before .before .before .before .before .before .before .before .before .before .before .before .before .before .before .before .before .before .before .before .before .before .before .before .before .before .before .before .number .kept .1 .1 .1 .0
 
--- src/lanes.rt:64:1
+-- src/lanes.rt:65:1
 returns-2 : tie.Need-returns-2
 returns-2 c = search needs
 
@@ -155,8 +155,8 @@ lane-spec =
     tie.close
     (tie.spec
     count-requires
-    slice-aggregate-breaks
-    breaks-requires
+    slice-aggregate-refused
+    refused-requires
     same-length
     returns
     mul-to

@@ -5,7 +5,7 @@ use Rattle.mapform.proofs.roads.road.Statement.{statement}
 use Rattle.mapform.proofs.roads.road.Tie as tie
 use Rattle.mapform.proofs.roads.road.Reads as reads
 use Rattle.mapform.proofs.roads.road.Lts as lts
-use Rattle.mapform.proofs.faults.breaks.Reads as breaks-reads
+use Rattle.mapform.proofs.faults.refused.Reads as refused-reads
 use Rattle.mapform.proofs.roads.inside.Reads as inside-reads
 use Rattle.mapform.proofs.roads.less.Reads as less-reads
 use Rattle.mapform.proofs.roads.name.Reads as name-reads
@@ -15,127 +15,127 @@ use Rattle.mapform.proofs.state.bump.Reads as bump-reads
 use Rattle.mapform.proofs.state.count.Reads as count-reads
 use Rattle.mapform.proofs.state.put.Reads as put-reads
 
--- src/roads.rt:235:9
+-- src/roads.rt:247:9
 count-requires : tie.Need-count-requires
 count-requires c κs = search needs
 
--- src/roads.rt:237:30
-slice-aggregate-breaks : tie.Need-slice-aggregate-breaks
-slice-aggregate-breaks c = search needs
+-- src/roads.rt:249:38
+slice-aggregate-refused : tie.Need-slice-aggregate-refused
+slice-aggregate-refused c = search needs
 
--- src/roads.rt:237:9
-breaks-requires : tie.Need-breaks-requires
-breaks-requires c κs = search needs
+-- src/roads.rt:249:9
+refused-requires : tie.Need-refused-requires
+refused-requires c κs = search needs
 
--- src/roads.rt:237:9
+-- src/roads.rt:249:9
 same-length : tie.Need-same-length
 same-length c = search needs
 
--- src/roads.rt:237:9
+-- src/roads.rt:249:9
 returns : tie.Need-returns
 returns c = search needs
 
--- src/roads.rt:239:14
+-- src/roads.rt:251:14
 mul-to : tie.Need-mul-to
 mul-to c = search needs
 
--- src/roads.rt:240:9
+-- src/roads.rt:252:9
 name-requires : tie.Need-name-requires
 name-requires c κs = search needs
 
--- src/roads.rt:241:56
+-- src/roads.rt:253:56
 add-inside : tie.Need-add-inside
 add-inside c = search needs
 
--- src/roads.rt:241:9
+-- src/roads.rt:253:9
 inside-requires : tie.Need-inside-requires
 inside-requires c κs = search needs
 
--- src/roads.rt:242:62
+-- src/roads.rt:254:62
 add-target-after : tie.Need-add-target-after
 add-target-after c = search needs
 
--- src/roads.rt:242:70
+-- src/roads.rt:254:70
 slice-aggregate-target-after : tie.Need-slice-aggregate-target-after
 slice-aggregate-target-after c = search needs
 
--- src/roads.rt:242:9
+-- src/roads.rt:254:9
 target-after-requires : tie.Need-target-after-requires
 target-after-requires c κs = search needs
 
--- src/roads.rt:243:62
+-- src/roads.rt:255:62
 add-target-after-2 : tie.Need-add-target-after-2
-add-target-after-2 c = omega (arith, c .before .before .before .before .before .before .before .before .before .before .before .before .before .before .before .before .before .before .before .before .before .before .before .before .before .before .before .before .before .before .before .before .before .before .before .before .before .before .before .before .before .before .before .before .if1 .left, c .before .before .before .before .before .before .before .before .before .before .before .before .before .before .before .before .before .before .before .before .before .before .before .before .before .before .before .before .before .before .before .before .before .before .before .before .before .before .before .before .before .before .before .before .before .count .ensures)
+add-target-after-2 c = omega (arith, c .before .before .before .before .before .before .before .before .before .before .before .before .before .before .before .before .before .before .before .before .before .before .before .before .before .before .before .before .before .before .before .before .before .before .before .before .before .before .before .before .before .before .before .before .before .count .ensures)
 
--- src/roads.rt:243:71
+-- src/roads.rt:255:71
 slice-aggregate-target-after-2 : tie.Need-slice-aggregate-target-after-2
 slice-aggregate-target-after-2 c = search needs
 
--- src/roads.rt:243:9
+-- src/roads.rt:255:9
 target-after-requires-2 : tie.Need-target-after-requires-2
 target-after-requires-2 c κs = search needs
 
--- src/roads.rt:244:9
+-- src/roads.rt:256:9
 count-requires-2 : tie.Need-count-requires-2
 count-requires-2 c κs = search needs
 
--- src/roads.rt:245:9
+-- src/roads.rt:257:9
 sections-requires : tie.Need-sections-requires
 sections-requires c κs = search needs
 
--- src/roads.rt:246:9
+-- src/roads.rt:258:9
 count-requires-3 : tie.Need-count-requires-3
 count-requires-3 c κs = search needs
 
--- src/roads.rt:247:16
+-- src/roads.rt:259:16
 add-put : tie.Need-add-put
-add-put c = omega (arith, c .before .before .before .before .before .before .before .before .before .before .before .before .before .before .before .before .before .before .before .before .before .before .before .before .before .before .before .before .before .before .before .before .before .before .before .before .before .before .before .before .before .before .before .before .before .before .before .before .before .before .before .before .before .before .before .before .before .before .before .before .before .before .before .before .before .before .if1 .left, c .before .count3 .ensures, c .before .before .before .before .before .before .before .before .before .before .count2 .ensures, c .before .before .before .before .before .before .before .before .before .before .before .before .before .before .before .before .before .before .before .before .before .before .before .before .before .before .before .before .before .before .before .before .before .before .before .before .before .before .before .before .before .before .before .before .before .before .before .before .before .before .before .before .before .before .before .before .before .before .before .before .before .before .before .before .before .before .before .count .ensures)
+add-put c = omega (arith, c .before .count3 .ensures, c .before .before .before .before .before .before .before .before .before .before .count2 .ensures, c .before .before .before .before .before .before .before .before .before .before .before .before .before .before .before .before .before .before .before .before .before .before .before .before .before .before .before .before .before .before .before .before .before .before .before .before .before .before .before .before .before .before .before .before .before .before .before .before .before .before .before .before .before .before .before .before .before .before .before .before .before .before .before .before .before .before .before .count .ensures)
 
--- src/roads.rt:247:25
+-- src/roads.rt:259:25
 cast-put : tie.Need-cast-put
 cast-put c = search needs
 
--- src/roads.rt:247:5
+-- src/roads.rt:259:5
 put-requires : tie.Need-put-requires
 put-requires c κs = search needs
 
--- src/roads.rt:248:16
+-- src/roads.rt:260:16
 add-put-2 : tie.Need-add-put-2
-add-put-2 c = omega (arith, c .before .before .before .before .before .before .before .before .before .before .before .before .before .before .before .before .before .before .before .before .before .before .before .before .before .before .before .before .before .before .before .before .before .before .before .before .before .before .before .before .before .before .before .before .before .before .before .before .before .before .before .before .before .before .before .before .before .before .before .before .before .before .before .before .before .before .before .before .before .before .if1 .left, c .before .before .before .before .before .count3 .ensures, c .before .before .before .before .before .before .before .before .before .before .before .before .before .before .count2 .ensures, c .before .before .before .before .before .before .before .before .before .before .before .before .before .before .before .before .before .before .before .before .before .before .before .before .before .before .before .before .before .before .before .before .before .before .before .before .before .before .before .before .before .before .before .before .before .before .before .before .before .before .before .before .before .before .before .before .before .before .before .before .before .before .before .before .before .before .before .before .before .before .before .count .ensures)
+add-put-2 c = omega (arith, c .before .before .before .before .before .count3 .ensures, c .before .before .before .before .before .before .before .before .before .before .before .before .before .before .count2 .ensures, c .before .before .before .before .before .before .before .before .before .before .before .before .before .before .before .before .before .before .before .before .before .before .before .before .before .before .before .before .before .before .before .before .before .before .before .before .before .before .before .before .before .before .before .before .before .before .before .before .before .before .before .before .before .before .before .before .before .before .before .before .before .before .before .before .before .before .before .before .before .before .before .count .ensures)
 
--- src/roads.rt:248:25
+-- src/roads.rt:260:25
 less-requires : tie.Need-less-requires
 less-requires c κs = search needs
 
--- src/roads.rt:248:5
+-- src/roads.rt:260:5
 put-requires-2 : tie.Need-put-requires-2
 put-requires-2 c κs = search needs
 
--- src/roads.rt:249:5
+-- src/roads.rt:261:5
 bump-requires : tie.Need-bump-requires
 bump-requires c κs = search needs
 
--- src/roads.rt:226:1
+-- src/roads.rt:238:1
 same-length-2 : tie.Need-same-length-2
 same-length-2 c = c .before .before .bump .kept .0 ∙ c .before .before .before .before .before .before .before .before .before .before .before .before .before .before .before .before .before .before .before .sections .kept .1 .1 .0 ∙ c .before .before .before .before .before .before .before .before .before .before .before .before .before .before .before .before .before .before .before .before .before .before .before .before .before .before .before .before .before .before .before .before .target-after2 .kept .1 .1 .0 ∙ c .before .before .before .before .before .before .before .before .before .before .before .before .before .before .before .before .before .before .before .before .before .before .before .before .before .before .before .before .before .before .before .before .before .before .before .before .before .before .before .before .before .before .before .before .before .before .target-after .kept .1 .1 .0 ∙ c .before .before .before .before .before .before .before .before .before .before .before .before .before .before .before .before .before .before .before .before .before .before .before .before .before .before .before .before .before .before .before .before .before .before .before .before .before .before .before .before .before .before .before .before .before .before .before .before .before .before .before .before .before .before .before .before .before .before .before .before .inside .kept .1 .1 .0 ∙ c .before .before .before .before .before .before .before .before .before .before .before .before .before .before .before .before .before .before .before .before .before .before .before .before .before .before .before .before .before .before .before .before .before .before .before .before .before .before .before .before .before .before .before .before .before .before .before .before .before .before .before .before .before .before .before .before .before .before .before .before .before .before .before .before .before .before .before .before .before .before .before .before .before .name .kept .1 .1 .0
 
--- src/roads.rt:226:1
+-- src/roads.rt:238:1
 same-length-3 : tie.Need-same-length-3
 same-length-3 c = c .before .before .before .before .before .before .before .before .before .before .before .before .before .before .before .before .before .before .before .before .before .before .before .before .before .before .before .before .before .before .before .before .target-after2 .kept .1 .1 .1 .0 ∙ c .before .before .before .before .before .before .before .before .before .before .before .before .before .before .before .before .before .before .before .before .before .before .before .before .before .before .before .before .before .before .before .before .before .before .before .before .before .before .before .before .before .before .before .before .before .before .target-after .kept .1 .1 .1 .0 ∙ c .before .before .before .before .before .before .before .before .before .before .before .before .before .before .before .before .before .before .before .before .before .before .before .before .before .before .before .before .before .before .before .before .before .before .before .before .before .before .before .before .before .before .before .before .before .before .before .before .before .before .before .before .before .before .before .before .before .before .before .before .inside .kept .1 .1 .1 .0 ∙ c .before .before .before .before .before .before .before .before .before .before .before .before .before .before .before .before .before .before .before .before .before .before .before .before .before .before .before .before .before .before .before .before .before .before .before .before .before .before .before .before .before .before .before .before .before .before .before .before .before .before .before .before .before .before .before .before .before .before .before .before .before .before .before .before .before .before .before .before .before .before .before .before .before .name .kept .1 .1 .1 .0
 
--- src/roads.rt:226:1
+-- src/roads.rt:238:1
 same-length-4 : tie.Need-same-length-4
 same-length-4 c = c .before .before .before .before .before .before .before .before .before .before .before .before .before .before .before .before .before .before .before .before .before .before .before .before .before .before .before .before .before .before .before .before .target-after2 .kept .1 .1 .1 .1 .0 ∙ c .before .before .before .before .before .before .before .before .before .before .before .before .before .before .before .before .before .before .before .before .before .before .before .before .before .before .before .before .before .before .before .before .before .before .before .before .before .before .before .before .before .before .before .before .before .before .target-after .kept .1 .1 .1 .1 .0 ∙ c .before .before .before .before .before .before .before .before .before .before .before .before .before .before .before .before .before .before .before .before .before .before .before .before .before .before .before .before .before .before .before .before .before .before .before .before .before .before .before .before .before .before .before .before .before .before .before .before .before .before .before .before .before .before .before .before .before .before .before .before .inside .kept .1 .1 .1 .1 .0 ∙ c .before .before .before .before .before .before .before .before .before .before .before .before .before .before .before .before .before .before .before .before .before .before .before .before .before .before .before .before .before .before .before .before .before .before .before .before .before .before .before .before .before .before .before .before .before .before .before .before .before .before .before .before .before .before .before .before .before .before .before .before .before .before .before .before .before .before .before .before .before .before .before .before .before .name .kept .1 .1 .1 .1 .0
 
--- src/roads.rt:226:1
+-- src/roads.rt:238:1
 same-length-5 : tie.Need-same-length-5
 same-length-5 c = c .before .before .before .before .before .before .put2 .kept .0 ∙ c .before .before .before .before .before .before .before .before .before .before .before .put .kept .0 ∙ c .before .before .before .before .before .before .before .before .before .before .before .before .before .before .before .before .before .before .before .before .before .before .before .before .before .before .before .before .before .before .before .before .target-after2 .kept .1 .1 .1 .1 .1 .0 ∙ c .before .before .before .before .before .before .before .before .before .before .before .before .before .before .before .before .before .before .before .before .before .before .before .before .before .before .before .before .before .before .before .before .before .before .before .before .before .before .before .before .before .before .before .before .before .before .target-after .kept .1 .1 .1 .1 .1 .0 ∙ c .before .before .before .before .before .before .before .before .before .before .before .before .before .before .before .before .before .before .before .before .before .before .before .before .before .before .before .before .before .before .before .before .before .before .before .before .before .before .before .before .before .before .before .before .before .before .before .before .before .before .before .before .before .before .before .before .before .before .before .before .inside .kept .1 .1 .1 .1 .1 .0 ∙ c .before .before .before .before .before .before .before .before .before .before .before .before .before .before .before .before .before .before .before .before .before .before .before .before .before .before .before .before .before .before .before .before .before .before .before .before .before .before .before .before .before .before .before .before .before .before .before .before .before .before .before .before .before .before .before .before .before .before .before .before .before .before .before .before .before .before .before .before .before .before .before .before .before .name .kept .1 .1 .1 .1 .1 .0
 
--- src/roads.rt:226:1
+-- src/roads.rt:238:1
 same-length-6 : tie.Need-same-length-6
 same-length-6 c = search needs
 
--- src/roads.rt:226:1
+-- src/roads.rt:238:1
 returns-2 : tie.Need-returns-2
 returns-2 c = search needs
 
@@ -144,8 +144,8 @@ road-spec =
     tie.close
     (tie.spec
     count-requires
-    slice-aggregate-breaks
-    breaks-requires
+    slice-aggregate-refused
+    refused-requires
     same-length
     returns
     mul-to
