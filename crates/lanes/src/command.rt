@@ -237,11 +237,11 @@ fn answer_written(
     finish(out, n, state, command);
 }
 
-// A command that writes the map. Reversal has tables of the same size to write, so there is less room for names.
+// A command that writes the map. There is room for twice as many connections and pairs as repair takes.
 fn rewritten(word: &mut [u8], command: u32, fd: i32) {
     let mut out = io::buffer();
     let mut state = [0u32; 32];
-    let mut text = [0u8; 393216];
+    let mut text = [0u8; 1048576];
     let mut roads = [0u32; 327680];
     let mut rest = [0u32; 409600];
     let mut edges = [0f32; 196608];
@@ -284,9 +284,9 @@ pub fn run(word: &mut [u8]) {
         usage();
         return;
     }
-    if arguments(word, os::arg_count()) > 98304 {
+    if arguments(word, os::arg_count()) > 24576 {
         say(
-            b"lanes: the names take more than 98304 bytes; reverse some, and others of the result\n",
+            b"lanes: the names take more than 24576 bytes; reverse some, and others of the result\n",
         );
         return;
     }

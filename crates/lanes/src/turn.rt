@@ -19,6 +19,7 @@ use mapform::write;
 use mapform::write_lanes;
 use reversal::call::Reversed;
 use reversal::call::reverse;
+use tables::check::check_reversal;
 use tables::check::number as number_of;
 use words::names::name_part;
 
@@ -95,41 +96,6 @@ fn mark_all(
     true
 }
 
-// Writes the tables.
-fn written(
-    out: &mut [u8],
-    n: usize,
-    state: &[u32],
-    text: &[u8],
-    rest: &[u32],
-    roads: &[u32],
-    sections: &[u32],
-    connections: &[u32],
-    pairs: &[u32],
-    lanes: &[u32],
-    edges: &[f32],
-) -> usize {
-    let names = text_of(state, text);
-    let a = write::roads(out, n, names, roads, sections, count(state, state::ROADS));
-    let b = write::junctions(
-        out,
-        a,
-        names,
-        junctions_of(state, rest),
-        connections,
-        pairs,
-        count(state, state::JUNCTIONS),
-    );
-    write_lanes::lanes(
-        out,
-        b,
-        names,
-        lanes,
-        own_edges(state, edges),
-        count(state, state::LANES),
-    )
-}
-
 // The edges, if the map has some.
 fn own_edges<'a>(state: &[u32], edges: &'a [f32]) -> &'a [f32] {
     if count(state, state::EDGED) == 0 {
@@ -138,7 +104,76 @@ fn own_edges<'a>(state: &[u32], edges: &'a [f32]) -> &'a [f32] {
     edges
 }
 
-fn turn_into(
+fn no_edges<'a>(edges: &'a [f32]) -> &'a [f32] {
+    &edges[0..0]
+}
+
+// The state's REFUSED is what reversal of the map by these marks is refused by.
+fn checked(
+    state: &mut [u32],
+    text: &[u8],
+    roads: &[u32],
+    rest: &[u32],
+    edges: &[f32],
+    marks: &[u32],
+) {
+    let v = check_reversal(
+        text_of(state, text),
+        roads_of(state, roads),
+        sections_of(state, rest),
+        junctions_of(state, rest),
+        read_connections(state, rest),
+        read_pairs(state, rest),
+        lanes_of(state, rest),
+        edges_of(state, edges),
+        part(marks, 0, count(state, state::ROADS)),
+    );
+    put(state, map::REFUSED, number_of(v));
+}
+
+// Reverses the map that has these junctions, connections, pairs and lanes. The state's REFUSED is the refusal, if it is one.
+fn reversed(
+    state: &mut [u32],
+    text: &[u8],
+    roads: &[u32],
+    sections: &[u32],
+    junctions: &[u32],
+    connections: &[u32],
+    pairs: &[u32],
+    lanes: &[u32],
+    edges: &[f32],
+    marks: &[u32],
+    roads_out: &mut [u32],
+    sections_out: &mut [u32],
+    connections_out: &mut [u32],
+    pairs_out: &mut [u32],
+    lanes_out: &mut [u32],
+    edges_out: &mut [f32],
+) {
+    let answer = reverse(
+        text,
+        roads,
+        sections,
+        junctions,
+        connections,
+        pairs,
+        lanes,
+        edges,
+        marks,
+        roads_out,
+        sections_out,
+        connections_out,
+        pairs_out,
+        lanes_out,
+        edges_out,
+    );
+    match answer {
+        Reversed::Written(_) => put(state, map::REFUSED, 0),
+        Reversed::Refused(v) => put(state, map::REFUSED, number_of(v)),
+    }
+}
+
+fn turn_roads_into(
     out: &mut [u8],
     n: usize,
     state: &mut [u32],
@@ -154,17 +189,17 @@ fn turn_into(
     lanes_out: &mut [u32],
     edges_out: &mut [f32],
 ) -> usize {
-    let chosen = part(marks, 0, count(state, state::ROADS));
-    let answer = reverse(
+    reversed(
+        state,
         text_of(state, text),
         roads_of(state, roads),
         sections_of(state, rest),
         junctions_of(state, rest),
         read_connections(state, rest),
         read_pairs(state, rest),
-        lanes_of(state, rest),
-        edges_of(state, edges),
-        chosen,
+        part(rest, 0, 0),
+        no_edges(edges),
+        part(marks, 0, count(state, state::ROADS)),
         roads_out,
         sections_out,
         connections_out,
@@ -172,29 +207,31 @@ fn turn_into(
         lanes_out,
         edges_out,
     );
-    match answer {
-        Reversed::Written(_) => written(
-            out,
-            n,
-            state,
-            text,
-            rest,
-            roads_out,
-            sections_out,
-            connections_out,
-            pairs_out,
-            lanes_out,
-            edges_out,
-        ),
-        Reversed::Refused(v) => {
-            put(state, map::REFUSED, number_of(v));
-            n
-        }
+    if get(state, map::REFUSED) != 0 {
+        return n;
     }
+    let names = text_of(state, text);
+    let a = write::roads(
+        out,
+        n,
+        names,
+        roads_out,
+        sections_out,
+        count(state, state::ROADS),
+    );
+    write::junctions(
+        out,
+        a,
+        names,
+        junctions_of(state, rest),
+        connections_out,
+        pairs_out,
+        count(state, state::JUNCTIONS),
+    )
 }
 
-// Reverses the marked roads of the map, and writes it, with its edges if it has some.
-pub fn turn_marked(
+// Reverses the marked roads of the map without its lanes, and writes roads and junctions.
+fn turn_roads(
     out: &mut [u8],
     n: usize,
     state: &mut [u32],
@@ -208,9 +245,9 @@ pub fn turn_marked(
     let mut sections_out = [0u32; 16384];
     let mut connections_out = [0u32; 114688];
     let mut pairs_out = [0u32; 32768];
-    let mut lanes_out = [0u32; 163840];
-    let mut edges_out = [0f32; 196608];
-    turn_into(
+    let mut lanes_out = [0u32; 1];
+    let mut edges_out = [0f32; 1];
+    turn_roads_into(
         out,
         n,
         state,
@@ -226,6 +263,107 @@ pub fn turn_marked(
         &mut lanes_out,
         &mut edges_out,
     )
+}
+
+fn turn_lanes_into(
+    out: &mut [u8],
+    n: usize,
+    state: &mut [u32],
+    text: &[u8],
+    roads: &[u32],
+    rest: &[u32],
+    edges: &[f32],
+    marks: &[u32],
+    roads_out: &mut [u32],
+    sections_out: &mut [u32],
+    connections_out: &mut [u32],
+    pairs_out: &mut [u32],
+    lanes_out: &mut [u32],
+    edges_out: &mut [f32],
+) -> usize {
+    reversed(
+        state,
+        text_of(state, text),
+        roads_of(state, roads),
+        sections_of(state, rest),
+        part(rest, 0, 0),
+        part(rest, 0, 0),
+        part(rest, 0, 0),
+        lanes_of(state, rest),
+        edges_of(state, edges),
+        part(marks, 0, count(state, state::ROADS)),
+        roads_out,
+        sections_out,
+        connections_out,
+        pairs_out,
+        lanes_out,
+        edges_out,
+    );
+    if get(state, map::REFUSED) != 0 {
+        return n;
+    }
+    write_lanes::lanes(
+        out,
+        n,
+        text_of(state, text),
+        lanes_out,
+        own_edges(state, edges_out),
+        count(state, state::LANES),
+    )
+}
+
+// Reverses the marked roads of the map without its junctions, and writes the lanes.
+fn turn_lanes(
+    out: &mut [u8],
+    n: usize,
+    state: &mut [u32],
+    text: &[u8],
+    roads: &[u32],
+    rest: &[u32],
+    edges: &[f32],
+    marks: &[u32],
+) -> usize {
+    let mut roads_out = [0u32; 327680];
+    let mut sections_out = [0u32; 16384];
+    let mut connections_out = [0u32; 1];
+    let mut pairs_out = [0u32; 1];
+    let mut lanes_out = [0u32; 163840];
+    let mut edges_out = [0f32; 196608];
+    turn_lanes_into(
+        out,
+        n,
+        state,
+        text,
+        roads,
+        rest,
+        edges,
+        marks,
+        &mut roads_out,
+        &mut sections_out,
+        &mut connections_out,
+        &mut pairs_out,
+        &mut lanes_out,
+        &mut edges_out,
+    )
+}
+
+// Reverses the marked roads of the map, and writes it: in two calls, after the map was checked whole (D57).
+pub fn turn_marked(
+    out: &mut [u8],
+    n: usize,
+    state: &mut [u32],
+    text: &[u8],
+    roads: &[u32],
+    rest: &[u32],
+    edges: &[f32],
+    marks: &[u32],
+) -> usize {
+    checked(state, text, roads, rest, edges, marks);
+    if get(state, map::REFUSED) != 0 {
+        return n;
+    }
+    let a = turn_roads(out, n, state, text, roads, rest, edges, marks);
+    turn_lanes(out, a, state, text, roads, rest, edges, marks)
 }
 
 // Reverses the roads that the program's arguments name, and writes the map.

@@ -14,7 +14,7 @@ const SIZES: usize = 147456;
 const LINKS: usize = 278528;
 // The words of the index.
 pub const INDEX: usize = 409600;
-// The most bytes of all names together, where the text has as many.
+// The most bytes of all names together.
 pub const TEXT: usize = 1048576;
 
 fn mixed(h: usize, b: u8) -> usize {
@@ -96,15 +96,15 @@ fn next(at: usize) -> usize {
 }
 
 // Is there room for one more name of that size?
-fn fits(state: &[u32], text: &[u8], size: usize) -> bool {
+fn fits(state: &[u32], size: usize) -> bool {
     if get(state, state::NAMES) >= NAMES {
         return false;
     }
     let used = get(state, state::TEXT);
-    if used > text.len() {
+    if used > TEXT {
         return false;
     }
-    size <= text.len() - used
+    size <= TEXT - used
 }
 
 // Adds the name, for which there is room, and returns its number plus 1.
@@ -171,7 +171,7 @@ pub fn intern(word: &[u8], state: &mut [u32], text: &mut [u8], index: &mut [u32]
     if found != 0 {
         return known(index, found, state);
     }
-    if !fits(state, text, name.len()) {
+    if !fits(state, name.len()) {
         return false;
     }
     let k = add(state, text, index, name);

@@ -1,6 +1,5 @@
 // A road's line: road NAME [inside JUNCTION] [from TARGET] [to TARGET] [sections N..].
 // A target: road NAME CONTACT [along], or junction NAME [CONTACT] [along]. A contact: start, end, start? or end?.
-use crate::faults::breaks;
 use crate::faults::refused;
 use crate::faults::wanted;
 use crate::integers::unsigned;
@@ -14,17 +13,6 @@ use crate::state::bump;
 use crate::state::count;
 use crate::state::get;
 use crate::state::put;
-
-// The names have more bytes than there is room for.
-fn too_long(state: &mut [u32], text: &[u8]) -> usize {
-    if text.len() < names::TEXT {
-        return breaks(
-            state,
-            b"the names have more than 393216 bytes, the most that reverse and form take",
-        );
-    }
-    refused(state, names::TEXT, b"bytes of names")
-}
 
 // Reads a name, puts it at words `to` and `to + 1` of a table, and returns the place after it.
 pub fn name(
@@ -46,7 +34,7 @@ pub fn name(
         return wanted(line, at, state, b"a name");
     }
     if !names::intern(word(line, at), state, text, index) {
-        return too_long(state, text);
+        return refused(state, names::TEXT, b"bytes of names");
     }
     put(table, to, names::narrow(get(state, state::START)));
     put(table, to + 1, names::narrow(get(state, state::SIZE)));

@@ -17,7 +17,7 @@ slice-aggregate-answer-written-2 : tie.Need-slice-aggregate-answer-written-2
 slice-aggregate-answer-written-2 c = sym (length-replicate {A = ℕ} 32 0)
 
 slice-aggregate-answer-written-3 : tie.Need-slice-aggregate-answer-written-3
-slice-aggregate-answer-written-3 c = sym (length-replicate {A = ℕ} 393216 0)
+slice-aggregate-answer-written-3 c = sym (length-replicate {A = ℕ} 1048576 0)
 
 slice-aggregate-answer-written-4 : tie.Need-slice-aggregate-answer-written-4
 slice-aggregate-answer-written-4 c = sym (length-replicate {A = ℕ} 327680 0)
