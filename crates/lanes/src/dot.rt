@@ -1,4 +1,6 @@
 // The lane graph for Graphviz: a node for each lane, an arrow for each link. A link that runs both ways is one arrow with two heads.
+use crate::ids::identity;
+use crate::ids::times;
 use crate::index::row_of;
 use crate::labels;
 use mapform::out;
@@ -26,13 +28,6 @@ fn bytes(out: &mut [u8], n: usize, name: &[u8]) -> usize {
     k
 }
 
-fn identity(out: &mut [u8], n: usize, lanes: &[u32], l: usize) -> usize {
-    if l >= 16384 {
-        return n;
-    }
-    out::number(out, n, labels::at(lanes, l * 10) as u64)
-}
-
 // A lane's node.
 fn node(out: &mut [u8], n: usize, text: &[u8], lanes: &[u32], l: usize) -> usize {
     if l >= 16384 {
@@ -40,7 +35,7 @@ fn node(out: &mut [u8], n: usize, text: &[u8], lanes: &[u32], l: usize) -> usize
     }
     let k = l * 10;
     let a = out::text(out, n, b"  ");
-    let b = identity(out, a, lanes, l);
+    let b = out::number(out, a, identity(lanes, l) as u64);
     let c = out::text(out, b, b" [label=\"");
     let name = name_part(text, labels::at(lanes, k + 1), labels::at(lanes, k + 2));
     let d = bytes(out, c, name);
@@ -49,17 +44,6 @@ fn node(out: &mut [u8], n: usize, text: &[u8], lanes: &[u32], l: usize) -> usize
     let g = out::byte(out, f, b'/');
     let h = out::signed(out, g, labels::at(lanes, k + 4));
     out::text(out, h, b"\"];\n")
-}
-
-fn has(ids: &[u32], id: u32) -> bool {
-    let mut i = 0;
-    while i < ids.len() {
-        if ids[i] == id {
-            return true;
-        }
-        i += 1;
-    }
-    false
 }
 
 // Does the lane of that identity list lane l as well?
@@ -77,10 +61,8 @@ fn returned<'a>(
     if r == 0 {
         return false;
     }
-    has(
-        list_lookup(onward, onward_ids, before, before_ids, r - 1, false),
-        own,
-    )
+    let theirs = list_lookup(onward, onward_ids, before, before_ids, r - 1, false);
+    times(theirs, own) != 0
 }
 
 // An arrow.
@@ -161,13 +143,6 @@ fn arrows<'a>(
     k
 }
 
-fn own(lanes: &[u32], l: usize) -> u32 {
-    if l >= 16384 {
-        return 0;
-    }
-    labels::at(lanes, l * 10)
-}
-
 // The nodes.
 fn nodes(out: &mut [u8], n: usize, text: &[u8], lanes: &[u32], rows: usize) -> usize {
     let mut k = n;
@@ -204,7 +179,7 @@ fn links<'a>(
             before,
             before_ids,
             l,
-            own(lanes, l),
+            identity(lanes, l),
         );
         l += 1;
     }

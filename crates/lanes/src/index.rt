@@ -37,6 +37,14 @@ pub fn plus(a: usize, b: usize) -> usize {
     a + b
 }
 
+// The difference; 0 where it would be below 0.
+pub fn minus(a: usize, b: usize) -> usize {
+    if a < b {
+        return 0;
+    }
+    a - b
+}
+
 // The place of word k in row r of a table of 5, 10 or 20 words.
 pub fn place(r: usize, w: usize, k: usize) -> usize {
     if r > 16384 {

@@ -3,6 +3,7 @@ mod check_map;
 mod command;
 mod dot;
 mod gap_rows;
+mod ids;
 mod index;
 mod labels;
 mod lists;

@@ -1,4 +1,5 @@
 // Repair: the tables are then those that it wrote.
+use crate::index::minus;
 use crate::labels;
 use crate::map;
 use crate::map::copy;
@@ -72,13 +73,6 @@ pub fn small(n: usize) -> u32 {
     4294967295
 }
 
-fn less(a: usize, b: usize) -> usize {
-    if a < b {
-        return 0;
-    }
-    a - b
-}
-
 // The words of some rows; none where they are too many.
 pub fn words(rows: usize, width: usize) -> usize {
     if rows > 131072 {
@@ -103,7 +97,7 @@ fn take_over(
     junctions_out: &[u32],
     pairs_out: &[u32],
 ) {
-    let added = less(rows.connections, count(state, state::CONNECTIONS));
+    let added = minus(rows.connections, count(state, state::CONNECTIONS));
     put(state, map::ADDED, small(added));
     put(state, map::WARNINGS, small(rows.warnings));
     put(state, state::CONNECTIONS, small(rows.connections));

@@ -1,5 +1,7 @@
 // Two promises, tried on the lists of this map: the lanes before are the lists onward read the other way, repeats kept; and of two two-way lanes that are
 // linked, each lists the other.
+use crate::ids::identity;
+use crate::ids::times;
 use crate::index::row_of;
 use crate::labels;
 use crate::map;
@@ -8,34 +10,6 @@ use mapform::out;
 use mapform::state;
 use mapform::state::put;
 use succession::lists::list_lookup;
-
-// How often an identity stands in a list.
-fn times(ids: &[u32], id: u32) -> usize {
-    let mut k: usize = 0;
-    let mut i = 0;
-    while i < ids.len() {
-        k = more(k, ids[i] == id);
-        i += 1;
-    }
-    k
-}
-
-fn more(k: usize, one: bool) -> usize {
-    if !one {
-        return k;
-    }
-    if k >= 4294967295 {
-        return k;
-    }
-    k + 1
-}
-
-fn identity(lanes: &[u32], l: usize) -> u32 {
-    if l >= 16384 {
-        return 0;
-    }
-    labels::at(lanes, l * 10)
-}
 
 fn two_way(lanes: &[u32], l: usize) -> bool {
     if l >= 16384 {

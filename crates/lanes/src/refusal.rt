@@ -1,4 +1,6 @@
 // A refusal in words: its number, what it means, and the table and row where that can be said.
+use crate::ids::identity;
+use crate::index::minus;
 use crate::labels;
 use crate::map;
 use crate::map::junctions_of;
@@ -60,13 +62,6 @@ fn road_twice(out: &mut [u8], n: usize, state: &[u32], text: &[u8], roads: &[u32
     rows(out, b, t.first, t.second)
 }
 
-fn before(r: usize) -> usize {
-    if r == 0 {
-        return 0;
-    }
-    r - 1
-}
-
 fn not_ascending(
     out: &mut [u8],
     n: usize,
@@ -90,16 +85,9 @@ fn identity_twice(out: &mut [u8], n: usize, state: &[u32], rest: &[u32]) -> usiz
     let table = lanes_of(state, rest);
     let t = search::twins(table, 10, 0, 1, count(state, state::LANES));
     let a = out::text(out, n, b"lane identity ");
-    let b = out::number(out, a, labels::at(table, tens(before(t.second))) as u64);
+    let b = out::number(out, a, identity(table, minus(t.second, 1)) as u64);
     let c = out::text(out, b, b" twice");
     rows(out, c, t.first, t.second)
-}
-
-fn tens(l: usize) -> usize {
-    if l > 16384 {
-        return 0;
-    }
-    l * 10
 }
 
 fn lane_unlisted(

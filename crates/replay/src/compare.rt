@@ -1,9 +1,9 @@
 // A call's outputs beside those that are recorded: an output is its length, and a list of the words written to it.
 use crate::stream::after;
 use crate::stream::list;
-use crate::stream::nan_bits;
 use crate::stream::next;
 use crate::stream::number;
+use mapform::bits::nan_bits;
 ghost use Prim.Native.Nat.{_≤_, _<_};
 ghost use lib.ListN.{length};
 

@@ -14,7 +14,7 @@ use reading::lanes::read_lanes;
 use reading::length::Length;
 use reading::length::check_length;
 use reading::targets::read_targets;
-use tables::check;
+use tables::check::number as number_of;
 use words::tests::both;
 ghost use Prim.Native.Nat.{_<_};
 
@@ -24,7 +24,7 @@ fn table_told(nums: &[u32], at: usize, a: usize, width: usize, answer: ReadTable
 {
     match answer {
         ReadTable::Written(n) => both(number(nums, at) == 0, counted(nums, a, width, n)),
-        ReadTable::Refused(v) => number(nums, at) == check::number(v),
+        ReadTable::Refused(v) => number(nums, at) == number_of(v),
     }
 }
 
@@ -68,7 +68,7 @@ fn junctions_told(nums: &[u32], at: usize, a: usize, answer: ReadJunctions) -> b
             let z = both(y, counted(nums, c, 2, n.pairs));
             both(z, counted(nums, d, 4, n.warnings))
         }
-        ReadJunctions::Refused(v) => number(nums, at) == check::number(v),
+        ReadJunctions::Refused(v) => number(nums, at) == number_of(v),
     }
 }
 

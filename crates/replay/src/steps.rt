@@ -6,18 +6,18 @@ use crate::compare::room;
 use crate::compare::same;
 use crate::compare::same_floats;
 use crate::state::get;
-use crate::stream::float;
 use crate::stream::list;
 use crate::stream::number;
 use gaps::call::Gaps;
 use gaps::call::link_gaps;
+use mapform::bits::float;
 use repair::call::Repaired;
 use repair::call::repair;
 use reversal::call::Reversed;
 use reversal::call::reverse;
 use succession::answer::Succession;
 use succession::call::succession;
-use tables::check;
+use tables::check::number as number_of;
 use words::tests::both;
 
 // The list that word k of the state gives the place of: 0 roads, 1 sections, 2 junctions, 3 connections, 4 pairs, 5 lanes.
@@ -49,7 +49,7 @@ fn repair_told(nums: &[u32], at: usize, a: usize, answer: Repaired) -> bool {
             let w = both(z, counted(nums, d, 2, n.pairs));
             both(w, counted(nums, e, 4, n.warnings))
         }
-        Repaired::Refused(v) => number(nums, at) == check::number(v),
+        Repaired::Refused(v) => number(nums, at) == number_of(v),
     }
 }
 
@@ -178,7 +178,7 @@ fn succession_into(
             let z = both(y, counted(nums, c, 1, k));
             both(z, counted(nums, d, 1, l))
         }
-        Succession::Refused(v) => number(nums, at) == check::number(v),
+        Succession::Refused(v) => number(nums, at) == number_of(v),
     };
     let x = same(nums, a, onward, na);
     let y = both(x, same(nums, b, onward_ids, nb));
@@ -232,7 +232,7 @@ fn gaps_into(
     );
     let told = match answer {
         Gaps::Written(n) => both(number(nums, at) == 0, counted(nums, a, 3, n)),
-        Gaps::Refused(v) => number(nums, at) == check::number(v),
+        Gaps::Refused(v) => number(nums, at) == number_of(v),
     };
     found(told, same(nums, a, rows, na))
 }
@@ -267,7 +267,7 @@ fn reverse_told(nums: &[u32], at: usize, a: usize, answer: Reversed) -> bool {
             let z = both(y, counted(nums, e, 10, n.lanes));
             both(z, counted(nums, f, 12, n.edges))
         }
-        Reversed::Refused(v) => number(nums, at) == check::number(v),
+        Reversed::Refused(v) => number(nums, at) == number_of(v),
     }
 }
 

@@ -1,4 +1,6 @@
 // The recorded answers: a stream of decimal numbers, in which a list is its length and then its words.
+use mapform::bits::float;
+use mapform::roads::either;
 use words::rows;
 ghost use Prim.Native.Nat.{_+_, _≤_, _<_};
 ghost use lib.ListN.{length};
@@ -101,13 +103,6 @@ pub fn read_on(bytes: &[u8], nums: &mut [u32], from: Reading) -> Reading
     Reading { n, v, begun, bad }
 }
 
-fn either(a: bool, b: bool) -> bool {
-    if a {
-        return true;
-    }
-    b
-}
-
 // The number at a place, and 0 past the end.
 pub fn number(nums: &[u32], at: usize) -> u32 {
     if at < nums.len() {
@@ -165,31 +160,6 @@ pub fn put_bytes(words: &[u32], out: &mut [u8]) {
         put_byte(out, i, words[i]);
         i += 1;
     }
-}
-
-// Are these the bits of a NaN?
-pub fn nan_bits(bits: u32) -> bool {
-    bits % 2147483648 > 2139095040
-}
-
-// The float of these bits; of a NaN's, a NaN.
-pub fn float(bits: u32) -> f32 {
-    if nan_bits(bits) {
-        return 0.0 / 0.0;
-    }
-    if bits < 2139095041 {
-        return f32::from_bits(bits);
-    }
-    -magnitude(bits)
-}
-
-// The float of the bits without their sign.
-fn magnitude(bits: u32) -> f32 {
-    let m = bits % 2147483648;
-    if m < 2139095041 {
-        return f32::from_bits(m);
-    }
-    0.0
 }
 
 fn put_float(out: &mut [f32], i: usize, v: f32) {

@@ -8,7 +8,7 @@ use Rattle.lanes.proofs.dot.links.Tie as tie
 use Rattle.lanes.proofs.dot.links.Reads as reads
 use Rattle.lanes.proofs.dot.links.Lts as lts
 use Rattle.lanes.proofs.dot.arrows.Reads as arrows-reads
-use Rattle.lanes.proofs.dot.own.Reads as own-reads
+use Rattle.lanes.proofs.ids.identity.Reads as identity-reads
 
 abbrev Inv-loop : tie.InvT-loop
 Inv-loop out₀ n lanes index onward onward-ids before before-ids rows k₀ l₀ out k l = (0 ≤ l) × (length out ≡ length out₀)
@@ -21,8 +21,8 @@ loop-holds : tie.Need-loop-holds Inv-loop μ-loop
 loop-holds c = (omega arith, refl)
 
 -- src/dot.rt:207:13
-own-requires : tie.Need-own-requires Inv-loop μ-loop
-own-requires c κs = search needs
+identity-requires : tie.Need-identity-requires Inv-loop μ-loop
+identity-requires c κs = search needs
 
 -- src/dot.rt:197:9
 arrows-requires : tie.Need-arrows-requires Inv-loop μ-loop
@@ -55,7 +55,7 @@ links-spec =
     Inv-loop
     μ-loop
     loop-holds
-    own-requires
+    identity-requires
     arrows-requires
     add-l
     loop-less

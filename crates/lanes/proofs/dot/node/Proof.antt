@@ -6,7 +6,7 @@ use Rattle.lanes.proofs.dot.node.Tie as tie
 use Rattle.lanes.proofs.dot.node.Reads as reads
 use Rattle.lanes.proofs.dot.node.Lts as lts
 use Rattle.lanes.proofs.dot.bytes.Reads as bytes-reads
-use Rattle.lanes.proofs.dot.identity.Reads as identity-reads
+use Rattle.lanes.proofs.ids.identity.Reads as identity-reads
 use Rattle.lanes.proofs.labels.at.Reads as at-reads
 use Rattle.mapform.proofs.out.byte.Reads as byte-reads
 use Rattle.mapform.proofs.out.number.Reads as number-reads
@@ -33,6 +33,14 @@ text-requires c κs = search needs
 -- src/dot.rt:43:9
 identity-requires : tie.Need-identity-requires
 identity-requires c κs = search needs
+
+-- src/dot.rt:43:9
+cast-number : tie.Need-cast-number
+cast-number c = search needs
+
+-- src/dot.rt:43:9
+number-requires : tie.Need-number-requires
+number-requires c κs = search needs
 
 -- src/dot.rt:44:31
 slice-aggregate-text-2 : tie.Need-slice-aggregate-text-2
@@ -79,12 +87,12 @@ at-requires-3 : tie.Need-at-requires-3
 at-requires-3 c κs = search needs
 
 -- src/dot.rt:48:33
-cast-number : tie.Need-cast-number
-cast-number c = search needs
+cast-number-2 : tie.Need-cast-number-2
+cast-number-2 c = search needs
 
 -- src/dot.rt:48:9
-number-requires : tie.Need-number-requires
-number-requires c κs = search needs
+number-requires-2 : tie.Need-number-requires-2
+number-requires-2 c κs = search needs
 
 -- src/dot.rt:49:9
 byte-requires-2 : tie.Need-byte-requires-2
@@ -92,7 +100,7 @@ byte-requires-2 c κs = search needs
 
 -- src/dot.rt:50:51
 add-at-4 : tie.Need-add-at-4
-add-at-4 c = omega (arith, c .before .before .before .before .before .before .before .before .before .before .before .before .before .before .before .before .before .before .before .before .before .before .before .before .before .before .before .before .before .before .before .before .before .before .before .if1 .left)
+add-at-4 c = omega (arith, c .before .before .before .before .before .before .before .before .before .before .before .before .before .before .before .before .before .before .before .before .before .before .before .before .before .before .before .before .before .before .before .before .before .before .before .before .if1 .left)
 
 -- src/dot.rt:50:33
 at-requires-4 : tie.Need-at-requires-4
@@ -112,7 +120,7 @@ text-requires-3 c κs = search needs
 
 -- src/dot.rt:37:1
 same-length : tie.Need-same-length
-same-length c = c .before .before .text3 .kept .0 ∙ c .before .before .before .before .before .before .before .signed .kept .0 ∙ c .before .before .before .before .before .before .before .before .before .before .before .before .byte2 .kept .0 ∙ c .before .before .before .before .before .before .before .before .before .before .before .before .before .before .before .before .number .kept .0 ∙ c .before .before .before .before .before .before .before .before .before .before .before .before .before .before .before .before .before .before .before .before .before .byte .kept .0 ∙ c .before .before .before .before .before .before .before .before .before .before .before .before .before .before .before .before .before .before .before .before .before .before .before .before .before .bytes .kept .0 ∙ c .before .before .before .before .before .before .before .before .before .before .before .before .before .before .before .before .before .before .before .before .before .before .before .before .before .before .before .before .before .before .before .before .text2 .kept .0 ∙ c .before .before .before .before .before .before .before .before .before .before .before .before .before .before .before .before .before .before .before .before .before .before .before .before .before .before .before .before .before .before .before .before .before .before .before .before .before .identity .kept .0 ∙ c .before .before .before .before .before .before .before .before .before .before .before .before .before .before .before .before .before .before .before .before .before .before .before .before .before .before .before .before .before .before .before .before .before .before .before .before .before .before .before .before .before .text .kept .0
+same-length c = c .before .before .text3 .kept .0 ∙ c .before .before .before .before .before .before .before .signed .kept .0 ∙ c .before .before .before .before .before .before .before .before .before .before .before .before .byte2 .kept .0 ∙ c .before .before .before .before .before .before .before .before .before .before .before .before .before .before .before .before .number2 .kept .0 ∙ c .before .before .before .before .before .before .before .before .before .before .before .before .before .before .before .before .before .before .before .before .before .byte .kept .0 ∙ c .before .before .before .before .before .before .before .before .before .before .before .before .before .before .before .before .before .before .before .before .before .before .before .before .before .bytes .kept .0 ∙ c .before .before .before .before .before .before .before .before .before .before .before .before .before .before .before .before .before .before .before .before .before .before .before .before .before .before .before .before .before .before .before .before .text2 .kept .0 ∙ c .before .before .before .before .before .before .before .before .before .before .before .before .before .before .before .before .before .before .before .before .before .before .before .before .before .before .before .before .before .before .before .before .before .before .before .before .before .number .kept .0 ∙ c .before .before .before .before .before .before .before .before .before .before .before .before .before .before .before .before .before .before .before .before .before .before .before .before .before .before .before .before .before .before .before .before .before .before .before .before .before .before .before .before .before .before .text .kept .0
 
 -- src/dot.rt:37:1
 returns-2 : tie.Need-returns-2
@@ -127,6 +135,8 @@ node-spec =
     slice-aggregate-text
     text-requires
     identity-requires
+    cast-number
+    number-requires
     slice-aggregate-text-2
     text-requires-2
     add-at
@@ -138,8 +148,8 @@ node-spec =
     byte-requires
     add-at-3
     at-requires-3
-    cast-number
-    number-requires
+    cast-number-2
+    number-requires-2
     byte-requires-2
     add-at-4
     at-requires-4

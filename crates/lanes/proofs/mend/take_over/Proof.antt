@@ -6,7 +6,7 @@ use Rattle.lanes.proofs.mend.take_over.Tie as tie
 use Rattle.lanes.proofs.mend.take_over.Reads as reads
 use Rattle.lanes.proofs.mend.take_over.Lts as lts
 use Rattle.lanes.proofs.map.copy.Reads as copy-reads
-use Rattle.lanes.proofs.mend.less.Reads as less-reads
+use Rattle.lanes.proofs.index.minus.Reads as minus-reads
 use Rattle.lanes.proofs.mend.small.Reads as small-reads
 use Rattle.lanes.proofs.mend.words.Reads as words-reads
 use Rattle.mapform.proofs.state.count.Reads as count-reads
@@ -18,8 +18,8 @@ count-requires : tie.Need-count-requires
 count-requires c κs = search needs
 
 -- src/mend.rt:107:9
-less-requires : tie.Need-less-requires
-less-requires c κs = search needs
+minus-requires : tie.Need-minus-requires
+minus-requires c κs = search needs
 
 -- src/mend.rt:108:28
 small-requires : tie.Need-small-requires
@@ -110,7 +110,7 @@ take-over-spec =
     tie.close
     (tie.spec
     count-requires
-    less-requires
+    minus-requires
     small-requires
     put-requires
     small-requires-2
