@@ -22,7 +22,7 @@ use Rattle.words.proofs.Scans.{left-on, right-on}
 use Rattle.tables.specs.Verdicts.{refusalOf}
 use Rattle.tables.specs.declared.verdict.Verdict.{Verdict}
 use Rattle.tables.specs.declared.verdict.Verdict.the-variants.{OutputShort}
-use Rattle.repair.proofs.Lays.{fit-of}
+use Rattle.rules.proofs.Fits.{fit-of}
 use Rattle.reading.specs.JunctionAnswers.{outcome, outs}
 use Rattle.reading.specs.Laid.{JunctionsRead, Ready, rawTables}
 use Rattle.reading.specs.declared.junctions.Rows.{Rows}

@@ -8,8 +8,8 @@ use Rattle.words.specs.Rows.{total}
 use Rattle.words.proofs.KeyLaws.{rows-in}
 use Rattle.words.proofs.Laws.{total-le, total-more}
 use Rattle.words.proofs.Scans.{row-fits}
-use Rattle.repair.specs.Laying.{counts}
-use Rattle.repair.proofs.Lays.{fit-in}
+use Rattle.rules.specs.Parts.{counts}
+use Rattle.rules.proofs.Fits.{fit-in}
 use Rattle.reading.specs.Laid.{Low, Ready}
 
 -- connection c, after n connections, p pairs and w warnings

@@ -9,7 +9,7 @@ use Rattle.model.specs.Records.{Connection, Junction, Pair}
 use Rattle.model.specs.Rows.{rowsFrom}
 use Rattle.model.specs.Tables.{connectionRow, junctionRow, pairRow}
 use Rattle.words.specs.Rows.{spliced, total}
-use Rattle.repair.specs.Laying.{Fit, counts}
+use Rattle.rules.specs.Parts.{Fit, counts}
 
 -- the raw tables of a call
 abbrev pub rawTables : (text junctions connections laneLinks : List ℕ) → RawTables

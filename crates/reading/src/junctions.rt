@@ -20,7 +20,7 @@ ghost use Rattle.model.specs.Rules.{firstBroken, fits};
 ghost use Rattle.model.specs.Reading.{partRows, toList, connectionDropped, readWarningRow, readJunction, readJunctions, readWarnings, junctionWarnings};
 ghost use Rattle.model.specs.ReadingCalls.{rawJunctionRules, readJunctionsCall};
 ghost use Rattle.words.specs.Rows.{total};
-ghost use Rattle.repair.specs.Laying.{counts};
+ghost use Rattle.rules.specs.Parts.{counts};
 ghost use Rattle.tables.specs.Verdicts.{refusalOf};
 ghost use Rattle.reading.specs.Laid.{JunctionsRead, Low, Ready, Run, rawTables};
 ghost use Rattle.reading.specs.JunctionAnswers.{outcome, outs};

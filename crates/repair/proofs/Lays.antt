@@ -1,10 +1,8 @@
 -- Connections laid one after the other, and the parts that they come from.
 use mathlib.Core.Path.{_≡_, refl, sym, ap, ap₂, _∙_, subst}
-use mathlib.Core.Bool.{true}
 use mathlib.Core.List.{List, [], _∷_, _++_, map, append-nil, append-assoc}
 use Prim.Native.Nat.{ℕ, zero, suc, _+_, _*_, _/_, _-_, _≤_, _<_}
 use native.Mathlib.Nat.{add-zero, add-assoc}
-use native.Mathlib.Numerals.{add-one}
 use native.Mathlib.Omega.{arith}
 use lib.ListN.{length, getD, take, drop, length-append, length-drop}
 use lib.Seq.{length-take-le, getD-take, getD-drop, ext-getD}
@@ -12,17 +10,17 @@ use lib.Dec.{eqb}
 use Rattle.model.specs.Lists.{gather, listO}
 use Rattle.model.specs.Records.{Pair, Connection}
 use Rattle.model.specs.Repair.{backAt, swapped}
-use Rattle.model.specs.Rows.{part, partsFit, rowsFrom, table}
+use Rattle.model.specs.Rows.{part, rowsFrom}
 use Rattle.model.specs.Tables.{bit, connectionIn, connectionRow, pairIn, pairRow, pairsIn}
 use Rattle.laws.proofs.WordsReversed.{gather-append}
-use Rattle.words.specs.Rows.{tab, total}
-use Rattle.words.proofs.Laws.{map-tab, tab-at, tab-length, tab-more, total-le, total-more, total-none}
-use Rattle.words.proofs.Scans.{map-rows, left-on, right-on}
+use Rattle.words.specs.Rows.{tab}
+use Rattle.words.proofs.Laws.{map-tab, tab-at, tab-length, tab-more}
+use Rattle.words.proofs.Scans.{map-rows}
+use Rattle.rules.proofs.Fits.{fit-in}
 use Rattle.rules.proofs.Locals.{short}
-use Rattle.rules.proofs.Fits.{fit-step, fit-end}
 use Rattle.repair.specs.Now.{run, endOpt, connectionAt}
 use Rattle.repair.proofs.Ends.{end-bit}
-use Rattle.repair.specs.Laying.{counts, Fit, Laid, Small, pairAt, rowWords, turnedConnection, turnedPair}
+use Rattle.repair.specs.Laying.{Laid, Small, pairAt, rowWords, turnedConnection, turnedPair}
 
 -- ---- lists by row numbers
 pub gather-tab : {A B : Type 0} (f : A → List B) (g : ℕ → A) (i : ℕ) → gather f (tab (i + 1) g) ≡ gather f (tab i g) ++ f (g i)
@@ -42,32 +40,6 @@ part-tab n g f m h = ext-getD (g f) (part f m (tab n g)) (run g f m) (len ∙ sy
     go : (i : ℕ) → i < length (part f m (tab n g)) → getD (part f m (tab n g)) i (g f) ≡ getD (run g f m) i (g f)
     go i l = let lt : i < m = subst (λ (k : ℕ). i < k) len l in
         getD-take m (drop f (tab n g)) i (g f) lt ∙ getD-drop f (tab n g) i (g f) ∙ tab-at n g (f + i) (g f) (omega arith) ∙ sym (tab-at m (λ j. g (f + j)) i (g f) lt)
-
--- ---- parts that follow one another
-module _ (w kf kc n : ℕ) (ws : List ℕ) (lf : kf < w) (lc : kc < w) (e : partsFit kf kc 0 n (table w ws) ≡ true) where
-  left : (r : ℕ) → r ≤ length ws / w → partsFit kf kc (total r (counts w kc ws)) n (drop r (table w ws)) ≡ true
-  left zero h = ap (λ (k : ℕ). partsFit kf kc k n (table w ws)) (sym (total-none (counts w kc ws))) ∙ e
-  left (suc r) h =
-      let a : partsFit kf kc (total r (counts w kc ws) + counts w kc ws r) n (drop (r + 1) (table w ws)) ≡ true = right-on (eqb (getD ws (r * w + kf) 0) (total r (counts w kc ws))) (partsFit kf kc (total r (counts w kc ws) + counts w kc ws r) n (drop (r + 1) (table w ws))) (sym (fit-step w kf kc n ws lf lc (total r (counts w kc ws)) r h) ∙ left r (omega arith)) in
-      ap₂ (λ (i k : ℕ). partsFit kf kc i n (drop k (table w ws))) (ap (λ (k : ℕ). total k (counts w kc ws)) (sym (add-one r)) ∙ total-more r (counts w kc ws)) (sym (add-one r)) ∙ a
-
-  pub fit-of : Fit w kf kc ws n
-  fit-of = record {
-    begins = λ r h. borrow.Author.Tests.eqb-true _ _ (left-on (eqb (getD ws (r * w + kf) 0) (total r (counts w kc ws))) (partsFit kf kc (total r (counts w kc ws) + counts w kc ws r) n (drop (r + 1) (table w ws))) (sym (fit-step w kf kc n ws lf lc (total r (counts w kc ws)) r h) ∙ left r (omega arith)));
-    whole = borrow.Author.Tests.eqb-true _ _ (sym (fit-end w kf kc n ws lf lc (total (length ws / w) (counts w kc ws)) (length ws / w) (omega arith)) ∙ left (length ws / w) (omega arith));
-  }
-
--- a part ends where the next begins, and lies in its table
-pub fit-next : (w kc : ℕ) (ws : List ℕ) (r : ℕ) → total (r + 1) (counts w kc ws) ≡ total r (counts w kc ws) + counts w kc ws r
-fit-next w kc ws r = total-more r (counts w kc ws)
-
-pub fit-in : (w kf kc : ℕ) (ws : List ℕ) (n : ℕ) → Fit w kf kc ws n → (r : ℕ) → r < length ws / w → getD ws (r * w + kf) 0 + getD ws (r * w + kc) 0 ≤ n
-fit-in w kf kc ws n f r h =
-    let a = f .begins r h in
-    let b = f .whole in
-    let c = fit-next w kc ws r in
-    let d = total-le (r + 1) (length ws / w) (counts w kc ws) (omega arith) in
-    omega arith
 
 -- ---- pairs
 pub pair-plain : (pairs : List ℕ) (q b : ℕ) → b ≡ 0 → getD pairs (q * 2) 0 ∷ getD pairs (q * 2 + 1) 0 ∷ [] ≡ pairRow (turnedPair b (pairAt pairs q))

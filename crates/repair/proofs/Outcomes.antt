@@ -28,10 +28,12 @@ use Rattle.rules.proofs.Forms.{name-at, roads-once}
 use Rattle.rules.proofs.Locals.{junction-local, short}
 use Rattle.tables.proofs.Order.{first-stays, not-none, parts-of, then-first}
 use Rattle.repair.specs.Now.{connectionAt, junctionAt, roadsNow}
-use Rattle.repair.specs.Laying.{Fit, Joined, Over, Small}
+use Rattle.repair.specs.Laying.{Joined, Over, Small}
+use Rattle.rules.specs.Parts.{Fit}
 use Rattle.repair.specs.Along.{roadNowWords}
 use Rattle.repair.specs.Answers.{outs, putOr9}
-use Rattle.repair.proofs.Lays.{fit-in, fit-of, part-tab}
+use Rattle.repair.proofs.Lays.{part-tab}
+use Rattle.rules.proofs.Fits.{fit-in, fit-of}
 use Rattle.repair.proofs.RoadWords.{words-now}
 
 -- ---- 9, or all is written

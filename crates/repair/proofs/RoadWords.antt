@@ -26,9 +26,10 @@ use Rattle.words.proofs.Laws.{total-more, total-none}
 use Rattle.words.proofs.Scans.{all-at, every-rows}
 use Rattle.rules.proofs.Locals.{road-local}
 use Rattle.repair.specs.Now.{endNow, nowWords, roadNow, roadsNow, targetNow}
-use Rattle.repair.specs.Laying.{Fit, counts}
+use Rattle.rules.specs.Parts.{Fit, counts}
 use Rattle.repair.specs.Along.{roadNowWords}
-use Rattle.repair.proofs.Lays.{fit-in, rows-append}
+use Rattle.repair.proofs.Lays.{rows-append}
+use Rattle.rules.proofs.Fits.{fit-in}
 
 -- seven words before others
 seven-on : (w : ℕ) (roads junctions : List ℕ) (a e : ℕ) (rest : List ℕ) → getD (nowWords w roads junctions a e) 0 0 ∷ getD (nowWords w roads junctions a e) 1 0 ∷ getD (nowWords w roads junctions a e) 2 0 ∷ getD (nowWords w roads junctions a e) 3 0 ∷ getD (nowWords w roads junctions a e) 4 0 ∷ getD (nowWords w roads junctions a e) 5 0 ∷ getD (nowWords w roads junctions a e) 6 0 ∷ rest ≡ nowWords w roads junctions a e ++ rest

@@ -1,4 +1,4 @@
--- What is laid into a local array, and the parts of a table. Definitions only.
+-- What is laid into a local array. Definitions only.
 use mathlib.Core.Path.{_≡_}
 use mathlib.Core.Bool.{Bool, _&&_}
 use mathlib.Core.List.{List, [], _∷_, _++_}
@@ -11,18 +11,10 @@ use Rattle.model.specs.Repair.{Warning, backAt, swapped, repairRoads, repairJun
 use Rattle.model.specs.Rows.{rowsFrom}
 use Rattle.model.specs.Tables.{bit, connectionRow, junctionRow, pairRow, pairIn}
 use Rattle.model.specs.Text.{sameIn}
-use Rattle.words.specs.Rows.{tab, total, nameAt, from}
+use Rattle.words.specs.Rows.{tab, nameAt, from}
 use Rattle.words.specs.Keys.{nameHash}
 use Rattle.words.specs.Chain.{Chained}
-
--- the counts of the parts of a table with w words a row
-abbrev pub counts : (w kc : ℕ) → List ℕ → ℕ → ℕ
-counts w kc ws i = getD ws (i * w + kc) 0
-
--- its parts follow one another, to row n of the table that they are of
-pub record Fit (w kf kc : ℕ) (ws : List ℕ) (n : ℕ) : Type 0 where
-  pub begins : (r : ℕ) → r < length ws / w → getD ws (r * w + kf) 0 ≡ total r (counts w kc ws)
-  pub whole : total (length ws / w) (counts w kc ws) ≡ n
+use Rattle.rules.specs.Parts.{Fit}
 
 -- a pair as it is (b is 0), or the other way
 abbrev pub turnedPair : ℕ → Pair → Pair

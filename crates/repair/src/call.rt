@@ -22,7 +22,8 @@ ghost use Rattle.model.specs.Tables.{mapTables, mapOf};
 ghost use Rattle.model.specs.Text.{sameIn};
 ghost use Rattle.words.specs.Rows.{tab};
 ghost use Rattle.repair.specs.Now.{Known, roadsNow};
-ghost use Rattle.repair.specs.Laying.{Fit, Small, Joined};
+ghost use Rattle.repair.specs.Laying.{Small, Joined};
+ghost use Rattle.rules.specs.Parts.{Fit};
 ghost use Rattle.repair.specs.Along.{roadNowWords};
 ghost use Rattle.repair.specs.Answers.{outs, outcome, putOr9};
 

@@ -17,7 +17,8 @@ ghost use Rattle.model.specs.Text.{sameIn};
 ghost use Rattle.model.specs.Repair.{repairJunction};
 ghost use Rattle.words.specs.Rows.{total};
 ghost use Rattle.repair.specs.Now.{Known, roadsNow, junctionAt};
-ghost use Rattle.repair.specs.Laying.{counts, Laid, Small, Chain, Joined, Stepped, Over};
+ghost use Rattle.repair.specs.Laying.{Laid, Small, Chain, Joined, Stepped, Over};
+ghost use Rattle.rules.specs.Parts.{counts};
 
 // How many connections, pairs and warnings there are.
 pub struct Counts {

@@ -12,7 +12,8 @@ ghost use Rattle.model.specs.Tables.{pairRow};
 ghost use Rattle.model.specs.Repair.{backAt};
 ghost use Rattle.words.specs.Rows.{total};
 ghost use Rattle.repair.specs.Now.{run, endOpt, connectionAt};
-ghost use Rattle.repair.specs.Laying.{counts, turnedPair, pairAt, rowWords, turnedConnection, Laid, Small};
+ghost use Rattle.repair.specs.Laying.{turnedPair, pairAt, rowWords, turnedConnection, Laid, Small};
+ghost use Rattle.rules.specs.Parts.{counts};
 
 // How many connections and pairs are laid.
 pub struct Reach {

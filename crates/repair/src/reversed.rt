@@ -19,7 +19,8 @@ ghost use Rattle.model.specs.Text.{sameIn};
 ghost use Rattle.model.specs.Repair.{backAt, backOf, runsBack, reversed};
 ghost use Rattle.words.specs.Rows.{any, total, nameAt, nameFrom};
 ghost use Rattle.repair.specs.Now.{Known, run, endOpt, roadsNow, connectionAt};
-ghost use Rattle.repair.specs.Laying.{counts, Laid, Small, turnedAt, Chain};
+ghost use Rattle.repair.specs.Laying.{Laid, Small, turnedAt, Chain};
+ghost use Rattle.rules.specs.Parts.{counts};
 
 // Whether the names at words i and j of a table are equal.
 fn same_at(text: &[u8], ws: &[u32], i: usize, j: usize) -> bool

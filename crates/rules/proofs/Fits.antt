@@ -11,10 +11,13 @@ use lib.Seq.{drop-cons}
 use lib.Dec.{eqb, ltb}
 use borrow.Author.Tests.{eqb-true, lt-ltb, le-ltb, ltb-true}
 use Rattle.model.specs.Lists.{ascends, every, member}
-use Rattle.model.specs.Rows.{partsFit, table, word}
+use Rattle.model.specs.Rows.{partsFit, table}
 use Rattle.laws.proofs.Lay.{fit-le, length-table}
 use Rattle.laws.proofs.RowTests.{word-at}
+use Rattle.words.specs.Rows.{total}
+use Rattle.words.proofs.Laws.{total-le, total-more, total-none}
 use Rattle.words.proofs.Scans.{and-off, and-step, left-on, right-on, row-fits}
+use Rattle.rules.specs.Parts.{Fit, counts}
 
 pub in-row : (n w i k : ℕ) → i < n / w → k < w → i * w + k < n
 in-row n w i k h l = let a = row-fits (n / w) w i h in let b = div-add-mod' n w in omega arith
@@ -38,21 +41,34 @@ module _ (w kf kc n : ℕ) (ws : List ℕ) (lf : kf < w) (lc : kc < w) where
   pub fit-end : (at i : ℕ) → length ws / w ≤ i → partsFit kf kc at n (drop i (table w ws)) ≡ eqb at n
   fit-end at i h = ap (partsFit kf kc at n) (drop-of-length-le (table w ws) (subst (λ (m : ℕ). m ≤ i) (sym (length-table w ws)) h))
 
--- each part lies in the table
-parts-within : (kf kc i n : ℕ) (rs : List (List ℕ)) → partsFit kf kc i n rs ≡ true → (r : ℕ) → r < length rs → word (getD rs r []) kf + word (getD rs r []) kc ≤ n
-parts-within kf kc i n [] e r h = absurd (not-suc-le-zero h)
-parts-within kf kc i n (x ∷ rs) e zero h =
-    let f : word x kf ≡ i = eqb-true (word x kf) i (left-on (eqb (word x kf) i) (partsFit kf kc (i + word x kc) n rs) e) in
-    let l = fit-le kf kc (i + word x kc) n rs (right-on (eqb (word x kf) i) (partsFit kf kc (i + word x kc) n rs) e) in
+-- ---- parts that follow one another, by their rows
+module _ (w kf kc n : ℕ) (ws : List ℕ) (lf : kf < w) (lc : kc < w) (e : partsFit kf kc 0 n (table w ws) ≡ true) where
+  left : (r : ℕ) → r ≤ length ws / w → partsFit kf kc (total r (counts w kc ws)) n (drop r (table w ws)) ≡ true
+  left zero h = ap (λ (k : ℕ). partsFit kf kc k n (table w ws)) (sym (total-none (counts w kc ws))) ∙ e
+  left (suc r) h =
+      let a : partsFit kf kc (total r (counts w kc ws) + counts w kc ws r) n (drop (r + 1) (table w ws)) ≡ true = right-on (eqb (getD ws (r * w + kf) 0) (total r (counts w kc ws))) (partsFit kf kc (total r (counts w kc ws) + counts w kc ws r) n (drop (r + 1) (table w ws))) (sym (fit-step w kf kc n ws lf lc (total r (counts w kc ws)) r h) ∙ left r (omega arith)) in
+      ap₂ (λ (i k : ℕ). partsFit kf kc i n (drop k (table w ws))) (ap (λ (k : ℕ). total k (counts w kc ws)) (sym (add-one r)) ∙ total-more r (counts w kc ws)) (sym (add-one r)) ∙ a
+
+  pub fit-of : Fit w kf kc ws n
+  fit-of = record {
+    begins = λ r h. eqb-true _ _ (left-on (eqb (getD ws (r * w + kf) 0) (total r (counts w kc ws))) (partsFit kf kc (total r (counts w kc ws) + counts w kc ws r) n (drop (r + 1) (table w ws))) (sym (fit-step w kf kc n ws lf lc (total r (counts w kc ws)) r h) ∙ left r (omega arith)));
+    whole = eqb-true _ _ (sym (fit-end w kf kc n ws lf lc (total (length ws / w) (counts w kc ws)) (length ws / w) (omega arith)) ∙ left (length ws / w) (omega arith));
+  }
+
+-- a part ends where the next begins, and lies in its table
+pub fit-next : (w kc : ℕ) (ws : List ℕ) (r : ℕ) → total (r + 1) (counts w kc ws) ≡ total r (counts w kc ws) + counts w kc ws r
+fit-next w kc ws r = total-more r (counts w kc ws)
+
+pub fit-in : (w kf kc : ℕ) (ws : List ℕ) (n : ℕ) → Fit w kf kc ws n → (r : ℕ) → r < length ws / w → getD ws (r * w + kf) 0 + getD ws (r * w + kc) 0 ≤ n
+fit-in w kf kc ws n f r h =
+    let a = f .begins r h in
+    let b = f .whole in
+    let c = fit-next w kc ws r in
+    let d = total-le (r + 1) (length ws / w) (counts w kc ws) (omega arith) in
     omega arith
-parts-within kf kc i n (x ∷ rs) e (suc r) h = parts-within kf kc (i + word x kc) n rs (right-on (eqb (word x kf) i) (partsFit kf kc (i + word x kc) n rs) e) r (le-of-suc-le-suc h)
 
 pub part-in : (w kf kc n : ℕ) (ws : List ℕ) → kf < w → kc < w → partsFit kf kc 0 n (table w ws) ≡ true → (r : ℕ) → r < length ws / w → getD ws (r * w + kf) 0 + getD ws (r * w + kc) 0 ≤ n
-part-in w kf kc n ws lf lc e r h =
-    let a = parts-within kf kc 0 n (table w ws) e r (subst (λ (m : ℕ). r < m) (sym (length-table w ws)) h) in
-    let f = word-at w ws r kf h lf in
-    let c = word-at w ws r kc h lc in
-    omega arith
+part-in w kf kc n ws lf lc e = fit-in w kf kc ws n (fit-of w kf kc n ws lf lc e)
 
 -- ---- numbers that ascend
 lower : (x y : ℕ) (ys : List ℕ) → x < y → every (ltb y) ys ≡ true → every (ltb x) ys ≡ true

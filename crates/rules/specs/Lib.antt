@@ -1,1 +1,2 @@
 pub mod ByRow
+pub mod Parts

@@ -16,9 +16,9 @@ use Rattle.model.specs.Rows.{written}
 use Rattle.model.specs.Succession.{isBoth}
 use Rattle.model.specs.Tables.{directionOf}
 use Rattle.laws.proofs.Sorting.{Ordered}
-use Rattle.words.specs.Rows.{total}
+use Rattle.words.specs.Rows.{joined, total}
 use Rattle.succession.specs.Runs.{Rising}
-use Rattle.succession.specs.ByRow.{Rows, exitsByRow, ranged, successorsByRow, successorsFromRow}
+use Rattle.succession.specs.ByRow.{Rows, exitsByRow, successorsByRow, successorsFromRow}
 use Rattle.succession.specs.Packs.{startOf}
 use Rattle.succession.specs.Finished.{Made, backInto, bothLong, exitCount, finishedFrom, twoWayRow, wants}
 use Rattle.succession.proofs.RunLaws.{insert-length}
@@ -196,13 +196,13 @@ module _ (list : ℕ → List ℕ) (f : ℕ → ℕ) (few : (i : ℕ) → length
     pub tail-room : at + f i ≤ length out
     tail-room = let a = upto in let b = Rattle.words.proofs.Laws.total-more i f in let d = start-most i in omega arith
 
-    pub tail-more : out ≡ written (ranged 0 i list) out₀ → (xs new : List ℕ) → xs ≡ list i → new ≡ written xs (tailFrom at out (let a = tail-room in omega arith)) → take at out ++ (new ++ drop (length out - at) (drop at out)) ≡ written (ranged 0 (i + 1) list) out₀
+    pub tail-more : out ≡ written (joined i list) out₀ → (xs new : List ℕ) → xs ≡ list i → new ≡ written xs (tailFrom at out (let a = tail-room in omega arith)) → take at out ++ (new ++ drop (length out - at) (drop at out)) ≡ written (joined (i + 1) list) out₀
     tail-more e xs new ex en =
         let h : at ≤ length out = (let a = tail-room in omega arith) in
         tail-back at out h new ∙ packed-more list i at out₀ out (take at out ++ new) e ea (ap (λ (l : List ℕ). take at out ++ l) (en ∙ ap₂ written ex (tail-is at out h))) (let a = start-most (i + 1) in let b = upto in omega arith)
 
-    pub more-long : (new : List ℕ) → new ≡ written (ranged 0 (i + 1) list) out₀ → length new ≡ length out₀
-    more-long new e = ap length e ∙ written-long (ranged 0 (i + 1) list) out₀ (let a = joined-long list (i + 1) in let b = start-most (i + 1) in let d = upto in omega arith)
+    pub more-long : (new : List ℕ) → new ≡ written (joined (i + 1) list) out₀ → length new ≡ length out₀
+    more-long new e = ap length e ∙ written-long (joined (i + 1) list) out₀ (let a = joined-long list (i + 1) in let b = start-most (i + 1) in let d = upto in omega arith)
 
 pub successors-most : (R : Rows) (l : ℕ) → length (successorsByRow R l) ≤ exitCount R l
 unfolding successorsByRow

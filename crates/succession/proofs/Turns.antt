@@ -1,43 +1,35 @@
 -- A loop that takes entries in, turn by turn.
-use Prim.Native.Nat.{ℕ, zero, suc, _+_, _-_, _*_, _<_, _≤_}
+use Prim.Native.Nat.{ℕ, suc, _+_, _-_, _*_, _<_, _≤_}
 use mathlib.Core.Path.{_≡_, refl, sym, ap, ap₂, _∙_, subst}
-use mathlib.Core.Logic.{⊎-elim}
 use mathlib.Core.Bool.{Bool, true, false, not, cond}
 use mathlib.Core.Option.{Option, none, some}
 use borrow.Author.Tests.{eq-eqb, ne-eqb}
 use mathlib.Core.List.{List, [], _++_}
-use native.Mathlib.Nat.{not-suc-le-zero, le-of-suc-le-suc, le-refl, eq-or-lt-of-le}
+use native.Mathlib.Nat.{not-suc-le-zero}
 use native.Mathlib.Omega.{arith}
 use lib.Dec.{eqb}
-use lib.ListN.{length, getD, length-append}
+use lib.ListN.{length, getD}
 use Rattle.model.specs.Lists.{pick}
 use Rattle.model.specs.Rows.{written}
 use Rattle.model.specs.Succession.{Entry, endSection, nextSection}
 use Rattle.model.specs.Tables.{flag}
+use Rattle.words.proofs.Joins.{joined-le, joined-none}
 use Rattle.rules.specs.ByRow.{numbersAt}
 use Rattle.succession.specs.ByRow.{Resolved, Room, Rows, Took, crossByRow, exitsAtRow, exitsByRow, exitsFromRow, junctionAtRow, junctionByRow, laneRowOf, lookupByRow, oneAt, pairEntry, pairsByRow, ranged, rowsOf, sectionsByRow, stepByRow, successorsByRow, successorsFromRow}
 use Rattle.succession.proofs.Absorbed.{room-after, took-long, took-more, took-none}
-use Rattle.succession.proofs.Steps.{ranged-more, ranged-none}
-
-ranged-up : (a n m : ℕ) (f : ℕ → List Entry) → n ≤ m → length (ranged a n f) ≤ length (ranged a m f)
-unfolding ranged
-ranged-up a n zero f h = let e : n ≡ 0 = omega arith in subst (λ (k : ℕ). length (ranged a k f) ≤ 0) (sym e) (le-refl 0)
-ranged-up a n (suc m) f h = ⊎-elim
-    (λ q. subst (λ (k : ℕ). length (ranged a k f) ≤ length (ranged a (suc m) f)) (sym q) (le-refl (length (ranged a (suc m) f))))
-    (λ lt. let ih = ranged-up a n m f (le-of-suc-le-suc lt) in let l = length-append (ranged a m f) (f (a + m)) in omega arith)
-    (eq-or-lt-of-le h)
+use Rattle.succession.proofs.Steps.{ranged-more}
 
 -- the entries from a up to e, those below i taken in
 module _ (both : Bool) (start a n : ℕ) (f : ℕ → List Entry) (old : List ℕ) (room : Room start (ranged a n f) old) where
   pub turns-begin : (i : ℕ) → i ≡ a → Took both start (ranged a (i - a) f) old old start
-  turns-begin i q = subst (λ (es : List Entry). Took both start es old old start) (sym (ap (λ (k : ℕ). ranged a k f) (let z : i - a ≡ 0 = omega arith in z) ∙ ranged-none a f)) (took-none both start old (let w = room .fits in omega arith))
+  turns-begin i q = subst (λ (es : List Entry). Took both start es old old start) (sym (ap (λ (k : ℕ). ranged a k f) (let z : i - a ≡ 0 = omega arith in z) ∙ joined-none (λ k. f (a + k)))) (took-none both start old (let w = room .fits in omega arith))
 
   module _ (i m : ℕ) (run : List ℕ) (t : Took both start (ranged a (i - a) f) old run m) (lo : a ≤ i) (hi : i < a + n) where
     fits-so-far : start + length (ranged a (i - a) f) ≤ length old
-    fits-so-far = let w = room .fits in let l = ranged-up a (i - a) n f (omega arith) in omega arith
+    fits-so-far = let w = room .fits in let l = joined-le (i - a) n (λ k. f (a + k)) (omega arith) in omega arith
 
     fits-next : start + length (ranged a (i - a) f ++ f i) ≤ length old
-    fits-next = let w = room .fits in let l = ranged-up a (i + 1 - a) n f (omega arith) in let e = ap length (ranged-more a i f lo) in omega arith
+    fits-next = let w = room .fits in let l = joined-le (i + 1 - a) n (λ k. f (a + k)) (omega arith) in let e = ap length (ranged-more a i f lo) in omega arith
 
     pub turns-room : Room m (f i) run
     turns-room = room-after both start (ranged a (i - a) f) old run m t fits-so-far (f i) (room .rising) fits-next
@@ -49,7 +41,7 @@ module _ (both : Bool) (start a n : ℕ) (f : ℕ → List Entry) (old : List �
   turns-end i m run t q = subst (λ (k : ℕ). Took both start (ranged a k f) old run m) (let z : i - a ≡ n = omega arith in z) t
 
   pub turns-long : (i m : ℕ) (run : List ℕ) → Took both start (ranged a (i - a) f) old run m → a ≤ i → i ≤ a + n → length run ≡ length old
-  turns-long i m run t lo hi = took-long both start (ranged a (i - a) f) old run m t (let w = room .fits in let l = ranged-up a (i - a) n f (omega arith) in omega arith)
+  turns-long i m run t lo hi = took-long both start (ranged a (i - a) f) old run m t (let w = room .fits in let l = joined-le (i - a) n (λ k. f (a + k)) (omega arith) in omega arith)
 
 -- ---- what the locals of the code make of a connection
 pub pairs-by : (roads sections junctions connections pairs lanes owner sides ends : List ℕ) (c k road section first count : ℕ)

@@ -11,32 +11,32 @@ use lib.ListN.{length, getD}
 use borrow.Author.Tests.{eqb-true, eqb-false, le-leb, le-ltb, leb-true, lt-leb, lt-ltb, ltb-true}
 use Rattle.model.specs.Succession.{Entry}
 use Rattle.words.specs.Chain.{Chained, within}
-use Rattle.words.specs.Rows.{lastOf}
+use Rattle.words.specs.Rows.{joined, lastOf}
 use Rattle.words.proofs.Chains.{last-has, last-le}
+use Rattle.words.proofs.Joins.{joined-none, joined-same}
 use Rattle.words.proofs.Scans.{and-off-left, and-on, and-step, left-on, right-on}
 use Rattle.succession.specs.ByRow.{Room, Rows, Took, connectionByRow, junctionByRow, pairsByRow, ranged}
 use Rattle.succession.specs.Meeting.{Homes, connectionHash, endOf, firstOf, homeOf, meetingAt, meetingHash, meets}
 use Rattle.succession.proofs.Absorbed.{took-none}
 use Rattle.succession.proofs.Homes.{last-past}
-use Rattle.succession.proofs.Steps.{ranged-none}
 use Rattle.succession.proofs.Turns.{turns-long, turns-on, turns-room}
 
 -- ---- ranges with nothing in some places
 module _ {A : Type 0} (g : ℕ → List A) where
-  ranged-quiet : (n m : ℕ) → n ≤ m → ((c : ℕ) → n ≤ c → c < m → g c ≡ []) → ranged 0 n g ≡ ranged 0 m g
-  unfolding ranged
-  ranged-quiet n zero h f = ap (λ (k : ℕ). ranged 0 k g) (let e : n ≡ 0 = omega arith in e)
-  ranged-quiet n (suc m) h f = ⊎-elim
-      (λ q. ap (λ (k : ℕ). ranged 0 k g) q)
-      (λ lt. ranged-quiet n m (le-of-suc-le-suc lt) (λ c a b. f c a (omega arith)) ∙ sym (append-nil (ranged 0 m g))
-      ∙ ap (λ (l : List A). ranged 0 m g ++ l) (sym (ap g (let e : 0 + m ≡ m = omega arith in e) ∙ f m (le-of-suc-le-suc lt) (le-refl (suc m)))))
+  joined-quiet : (n m : ℕ) → n ≤ m → ((c : ℕ) → n ≤ c → c < m → g c ≡ []) → joined n g ≡ joined m g
+  unfolding joined
+  joined-quiet n zero h f = ap (λ (k : ℕ). joined k g) (let e : n ≡ 0 = omega arith in e)
+  joined-quiet n (suc m) h f = ⊎-elim
+      (λ q. ap (λ (k : ℕ). joined k g) q)
+      (λ lt. joined-quiet n m (le-of-suc-le-suc lt) (λ c a b. f c a (omega arith)) ∙ sym (append-nil (joined m g))
+      ∙ ap (λ (l : List A). joined m g ++ l) (sym (f m (le-of-suc-le-suc lt) (le-refl (suc m)))))
       (eq-or-lt-of-le h)
 
-  ranged-part : (f : ℕ → List A) (first n : ℕ) → ((c : ℕ) → c < first → g c ≡ []) → ((c : ℕ) → first ≤ c → c < first + n → g c ≡ f c) → ranged 0 (first + n) g ≡ ranged first n f
-  unfolding ranged
-  ranged-part f first zero lo e = ap (λ (k : ℕ). ranged 0 k g) (let q : first + 0 ≡ first = omega arith in q) ∙ sym (ranged-quiet 0 first (omega arith) (λ c a b. lo c b))
-  ranged-part f first (suc n) lo e = ap (λ (k : ℕ). ranged 0 k g) (let q : first + suc n ≡ suc (first + n) = omega arith in q)
-      ∙ ap₂ (λ (a b : List A). a ++ b) (ranged-part f first n lo (λ c a b. e c a (omega arith))) (ap g (let q : 0 + (first + n) ≡ first + n = omega arith in q) ∙ e (first + n) (omega arith) (omega arith))
+  ranged-part : (f : ℕ → List A) (first n : ℕ) → ((c : ℕ) → c < first → g c ≡ []) → ((c : ℕ) → first ≤ c → c < first + n → g c ≡ f c) → joined (first + n) g ≡ ranged first n f
+  unfolding joined
+  ranged-part f first zero lo e = ap (λ (k : ℕ). joined k g) (let q : first + 0 ≡ first = omega arith in q) ∙ sym (joined-quiet 0 first (omega arith) (λ c a b. lo c b))
+  ranged-part f first (suc n) lo e = ap (λ (k : ℕ). joined k g) (let q : first + suc n ≡ suc (first + n) = omega arith in q)
+      ∙ ap₂ (λ (a b : List A). a ++ b) (ranged-part f first n lo (λ c a b. e c a (omega arith))) (e (first + n) (omega arith) (omega arith))
 
 -- ---- one connection
 module _ (R : Rows) (j w k c : ℕ) where
@@ -78,28 +78,32 @@ module _ (R : Rows) (j w k c : ℕ) where
       go false e = e
 
 -- a junction's connections are all connections, those that do not meet leading nowhere
-junction-met : (R : Rows) (j w k n : ℕ) → endOf (R .junctions) j ≤ n → junctionByRow R j w k ≡ ranged 0 n (meetingAt R j w k)
+junction-met : (R : Rows) (j w k n : ℕ) → endOf (R .junctions) j ≤ n → junctionByRow R j w k ≡ joined n (meetingAt R j w k)
 unfolding junctionByRow
 junction-met R j w k n h = sym (ranged-part (meetingAt R j w k) (connectionByRow R w k) (firstOf (R .junctions) j) (getD (R .junctions) (j * 5 + 4) 0) (λ c. before R j w k c) (λ c. inside R j w k c))
-    ∙ ranged-quiet (meetingAt R j w k) (endOf (R .junctions) j) n h (λ c a b. after R j w k c a)
+    ∙ joined-quiet (meetingAt R j w k) (endOf (R .junctions) j) n h (λ c a b. after R j w k c a)
 
 -- ---- the walk: the connections before n - at are taken in, and at is the next of the bucket
 pub record Walk (both : Bool) (start : ℕ) (R : Rows) (n j w k : ℕ) (old : List ℕ) (at : ℕ) (run : List ℕ) (m : ℕ) : Type 0 where
   pub below : at ≤ n
   pub bucket : (r : ℕ) → at ≡ suc r → connectionHash (R .junctions) (R .sides) n r ≡ meetingHash (j + 1) w
-  pub took : Took both start (ranged 0 (n - at) (meetingAt R j w k)) old run m
+  pub took : Took both start (joined (n - at) (meetingAt R j w k)) old run m
 
 module _ (both : Bool) (start : ℕ) (R : Rows) (n j w k : ℕ) (old heads next : List ℕ) (room : Room start (junctionByRow R j w k) old) (lj : j < length (R .junctions) / 5)
     (fits : endOf (R .junctions) j ≤ n) (homes : Homes (R .junctions)) (chained : Chained (connectionHash (R .junctions) (R .sides) n) n heads next) where
   abbrev hash : ℕ → ℕ
   hash i = connectionHash (R .junctions) (R .sides) n i
 
+  -- all connections, from the first on
+  from-first : (x : ℕ) → joined x (meetingAt R j w k) ≡ ranged 0 x (meetingAt R j w k)
+  from-first x = joined-same x (meetingAt R j w k) (λ i. meetingAt R j w k (0 + i)) (λ i h. ap (meetingAt R j w k) (let z : i ≡ 0 + i = omega arith in z))
+
   spread : Room start (ranged 0 n (meetingAt R j w k)) old
-  spread = subst (λ (es : List Entry). Room start es old) (junction-met R j w k n fits) room
+  spread = subst (λ (es : List Entry). Room start es old) (junction-met R j w k n fits ∙ from-first n) room
 
   -- nothing is missed between two of the bucket
-  gap : (lo hi : ℕ) → hi ≤ n → lo ≤ hi → ((i : ℕ) → lo ≤ i → i < hi → hash i ≡ meetingHash (j + 1) w → ⊥) → ranged 0 (n - hi) (meetingAt R j w k) ≡ ranged 0 (n - lo) (meetingAt R j w k)
-  gap lo hi h l away = ranged-quiet (meetingAt R j w k) (n - hi) (n - lo) (omega arith) (λ c a b. meeting-quiet R j w k c n homes lj (omega arith) (away (n - (c + 1)) (omega arith) (omega arith)))
+  gap : (lo hi : ℕ) → hi ≤ n → lo ≤ hi → ((i : ℕ) → lo ≤ i → i < hi → hash i ≡ meetingHash (j + 1) w → ⊥) → joined (n - hi) (meetingAt R j w k) ≡ joined (n - lo) (meetingAt R j w k)
+  gap lo hi h l away = joined-quiet (meetingAt R j w k) (n - hi) (n - lo) (omega arith) (λ c a b. meeting-quiet R j w k c n homes lj (omega arith) (away (n - (c + 1)) (omega arith) (omega arith)))
 
   pub walk-begin : (b at : ℕ) → b ≡ meetingHash (j + 1) w → b < length heads → at ≡ getD heads b 0 → Walk both start R n j w k old at old start
   walk-begin b at e lb q = record {
@@ -111,20 +115,20 @@ module _ (both : Bool) (start : ℕ) (R : Rows) (n j w k : ℕ) (old heads next 
       is : at ≡ lastOf n (within hash b)
       is = q ∙ chained .head b lb
 
-      nothing : [] ≡ ranged 0 (n - at) (meetingAt R j w k)
-      nothing = sym (ranged-none 0 (meetingAt R j w k)) ∙ ap (λ (x : ℕ). ranged 0 x (meetingAt R j w k)) (let z : 0 ≡ n - n = omega arith in z)
+      nothing : [] ≡ joined (n - at) (meetingAt R j w k)
+      nothing = sym (joined-none (meetingAt R j w k)) ∙ ap (λ (x : ℕ). joined x (meetingAt R j w k)) (let z : 0 ≡ n - n = omega arith in z)
           ∙ gap at n (le-refl n) (subst (λ (x : ℕ). x ≤ n) (sym is) (last-le n (within hash b)))
           (λ i a l f. eqb-false (hash i) b (last-past n i (within hash b) (subst (λ (x : ℕ). x ≤ i) is a) l) (f ∙ sym e))
 
   module _ (at m : ℕ) (run : List ℕ) (k′ : Walk both start R n j w k old at run m) where
     so-far : Took both start (ranged 0 (n - at - 0) (meetingAt R j w k)) old run m
-    so-far = subst (λ (x : ℕ). Took both start (ranged 0 x (meetingAt R j w k)) old run m) (let z : n - at ≡ n - at - 0 = omega arith in z) (k′ .took)
+    so-far = subst (λ (es : List Entry). Took both start es old run m) (ap (λ (x : ℕ). joined x (meetingAt R j w k)) (let z : n - at ≡ n - at - 0 = omega arith in z) ∙ from-first (n - at - 0)) (k′ .took)
 
     pub walk-long : length run ≡ length old
     walk-long = turns-long both start 0 n (meetingAt R j w k) old spread (n - at) m run so-far (omega arith) (omega arith)
 
     pub walk-end : at ≡ 0 → Took both start (junctionByRow R j w k) old run m
-    walk-end z = subst (λ (es : List Entry). Took both start es old run m) (ap (λ (x : ℕ). ranged 0 x (meetingAt R j w k)) (let e : n - at ≡ n = omega arith in e) ∙ sym (junction-met R j w k n fits)) (k′ .took)
+    walk-end z = subst (λ (es : List Entry). Took both start es old run m) (ap (λ (x : ℕ). joined x (meetingAt R j w k)) (let e : n - at ≡ n = omega arith in e) ∙ sym (junction-met R j w k n fits)) (k′ .took)
 
     module _ (nz : at ≡ 0 → ⊥) where
       is-link : getD next (at - 1) 0 ≡ lastOf (at - 1) (within hash (hash (at - 1)))
@@ -141,7 +145,7 @@ module _ (both : Bool) (start : ℕ) (R : Rows) (n j w k : ℕ) (old heads next 
         below = let a = walk-less in let b = k′ .below in omega arith;
         bucket = λ r z. eqb-true (hash r) (hash (at - 1)) (last-has (at - 1) r (within hash (hash (at - 1))) (sym is ∙ z)) ∙ own;
         took = subst (λ (es : List Entry). Took both start es old new q)
-            (ap (λ (x : ℕ). ranged 0 x (meetingAt R j w k)) (let b = k′ .below in let z : n - at + 1 - 0 ≡ n - (at - 1) = omega arith in z)
+            (sym (from-first (n - at + 1 - 0)) ∙ ap (λ (x : ℕ). joined x (meetingAt R j w k)) (let b = k′ .below in let z : n - at + 1 - 0 ≡ n - (at - 1) = omega arith in z)
             ∙ gap at′ (at - 1) (let b = k′ .below in omega arith) (let a = last-le (at - 1) (within hash (hash (at - 1))) in let z = is in omega arith)
             (λ i a l f. eqb-false (hash i) (hash (at - 1)) (last-past (at - 1) i (within hash (hash (at - 1))) (subst (λ (x : ℕ). x ≤ i) is a) l) (f ∙ sym own)))
             (turns-on both start 0 n (meetingAt R j w k) old spread (n - at) m run so-far (omega arith) (let b = k′ .below in omega arith) new q t);

@@ -13,7 +13,7 @@ use Rattle.model.specs.Succession.{Entry, endSection, nextSection}
 use Rattle.model.specs.Tables.{flag, laneIn}
 use Rattle.words.specs.Chain.{Chained}
 use Rattle.words.specs.Keys.{isKey, laneHash}
-use Rattle.words.specs.Rows.{from, lastOf}
+use Rattle.words.specs.Rows.{from, joined, lastOf}
 use Rattle.rules.specs.ByRow.{numbersAt}
 use Rattle.succession.specs.Runs.{Rising, absorb}
 
@@ -43,9 +43,8 @@ rowsOf roads sections junctions connections pairs lanes owner sides ends = recor
 }
 
 -- f first, f (first + 1), .. joined: n of them
-unfoldable pub ranged : {A : Type 0} → ℕ → ℕ → (ℕ → List A) → List A
-ranged first zero f = []
-ranged first (suc n) f = ranged first n f ++ f (first + n)
+abbrev pub ranged : {A : Type 0} → ℕ → ℕ → (ℕ → List A) → List A
+ranged first n f = joined n (λ i. f (first + i))
 
 -- the lane of row r
 unfoldable pub laneAt : List ℕ → ℕ → Lane

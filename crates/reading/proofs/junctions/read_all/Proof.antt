@@ -5,7 +5,7 @@ use native.Mathlib.Omega.{arith}
 use Rattle.model.specs.Reading.{junctionWarnings, partRows, readJunction, readJunctions, readWarnings, toList}
 use Rattle.model.specs.Lists.{gather}
 use Rattle.words.specs.Rows.{total}
-use Rattle.repair.specs.Laying.{counts}
+use Rattle.rules.specs.Parts.{counts}
 use Rattle.reading.proofs.RoomLaws.{low-begin}
 use Rattle.reading.proofs.RunLaws.{junctions-none, junctions-turn}
 use Rattle.reading.specs.Laid.{JunctionsRead, Low, rawTables}

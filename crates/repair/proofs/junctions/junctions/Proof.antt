@@ -1,5 +1,6 @@
 use Rattle.repair.proofs.Steps.{over-none, over-more}
-use Rattle.repair.specs.Laying.{Over, counts}
+use Rattle.repair.specs.Laying.{Over}
+use Rattle.rules.specs.Parts.{counts}
 use Rattle.model.specs.Tables.{mapTables}
 use Rattle.model.specs.Calls.{warningRow}
 use Rattle.repair.specs.Now.{roadsNow, junctionAt}

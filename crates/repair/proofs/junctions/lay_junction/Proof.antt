@@ -1,6 +1,7 @@
 use Rattle.repair.proofs.Steps.{junction-connections}
-use Rattle.repair.proofs.Lays.{fit-in, fit-next, laid-on, laid-same}
-use Rattle.repair.specs.Laying.{counts}
+use Rattle.repair.proofs.Lays.{laid-on, laid-same}
+use Rattle.rules.proofs.Fits.{fit-in, fit-next}
+use Rattle.rules.specs.Parts.{counts}
 use Rattle.repair.specs.Now.{roadsNow}
 use Rattle.words.proofs.Laws.{total-le}
 use Rattle.words.specs.Rows.{total}

@@ -1,10 +1,10 @@
 use Rattle.repair.proofs.Steps.{junction-roads, junction-words, junction-warned}
-use Rattle.repair.proofs.Lays.{fit-in, fit-next}
+use Rattle.rules.proofs.Fits.{fit-in, fit-next}
 use Rattle.model.specs.Repair.{Warning}
 use Rattle.model.specs.Tables.{mapTables}
 use Rattle.model.specs.Calls.{warningRow}
 use Rattle.model.specs.Lists.{gather}
-use Rattle.repair.specs.Laying.{counts}
+use Rattle.rules.specs.Parts.{counts}
 use Rattle.repair.specs.Now.{roadsNow}
 use Rattle.words.proofs.Laws.{total-le}
 use Rattle.words.specs.Rows.{total}

@@ -1,5 +1,6 @@
 use Rattle.repair.proofs.Missing.{put-on}
-use Rattle.repair.proofs.Lays.{fit-in, lay-one, row-width}
+use Rattle.repair.proofs.Lays.{lay-one, row-width}
+use Rattle.rules.proofs.Fits.{fit-in}
 use Rattle.repair.specs.Laying.{rowWords}
 use Rattle.words.specs.Rows.{spliced}
 use lib.ListN.{length}

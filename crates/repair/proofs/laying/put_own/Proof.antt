@@ -1,5 +1,7 @@
-use Rattle.repair.proofs.Lays.{fit-next, laid-none, laid-own}
-use Rattle.repair.specs.Laying.{counts, Laid}
+use Rattle.repair.proofs.Lays.{laid-none, laid-own}
+use Rattle.rules.proofs.Fits.{fit-next}
+use Rattle.repair.specs.Laying.{Laid}
+use Rattle.rules.specs.Parts.{counts}
 use Rattle.repair.specs.Now.{connectionAt}
 use Rattle.words.proofs.Laws.{total-le}
 use Rattle.words.specs.Rows.{tab, total}

@@ -1,6 +1,8 @@
 use Rattle.repair.proofs.Turns.{reversed-is}
-use Rattle.repair.proofs.Lays.{fit-next, laid-none, laid-more, laid-same}
-use Rattle.repair.specs.Laying.{counts, Laid}
+use Rattle.repair.proofs.Lays.{laid-none, laid-more, laid-same}
+use Rattle.rules.proofs.Fits.{fit-next}
+use Rattle.repair.specs.Laying.{Laid}
+use Rattle.rules.specs.Parts.{counts}
 use Rattle.repair.specs.Now.{run, roadsNow, connectionAt}
 use Rattle.words.proofs.Laws.{total-le}
 use Rattle.words.specs.Rows.{tab, total, nameAt}

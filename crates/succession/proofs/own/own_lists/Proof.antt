@@ -4,9 +4,8 @@ use Rattle.succession.specs.ByRow.{rowsOf, successorsByRow}
 use Rattle.succession.proofs.Places.{tail-size}
 use Rattle.succession.proofs.Packing.{packed-none, starts-more, starts-none}
 use Rattle.succession.specs.Packs.{startOf}
-use Rattle.succession.specs.ByRow.{ranged}
 use Rattle.words.proofs.Laws.{total-le, total-more, total-none}
-use Rattle.words.specs.Rows.{tab}
+use Rattle.words.specs.Rows.{joined, tab}
 use Rattle.model.specs.Rows.{written}
 use lib.ListN.{length, take, drop, set, length-set}
 use mathlib.Core.List.{_++_}
@@ -18,7 +17,7 @@ use Rattle.succession.proofs.own.own_lists.Statement.{statement}
 use Rattle.succession.proofs.own.own_lists.Tie as tie
 
 abbrev Inv-loop : tie.InvT-loop
-Inv-loop roads sections junctions connections pairs lanes owner sides ends heads next mheads mnext offsets₀ own₀ n at₀ i₀ offsets own at i = (i ≤ n) × (n ≡ length lanes / 10) × (at ≡ startOf (successorsByRow (rowsOf roads sections junctions connections pairs lanes owner sides ends)) i) × (length offsets ≡ length offsets₀) × (offsets ≡ written (tab i (startOf (successorsByRow (rowsOf roads sections junctions connections pairs lanes owner sides ends)))) offsets₀) × (length own ≡ length own₀) × (own ≡ written (ranged 0 i (successorsByRow (rowsOf roads sections junctions connections pairs lanes owner sides ends))) own₀)
+Inv-loop roads sections junctions connections pairs lanes owner sides ends heads next mheads mnext offsets₀ own₀ n at₀ i₀ offsets own at i = (i ≤ n) × (n ≡ length lanes / 10) × (at ≡ startOf (successorsByRow (rowsOf roads sections junctions connections pairs lanes owner sides ends)) i) × (length offsets ≡ length offsets₀) × (offsets ≡ written (tab i (startOf (successorsByRow (rowsOf roads sections junctions connections pairs lanes owner sides ends)))) offsets₀) × (length own ≡ length own₀) × (own ≡ written (joined i (successorsByRow (rowsOf roads sections junctions connections pairs lanes owner sides ends))) own₀)
 
 abbrev μ-loop : tie.MeasureT-loop
 μ-loop roads sections junctions connections pairs lanes owner sides ends heads next mheads mnext offsets₀ own₀ n at₀ i₀ offsets own at i = n - i
@@ -91,7 +90,7 @@ returns : tie.Need-returns Inv-loop μ-loop
 returns c = let s = (c .before .before .before .before .before .before .before .before .before .before .before .before .before .before .before .before .before) in
     let l = c .before .loop in
     let e : l .i ≡ (length (s .args .lanes .now) / 10) = omega (arith, l .inv .0, l .inv .1, c .loop-test .left) in
-    record { starts = ap (λ (k : ℕ). set (l .offsets) k (l .at)) (sym e) ∙ starts-more (startOf (successorsByRow (rowsOf (s .args .roads .now) (s .args .sections .now) (s .args .junctions .now) (s .args .connections .now) (s .args .pairs .now) (s .args .lanes .now) (s .args .owner .now) (s .args .sides .now) (s .args .ends .now)))) (l .i) (l .at) (s .args .offsets .now) (l .offsets) (l .inv .4) (l .inv .2) (omega (arith, e, s .pre .1 .1 .0)) ∙ ap (λ (k : ℕ). written (tab (k + 1) (startOf (successorsByRow (rowsOf (s .args .roads .now) (s .args .sections .now) (s .args .junctions .now) (s .args .connections .now) (s .args .pairs .now) (s .args .lanes .now) (s .args .owner .now) (s .args .sides .now) (s .args .ends .now))))) (s .args .offsets .now)) e; content = l .inv .6 ∙ ap (λ (k : ℕ). written (ranged 0 k (successorsByRow (rowsOf (s .args .roads .now) (s .args .sections .now) (s .args .junctions .now) (s .args .connections .now) (s .args .pairs .now) (s .args .lanes .now) (s .args .owner .now) (s .args .sides .now) (s .args .ends .now)))) (s .args .own .now)) e }
+    record { starts = ap (λ (k : ℕ). set (l .offsets) k (l .at)) (sym e) ∙ starts-more (startOf (successorsByRow (rowsOf (s .args .roads .now) (s .args .sections .now) (s .args .junctions .now) (s .args .connections .now) (s .args .pairs .now) (s .args .lanes .now) (s .args .owner .now) (s .args .sides .now) (s .args .ends .now)))) (l .i) (l .at) (s .args .offsets .now) (l .offsets) (l .inv .4) (l .inv .2) (omega (arith, e, s .pre .1 .1 .0)) ∙ ap (λ (k : ℕ). written (tab (k + 1) (startOf (successorsByRow (rowsOf (s .args .roads .now) (s .args .sections .now) (s .args .junctions .now) (s .args .connections .now) (s .args .pairs .now) (s .args .lanes .now) (s .args .owner .now) (s .args .sides .now) (s .args .ends .now))))) (s .args .offsets .now)) e; content = l .inv .6 ∙ ap (λ (k : ℕ). written (joined k (successorsByRow (rowsOf (s .args .roads .now) (s .args .sections .now) (s .args .junctions .now) (s .args .connections .now) (s .args .pairs .now) (s .args .lanes .now) (s .args .owner .now) (s .args .sides .now) (s .args .ends .now)))) (s .args .own .now)) e }
 
 pub own-lists-spec : {M : Type 1} → statement M
 own-lists-spec =
