@@ -5,30 +5,14 @@ use crate::tables::{Tables, CONNECTION, EDGE, JUNCTION, LANE, PAIR, ROAD};
 /// What every output word holds before a call.
 pub const UNTOUCHED: u32 = 0xdead_beef;
 
-macro_rules! exported {
-    ($($name:ident($($arg:ident: $type:ty),*);)*) => {
-        extern "C" {
-            $(fn $name(t: *const u8, tl: usize, r: *const u32, rl: usize, s: *const u32, sl: usize, j: *const u32, jl: usize, c: *const u32, cl: usize, p: *const u32, pl: usize, $($arg: $type),*) -> u32;)*
-        }
-    };
-}
+/// The binding's declarations.
+#[path = "../../bindings/rust/src/ffi.rs"]
+mod ffi;
+use ffi::*;
 
-exported! {
-    vz_repair(a: *mut u32, al: usize, b: *mut u32, bl: usize, d: *mut u32, dl: usize, e: *mut u32, el: usize, f: *mut u32, fl: usize, written: *mut u32);
-    vz_succession(l: *const u32, ll: usize, a: *mut u32, al: usize, b: *mut u32, bl: usize, d: *mut u32, dl: usize, e: *mut u32, el: usize, written: *mut u32);
-    vz_gaps(l: *const u32, ll: usize, x: *const f32, xl: usize, o: *const u32, ol: usize, i: *const u32, il: usize, a: *mut u32, al: usize, written: *mut u32);
-    vz_reverse(l: *const u32, ll: usize, x: *const f32, xl: usize, m: *const u32, ml: usize, a: *mut u32, al: usize, b: *mut u32, bl: usize, d: *mut u32, dl: usize, e: *mut u32, el: usize, f: *mut u32, fl: usize, g: *mut f32, gl: usize, written: *mut u32);
-}
-
-extern "C" {
-    fn vz_root(x: f32, out: *mut f32) -> u32;
-    fn vz_distance(first: *const f32, second: *const f32) -> f32;
-    fn vz_list(so: *const u32, sol: usize, si: *const u32, sil: usize, po: *const u32, pol: usize, pi: *const u32, pil: usize, row: u32, before: u32, part: *mut u32);
-    fn vz_name(t: *const u8, tl: usize, start: u32, length: u32, part: *mut u32);
-    fn vz_length(s: *const f64, sl: usize, l: *const f64, ll: usize, length: f64, sum: *mut f64) -> u32;
-    fn vz_read_targets(t: *const u8, tl: usize, r: *const u32, rl: usize, a: *mut u32, al: usize, written: *mut u32) -> u32;
-    fn vz_read_lanes(t: *const u8, tl: usize, r: *const u32, rl: usize, a: *mut u32, al: usize, written: *mut u32) -> u32;
-    fn vz_read_junctions(t: *const u8, tl: usize, j: *const u32, jl: usize, c: *const u32, cl: usize, l: *const u32, ll: usize, a: *mut u32, al: usize, b: *mut u32, bl: usize, d: *mut u32, dl: usize, e: *mut u32, el: usize, written: *mut u32) -> u32;
+/// The first words, as many as a call counts.
+fn first<const N: usize>(written: &mut [u32]) -> &mut [u32; N] {
+    (&mut written[..N]).try_into().unwrap()
 }
 
 /// Calls an exported function with the map first, then slices as a pointer and a length, then `written`.
@@ -40,20 +24,20 @@ macro_rules! call {
     };
     (@ $name:ident, $t:expr, [], [$a:expr, $b:expr, $c:expr, $d:expr, $e:expr], $w:expr) => {
         $name($t.text.as_ptr(), $t.text.len(), $t.roads.as_ptr(), $t.roads.len(), $t.sections.as_ptr(), $t.sections.len(), $t.junctions.as_ptr(), $t.junctions.len(), $t.connections.as_ptr(), $t.connections.len(), $t.pairs.as_ptr(), $t.pairs.len(),
-            $a.as_mut_ptr(), $a.len(), $b.as_mut_ptr(), $b.len(), $c.as_mut_ptr(), $c.len(), $d.as_mut_ptr(), $d.len(), $e.as_mut_ptr(), $e.len(), $w.as_mut_ptr())
+            $a.as_mut_ptr(), $a.len(), $b.as_mut_ptr(), $b.len(), $c.as_mut_ptr(), $c.len(), $d.as_mut_ptr(), $d.len(), $e.as_mut_ptr(), $e.len(), first::<5>(&mut $w))
     };
     (@ $name:ident, $t:expr, [$l:expr], [$a:expr, $b:expr, $c:expr, $d:expr], $w:expr) => {
         $name($t.text.as_ptr(), $t.text.len(), $t.roads.as_ptr(), $t.roads.len(), $t.sections.as_ptr(), $t.sections.len(), $t.junctions.as_ptr(), $t.junctions.len(), $t.connections.as_ptr(), $t.connections.len(), $t.pairs.as_ptr(), $t.pairs.len(),
-            $l.as_ptr(), $l.len(), $a.as_mut_ptr(), $a.len(), $b.as_mut_ptr(), $b.len(), $c.as_mut_ptr(), $c.len(), $d.as_mut_ptr(), $d.len(), $w.as_mut_ptr())
+            $l.as_ptr(), $l.len(), $a.as_mut_ptr(), $a.len(), $b.as_mut_ptr(), $b.len(), $c.as_mut_ptr(), $c.len(), $d.as_mut_ptr(), $d.len(), first::<4>(&mut $w))
     };
     (@ $name:ident, $t:expr, [$l:expr, $x:expr, $o:expr, $i:expr], [$a:expr], $w:expr) => {
         $name($t.text.as_ptr(), $t.text.len(), $t.roads.as_ptr(), $t.roads.len(), $t.sections.as_ptr(), $t.sections.len(), $t.junctions.as_ptr(), $t.junctions.len(), $t.connections.as_ptr(), $t.connections.len(), $t.pairs.as_ptr(), $t.pairs.len(),
-            $l.as_ptr(), $l.len(), $x.as_ptr(), $x.len(), $o.as_ptr(), $o.len(), $i.as_ptr(), $i.len(), $a.as_mut_ptr(), $a.len(), $w.as_mut_ptr())
+            $l.as_ptr(), $l.len(), $x.as_ptr(), $x.len(), $o.as_ptr(), $o.len(), $i.as_ptr(), $i.len(), $a.as_mut_ptr(), $a.len(), first::<1>(&mut $w))
     };
     (@ $name:ident, $t:expr, [$l:expr, $x:expr, $m:expr], [$a:expr, $b:expr, $c:expr, $d:expr, $e:expr, $f:expr], $w:expr) => {
         $name($t.text.as_ptr(), $t.text.len(), $t.roads.as_ptr(), $t.roads.len(), $t.sections.as_ptr(), $t.sections.len(), $t.junctions.as_ptr(), $t.junctions.len(), $t.connections.as_ptr(), $t.connections.len(), $t.pairs.as_ptr(), $t.pairs.len(),
             $l.as_ptr(), $l.len(), $x.as_ptr(), $x.len(), $m.as_ptr(), $m.len(),
-            $a.as_mut_ptr(), $a.len(), $b.as_mut_ptr(), $b.len(), $c.as_mut_ptr(), $c.len(), $d.as_mut_ptr(), $d.len(), $e.as_mut_ptr(), $e.len(), $f.as_mut_ptr(), $f.len(), $w.as_mut_ptr())
+            $a.as_mut_ptr(), $a.len(), $b.as_mut_ptr(), $b.len(), $c.as_mut_ptr(), $c.len(), $d.as_mut_ptr(), $d.len(), $e.as_mut_ptr(), $e.len(), $f.as_mut_ptr(), $f.len(), first::<6>(&mut $w))
     };
 }
 
@@ -157,13 +141,13 @@ pub fn reverse(t: &Tables, marks: &[u32], [roads, sections, connections, pairs, 
 
 pub fn read_targets(raw: &Raw, length: usize) -> Outcome {
     let mut b = Buffers::new([length]);
-    let refusal = unsafe { vz_read_targets(raw.text.as_ptr(), raw.text.len(), raw.targets.as_ptr(), raw.targets.len(), b.outs[0].as_mut_ptr(), length, b.written.as_mut_ptr()) };
+    let refusal = unsafe { vz_read_targets(raw.text.as_ptr(), raw.text.len(), raw.targets.as_ptr(), raw.targets.len(), b.outs[0].as_mut_ptr(), length, first(&mut b.written)) };
     b.outcome(refusal)
 }
 
 pub fn read_lanes(raw: &Raw, length: usize) -> Outcome {
     let mut b = Buffers::new([length]);
-    let refusal = unsafe { vz_read_lanes(raw.text.as_ptr(), raw.text.len(), raw.lanes.as_ptr(), raw.lanes.len(), b.outs[0].as_mut_ptr(), length, b.written.as_mut_ptr()) };
+    let refusal = unsafe { vz_read_lanes(raw.text.as_ptr(), raw.text.len(), raw.lanes.as_ptr(), raw.lanes.len(), b.outs[0].as_mut_ptr(), length, first(&mut b.written)) };
     b.outcome(refusal)
 }
 
@@ -172,7 +156,7 @@ pub fn read_junctions(raw: &Raw, lengths: [usize; 4]) -> Outcome {
     let [j, c, p, w] = &mut b.outs[..] else { unreachable!() };
     let refusal = unsafe {
         vz_read_junctions(raw.text.as_ptr(), raw.text.len(), raw.junctions.as_ptr(), raw.junctions.len(), raw.connections.as_ptr(), raw.connections.len(), raw.links.as_ptr(), raw.links.len(),
-            j.as_mut_ptr(), j.len(), c.as_mut_ptr(), c.len(), p.as_mut_ptr(), p.len(), w.as_mut_ptr(), w.len(), b.written.as_mut_ptr())
+            j.as_mut_ptr(), j.len(), c.as_mut_ptr(), c.len(), p.as_mut_ptr(), p.len(), w.as_mut_ptr(), w.len(), first(&mut b.written))
     };
     b.outcome(refusal)
 }
@@ -187,14 +171,14 @@ pub fn length(starts: &[f64], lengths: &[f64], length: f64) -> (u32, f64) {
 /// The part of a row's list, of the lists' offsets and identities, successors first.
 pub fn list([so, si, po, pi]: &[Vec<u32>; 4], row: u32, before: u32) -> [u32; 2] {
     let mut part = [UNTOUCHED; 2];
-    unsafe { vz_list(so.as_ptr(), so.len(), si.as_ptr(), si.len(), po.as_ptr(), po.len(), pi.as_ptr(), pi.len(), row, before, part.as_mut_ptr()) };
+    unsafe { vz_list(so.as_ptr(), so.len(), si.as_ptr(), si.len(), po.as_ptr(), po.len(), pi.as_ptr(), pi.len(), row, before, &mut part) };
     part
 }
 
 /// The part of the text that a name is.
 pub fn name(text: &[u8], start: u32, length: u32) -> [u32; 2] {
     let mut part = [UNTOUCHED; 2];
-    unsafe { vz_name(text.as_ptr(), text.len(), start, length, part.as_mut_ptr()) };
+    unsafe { vz_name(text.as_ptr(), text.len(), start, length, &mut part) };
     part
 }
 
@@ -208,5 +192,5 @@ pub fn root(x: f32) -> (u32, f32) {
 
 #[inline]
 pub fn distance(first: &[f32; 6], second: &[f32; 6]) -> f32 {
-    unsafe { vz_distance(first.as_ptr(), second.as_ptr()) }
+    unsafe { vz_distance(first, second) }
 }

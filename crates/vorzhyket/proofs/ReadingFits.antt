@@ -20,7 +20,7 @@ use Rattle.laws.proofs.RulesReversed.{unbroken-append}
 use Rattle.laws.proofs.WordsReversed.{gather-gather, length-connections, length-junctions, length-pairs}
 use Rattle.words.specs.Rows.{total}
 use Rattle.words.proofs.Laws.{total-le, total-more, total-none}
-use Rattle.repair.specs.Laying.{counts}
+use Rattle.rules.specs.Parts.{counts}
 use Rattle.reading.specs.Laid.{Ready, connectionsOf, pairsOf, rawTables}
 use Rattle.reading.proofs.CallLaws.{ready}
 use Rattle.reading.proofs.LaneLaws.{lanes-few, lanes-length}
