@@ -3,6 +3,7 @@
 include!(concat!(env!("OUT_DIR"), "/original.rs"));
 pub mod calls;
 pub mod damage;
+pub mod form;
 pub mod lookups;
 pub mod maps;
 pub mod measures;
