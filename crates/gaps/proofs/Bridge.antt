@@ -34,10 +34,16 @@ use Rattle.words.proofs.Joins.{gather-all, joined-first, joined-gather, joined-
 -- ---- its two ends
 module _ (edges : List Float) (a : ℕ) where
   at-start : (m : ℕ) → m < 6 → getD (take 6 (take 12 (drop a edges))) m nan ≡ getD edges (a + m) nan
-  at-start m h = getD-take 6 (take 12 (drop a edges)) m nan h ∙ getD-take 12 (drop a edges) m nan (omega arith) ∙ getD-drop a edges m nan
+  at-start m h =
+      getD-take 6 (take 12 (drop a edges)) m nan h
+      ∙ getD-take 12 (drop a edges) m nan (omega arith)
+      ∙ getD-drop a edges m nan
 
   at-end : (m : ℕ) → m < 6 → getD (drop 6 (take 12 (drop a edges))) m nan ≡ getD edges (a + (6 + m)) nan
-  at-end m h = getD-drop 6 (take 12 (drop a edges)) m nan ∙ getD-take 12 (drop a edges) (6 + m) nan (omega arith) ∙ getD-drop a edges (6 + m) nan
+  at-end m h =
+      getD-drop 6 (take 12 (drop a edges)) m nan
+      ∙ getD-take 12 (drop a edges) (6 + m) nan (omega arith)
+      ∙ getD-drop a edges (6 + m) nan
 
   start-point : (k : ℕ) → k + 2 < 6 → pointAt (take 6 (take 12 (drop a edges))) k ≡ pointAt edges (a + k)
   start-point k h =
@@ -49,8 +55,12 @@ module _ (edges : List Float) (a : ℕ) where
   end-point : (k : ℕ) → k + 2 < 6 → pointAt (drop 6 (take 12 (drop a edges))) k ≡ pointAt edges (a + (6 + k))
   end-point k h =
       let p = at-end k (omega arith) in
-      let q = at-end (k + 1) (omega arith) ∙ ap (λ (m : ℕ). getD edges m nan) (let z : a + (6 + (k + 1)) ≡ a + (6 + k) + 1 = omega arith in z) in
-      let r = at-end (k + 2) (omega arith) ∙ ap (λ (m : ℕ). getD edges m nan) (let z : a + (6 + (k + 2)) ≡ a + (6 + k) + 2 = omega arith in z) in
+      let q =
+      at-end (k + 1) (omega arith)
+      ∙ ap (λ (m : ℕ). getD edges m nan) (let z : a + (6 + (k + 1)) ≡ a + (6 + k) + 1 = omega arith in z) in
+      let r =
+      at-end (k + 2) (omega arith)
+      ∙ ap (λ (m : ℕ). getD edges m nan) (let z : a + (6 + (k + 2)) ≡ a + (6 + k) + 2 = omega arith in z) in
       λ i. record { x = p i; y = q i; z = r i }
 
 ends-are : (lanes : List ℕ) (edges : List Float) (i : ℕ) → endsOf (edgedAt lanes edges i) ≡ endsAt edges i
@@ -63,11 +73,13 @@ ends-are lanes edges i =
     let s = end-point edges a 3 (omega arith) in
     λ j. (p j ∷ q j ∷ []) ∷ (r j ∷ s j ∷ []) ∷ []
 
-way-is : (lanes : List ℕ) (edges : List Float) (i : ℕ) → edgedAt lanes edges i .lane .direction ≡ directionOf (getD lanes (i * 10 + 5) 0)
+way-is : (lanes : List ℕ) (edges : List Float) (i : ℕ)
+    → edgedAt lanes edges i .lane .direction ≡ directionOf (getD lanes (i * 10 + 5) 0)
 unfolding edgedAt laneIn
 way-is lanes edges i = ap directionOf (getD-drop (i * 10) lanes 5 0)
 
-gap-is : (lanes : List ℕ) (edges : List Float) (i r : ℕ) → decisionOf (gapBetween (edgedAt lanes edges i) (edgedAt lanes edges r)) ≡ decisionAt lanes edges i r
+gap-is : (lanes : List ℕ) (edges : List Float) (i r : ℕ)
+    → decisionOf (gapBetween (edgedAt lanes edges i) (edgedAt lanes edges r)) ≡ decisionAt lanes edges i r
 unfolding gapBetween decisionAt
 gap-is lanes edges i r =
     let a = ends-are lanes edges i in
@@ -77,30 +89,43 @@ gap-is lanes edges i r =
     λ j. decisionOf (gapOf (a j) (b j) (c j) (d j))
 
 module _ (lanes : List ℕ) (edges : List Float) (once : any (length lanes / 10) (idBefore lanes) ≡ false) where
-  words-of : (i r : ℕ) (w : Decision) → gather gapWords (map (λ g. record { laneRow = i; nextRow = r; gap = g }) (rowBits w)) ≡ rowOf i r w
+  words-of : (i r : ℕ) (w : Decision)
+      → gather gapWords (map (λ g. record { laneRow = i; nextRow = r; gap = g }) (rowBits w)) ≡ rowOf i r w
   unfolding gapWords
   words-of i r Passed = refl
   words-of i r (Wide w) = refl
 
   -- the words of one link
-  link-is : (i k : ℕ) → 0 < lastOf (length lanes / 10) (isId lanes k) → lastOf (length lanes / 10) (isId lanes k) ≤ length lanes / 10 → gather gapWords (listO (rowOfIdentity k 0 (all lanes edges once)) (gapRow i (edgedAt lanes edges i))) ≡ linkRow lanes edges i k
+  link-is : (i k : ℕ) → 0 < lastOf (length lanes / 10) (isId lanes k)
+      → lastOf (length lanes / 10) (isId lanes k) ≤ length lanes / 10
+      → gather gapWords (listO (rowOfIdentity k 0 (all lanes edges once)) (gapRow i (edgedAt lanes edges i)))
+      ≡ linkRow lanes edges i k
   unfolding gapRow linkRow
   link-is i k p q = go (lastOf (length lanes / 10) (isId lanes k)) refl p q
     where
-      go : (m : ℕ) → lastOf (length lanes / 10) (isId lanes k) ≡ m → 0 < m → m ≤ length lanes / 10 → gather gapWords (listO (rowOfIdentity k 0 (all lanes edges once)) (gapRow i (edgedAt lanes edges i))) ≡ linkRow lanes edges i k
+      go : (m : ℕ) → lastOf (length lanes / 10) (isId lanes k) ≡ m → 0 < m → m ≤ length lanes / 10
+          → gather gapWords
+          (listO (rowOfIdentity k 0 (all lanes edges once)) (gapRow i (edgedAt lanes edges i)))
+          ≡ linkRow lanes edges i k
       go zero e p q = absurd (not-suc-le-zero p)
       go (suc r) e p q =
-          let found : rowOfIdentity k 0 (all lanes edges once) ≡ some (r, edgedAt lanes edges r) = row-is lanes edges once k r e q in
+          let found : rowOfIdentity k 0 (all lanes edges once) ≡ some (r, edgedAt lanes edges r) =
+          row-is lanes edges once k r e q in
           let at : lastOf (length lanes / 10) (isId lanes k) - 1 ≡ r = omega arith in
           ap (λ o. gather gapWords (listO o (gapRow i (edgedAt lanes edges i)))) found
           ∙ one r
           ∙ sym (ap (λ (m : ℕ). rowOf i m (decisionAt lanes edges i m)) at)
         where
-          one : (r : ℕ) → gather gapWords (gapRow i (edgedAt lanes edges i) (r, edgedAt lanes edges r)) ≡ rowOf i r (decisionAt lanes edges i r)
-          one r = words-of i r (decisionOf (gapBetween (edgedAt lanes edges i) (edgedAt lanes edges r))) ∙ ap (rowOf i r) (gap-is lanes edges i r)
+          one : (r : ℕ)
+              → gather gapWords (gapRow i (edgedAt lanes edges i) (r, edgedAt lanes edges r))
+              ≡ rowOf i r (decisionAt lanes edges i r)
+          one r =
+              words-of i r (decisionOf (gapBetween (edgedAt lanes edges i) (edgedAt lanes edges r)))
+              ∙ ap (rowOf i r) (gap-is lanes edges i r)
 
 -- ---- the lists of successors
-lists-after : (ids : List ℕ) (o : ℕ) (os : List ℕ) (j : ℕ) → j < length os → getD (listsAfter ids o os) j [] ≡ part (getD (o ∷ os) j 0) (getD os j 0 - getD (o ∷ os) j 0) ids
+lists-after : (ids : List ℕ) (o : ℕ) (os : List ℕ) (j : ℕ) → j < length os
+    → getD (listsAfter ids o os) j [] ≡ part (getD (o ∷ os) j 0) (getD os j 0 - getD (o ∷ os) j 0) ids
 lists-after ids o [] j h = absurd (not-suc-le-zero h)
 lists-after ids o (p ∷ os) zero h = refl
 lists-after ids o (p ∷ os) (suc j) h = lists-after ids p os j (le-of-suc-le-suc h)
@@ -109,7 +134,8 @@ lists-count : (ids : List ℕ) (o : ℕ) (os : List ℕ) → length (listsAfter 
 lists-count ids o [] = refl
 lists-count ids o (p ∷ os) = ap suc (lists-count ids p os)
 
-list-at : (offsets ids : List ℕ) (j : ℕ) → j + 1 < length offsets → getD (listsIn offsets ids) j [] ≡ part (getD offsets j 0) (getD offsets (j + 1) 0 - getD offsets j 0) ids
+list-at : (offsets ids : List ℕ) (j : ℕ) → j + 1 < length offsets
+    → getD (listsIn offsets ids) j [] ≡ part (getD offsets j 0) (getD offsets (j + 1) 0 - getD offsets j 0) ids
 list-at [] ids j h = absurd (not-suc-le-zero h)
 list-at (o ∷ os) ids j h = rw (add-one j) (lists-after ids o os j (le-of-suc-le-suc (rw (add-one j) at h)))
 
@@ -122,41 +148,58 @@ module _ (ls : List EdgedLane) (d : EdgedLane) where
   rowsOf : ℕ → EdgedLane → List ℕ → List GapRow
   rowsOf i a n = gather (λ k. listO (rowOfIdentity k 0 ls) (gapRow i a)) n
 
-  gaps-joined : (i : ℕ) (xs : List EdgedLane) (ns : List (List ℕ)) → length ns ≡ length xs → gapsFrom ls i xs ns ≡ joined (length xs) (λ j. rowsOf (i + j) (getD xs j d) (getD ns j []))
+  gaps-joined : (i : ℕ) (xs : List EdgedLane) (ns : List (List ℕ)) → length ns ≡ length xs
+      → gapsFrom ls i xs ns ≡ joined (length xs) (λ j. rowsOf (i + j) (getD xs j d) (getD ns j []))
   unfolding rowsOf
   gaps-joined i [] ns e = sym (joined-none (λ j. rowsOf (i + j) (getD [] j d) (getD ns j [])))
   gaps-joined i (a ∷ more) [] e = absurd (let z : 0 ≡ suc (length more) = e in omega arith)
   gaps-joined i (a ∷ more) (n ∷ ns) e =
-      ap (λ l. rowsOf i a n ++ l) (gaps-joined (suc i) more ns (let z : suc (length ns) ≡ suc (length more) = e in omega arith))
+      ap (λ l. rowsOf i a n ++ l)
+      (gaps-joined (suc i) more ns (let z : suc (length ns) ≡ suc (length more) = e in omega arith))
       ∙ ap₂ (λ (m : ℕ) (l : List GapRow). rowsOf m a n ++ l) (sym (add-zero i))
-      (joined-same (length more) (λ j. rowsOf (suc i + j) (getD more j d) (getD ns j [])) (λ j. rowsOf (i + suc j) (getD more j d) (getD ns j []))
-      (λ j l. ap (λ (m : ℕ). rowsOf m (getD more j d) (getD ns j [])) (let z : suc i + j ≡ i + suc j = omega arith in z)))
+      (joined-same (length more) (λ j. rowsOf (suc i + j) (getD more j d) (getD ns j []))
+      (λ j. rowsOf (i + suc j) (getD more j d) (getD ns j []))
+      (λ j l.
+      ap (λ (m : ℕ). rowsOf m (getD more j d) (getD ns j []))
+      (let z : suc i + j ≡ i + suc j = omega arith in z)))
       ∙ sym (joined-first (length more) (λ j. rowsOf (i + j) (getD (a ∷ more) j d) (getD (n ∷ ns) j [])))
 
-module _ (lanes : List ℕ) (edges : List Float) (offsets ids : List ℕ) (once : any (length lanes / 10) (idBefore lanes) ≡ false) (right : listsRight lanes offsets ids ≡ true) where
-  -- the words of one lane's links
-  lane-is : (i : ℕ) → i < length lanes / 10 → gather gapWords (rowsOf (all lanes edges once) (edgedAt lanes edges 0) i (edgedAt lanes edges i) (getD (listsIn offsets ids) i [])) ≡ rowsAt lanes edges offsets ids i
-  unfolding rowsOf rowsAt laneRows
-  lane-is i h =
-      let a = getD offsets i 0 in
-      let n = getD offsets (i + 1) 0 - a in
-      let r = right-at lanes offsets ids right i h in
-      let r0 = r .0 in
-      let r1 = r .1 in
-      let here = part a n ids in
-      let f : ℕ → List ℕ = λ k. gather gapWords (listO (rowOfIdentity k 0 (all lanes edges once)) (gapRow i (edgedAt lanes edges i))) in
-      let len : length here ≡ n = length-take-le n (drop a ids) (let z = length-drop a ids in omega arith) in
-      ap (λ (l : List ℕ). gather gapWords (gather (λ k. listO (rowOfIdentity k 0 (all lanes edges once)) (gapRow i (edgedAt lanes edges i))) l)) (list-at offsets ids i (let c = right-count lanes offsets ids right in omega arith))
-      ∙ gather-gather (λ k. listO (rowOfIdentity k 0 (all lanes edges once)) (gapRow i (edgedAt lanes edges i))) gapWords here
-      ∙ gather-all f 0 here
-      ∙ ap (λ (m : ℕ). joined m (λ k. f (getD here k 0))) len
-      ∙ joined-same n (λ k. f (getD here k 0)) (λ k. linkRow lanes edges i (getD ids (a + k) 0))
-      (λ k l. let e : getD here k 0 ≡ getD ids (a + k) 0 = getD-take n (drop a ids) k 0 l ∙ getD-drop a ids k 0 in
-      let b = bearer lanes ids (right-borne lanes offsets ids right) (a + k) (omega arith) in
-      ap f e ∙ link-is lanes edges once i (getD ids (a + k) 0) (b .0) (b .1))
+module _ (lanes : List ℕ) (edges : List Float) (offsets ids : List ℕ)
+    (once : any (length lanes / 10) (idBefore lanes) ≡ false) (right : listsRight lanes offsets ids ≡ true)
+  where
+    -- the words of one lane's links
+    lane-is : (i : ℕ) → i < length lanes / 10
+        → gather gapWords (rowsOf (all lanes edges once) (edgedAt lanes edges 0) i (edgedAt lanes edges i)
+        (getD (listsIn offsets ids) i [])) ≡ rowsAt lanes edges offsets ids i
+    unfolding rowsOf rowsAt laneRows
+    lane-is i h =
+        let a = getD offsets i 0 in
+        let n = getD offsets (i + 1) 0 - a in
+        let r = right-at lanes offsets ids right i h in
+        let r0 = r .0 in
+        let r1 = r .1 in
+        let here = part a n ids in
+        let f : ℕ → List ℕ =
+        λ k.
+        gather gapWords
+        (listO (rowOfIdentity k 0 (all lanes edges once)) (gapRow i (edgedAt lanes edges i))) in
+        let len : length here ≡ n = length-take-le n (drop a ids) (let z = length-drop a ids in omega arith) in
+        ap (λ (l : List ℕ).
+        gather gapWords
+        (gather (λ k. listO (rowOfIdentity k 0 (all lanes edges once)) (gapRow i (edgedAt lanes edges i))) l))
+        (list-at offsets ids i (let c = right-count lanes offsets ids right in omega arith))
+        ∙ gather-gather (λ k. listO (rowOfIdentity k 0 (all lanes edges once)) (gapRow i (edgedAt lanes edges i)))
+        gapWords here
+        ∙ gather-all f 0 here
+        ∙ ap (λ (m : ℕ). joined m (λ k. f (getD here k 0))) len
+        ∙ joined-same n (λ k. f (getD here k 0)) (λ k. linkRow lanes edges i (getD ids (a + k) 0))
+        (λ k l. let e : getD here k 0 ≡ getD ids (a + k) 0 = getD-take n (drop a ids) k 0 l ∙ getD-drop a ids k 0 in
+        let b = bearer lanes ids (right-borne lanes offsets ids right) (a + k) (omega arith) in
+        ap f e ∙ link-is lanes edges once i (getD ids (a + k) 0) (b .0) (b .1))
 
 -- THE GAP ROWS of the tables, as the loops write them
-pub content-is : (t : Tables) (offsets ids : List ℕ) → length (t .edges) ≡ 12 * (length (t .lanes) / 10) → any (length (t .lanes) / 10) (idBefore (t .lanes)) ≡ false → listsRight (t .lanes) offsets ids ≡ true →
+pub content-is : (t : Tables) (offsets ids : List ℕ) → length (t .edges) ≡ 12 * (length (t .lanes) / 10)
+    → any (length (t .lanes) / 10) (idBefore (t .lanes)) ≡ false → listsRight (t .lanes) offsets ids ≡ true →
     rowsBelow (t .lanes) (t .edges) offsets ids (length (t .lanes) / 10) ≡ gapContent t offsets ids
 unfolding gapContent linkGaps edgedLanesOf rowsBelow all
 content-is t offsets ids even once right =
@@ -166,8 +209,13 @@ content-is t offsets ids even once right =
     let ns = listsIn offsets ids in
     let count : length ls ≡ n = tab-length n (edgedAt (t .lanes) (t .edges)) in
     sym (ap (λ l. gather gapWords (gapsFrom l 0 l ns)) (lanes-are (t .lanes) (t .edges) even)
-    ∙ ap (gather gapWords) (gaps-joined ls d 0 ls ns (lists-are offsets ids n (right-count (t .lanes) offsets ids right) ∙ sym count))
+    ∙ ap (gather gapWords)
+    (gaps-joined ls d 0 ls ns (lists-are offsets ids n (right-count (t .lanes) offsets ids right) ∙ sym count))
     ∙ joined-gather gapWords (length ls) (λ j. rowsOf ls d (0 + j) (getD ls j d) (getD ns j []))
     ∙ ap (λ (m : ℕ). joined m (λ j. gather gapWords (rowsOf ls d (0 + j) (getD ls j d) (getD ns j [])))) count
-    ∙ joined-same n (λ j. gather gapWords (rowsOf ls d (0 + j) (getD ls j d) (getD ns j []))) (rowsAt (t .lanes) (t .edges) offsets ids)
-    (λ j l. ap₂ (λ (m : ℕ) (x : EdgedLane). gather gapWords (rowsOf ls d m x (getD ns j []))) (zero-add j) (tab-at n (edgedAt (t .lanes) (t .edges)) j d l) ∙ lane-is (t .lanes) (t .edges) offsets ids once right j l))
+    ∙ joined-same n (λ j. gather gapWords (rowsOf ls d (0 + j) (getD ls j d) (getD ns j [])))
+    (rowsAt (t .lanes) (t .edges) offsets ids)
+    (λ j l.
+    ap₂ (λ (m : ℕ) (x : EdgedLane). gather gapWords (rowsOf ls d m x (getD ns j []))) (zero-add j)
+    (tab-at n (edgedAt (t .lanes) (t .edges)) j d l)
+    ∙ lane-is (t .lanes) (t .edges) offsets ids once right j l))

@@ -34,7 +34,8 @@ pub climbs-none : (end : ℕ) (os : List ℕ) → length os ≡ 0 → false ≡ 
 climbs-none end [] e = refl
 climbs-none end (o ∷ os) e = absurd (let z : suc (length os) ≡ 0 = e in omega arith)
 
-pub climbs-begin : (end : ℕ) (os : List ℕ) → (length os ≡ 0 → ⊥) → getD os 0 0 ≡ 0 → climbs end os ≡ climbsTo end 0 (drop 1 os)
+pub climbs-begin : (end : ℕ) (os : List ℕ) → (length os ≡ 0 → ⊥) → getD os 0 0 ≡ 0
+    → climbs end os ≡ climbsTo end 0 (drop 1 os)
 climbs-begin end [] n e = absurd (n refl)
 climbs-begin end (o ∷ os) n e = let z : o ≡ 0 = e in rw z
 
@@ -43,14 +44,17 @@ climbs-off end [] n e = absurd (n refl)
 climbs-off end (o ∷ os) n e = sym (and-off-left (eqb o 0) (climbsTo end o os) (ne-eqb o 0 e))
 
 module _ (end : ℕ) (os : List ℕ) (last i : ℕ) (h : i < length os) where
-  climbs-split : climbsTo end last (drop i os) ≡ (leb last (getD os i 0) && climbsTo end (getD os i 0) (drop (i + 1) os))
+  climbs-split : climbsTo end last (drop i os)
+      ≡ (leb last (getD os i 0) && climbsTo end (getD os i 0) (drop (i + 1) os))
   climbs-split = rw (add-one, drop-cons os i 0 h)
 
   pub climbs-on : last ≤ getD os i 0 → climbsTo end last (drop i os) ≡ climbsTo end (getD os i 0) (drop (i + 1) os)
-  climbs-on l = climbs-split ∙ ap (λ b. b && climbsTo end (getD os i 0) (drop (i + 1) os)) (le-leb last (getD os i 0) l)
+  climbs-on l =
+      climbs-split ∙ ap (λ b. b && climbsTo end (getD os i 0) (drop (i + 1) os)) (le-leb last (getD os i 0) l)
 
   pub climbs-falls : getD os i 0 < last → climbsTo end last (drop i os) ≡ false
-  climbs-falls l = climbs-split ∙ ap (λ b. b && climbsTo end (getD os i 0) (drop (i + 1) os)) (lt-leb last (getD os i 0) l)
+  climbs-falls l =
+      climbs-split ∙ ap (λ b. b && climbsTo end (getD os i 0) (drop (i + 1) os)) (lt-leb last (getD os i 0) l)
 
 pub climbs-end : (end : ℕ) (os : List ℕ) (last i : ℕ) → length os ≤ i → climbsTo end last (drop i os) ≡ eqb last end
 climbs-end end os last i h = ap (climbsTo end last) (drop-past os i h)
@@ -58,22 +62,39 @@ climbs-end end os last i h = ap (climbsTo end last) (drop-past os i h)
 -- what climbing offsets say of two that follow one another
 climbs-last : (end o : ℕ) (os : List ℕ) → climbsTo end o os ≡ true → o ≤ end
 climbs-last end o [] e = let z = eqb-true o end e in omega arith
-climbs-last end o (p ∷ os) e = let a = leb-true o p (left-on (leb o p) (climbsTo end p os) e) in let b = climbs-last end p os (right-on (leb o p) (climbsTo end p os) e) in omega arith
+climbs-last end o (p ∷ os) e =
+    let a = leb-true o p (left-on (leb o p) (climbsTo end p os) e) in
+    let b = climbs-last end p os (right-on (leb o p) (climbsTo end p os) e) in omega arith
 
-climbs-pair : (end o : ℕ) (os : List ℕ) (i : ℕ) → climbsTo end o os ≡ true → i < length os → (getD (o ∷ os) i 0 ≤ getD os i 0) × (getD os i 0 ≤ end)
+climbs-pair : (end o : ℕ) (os : List ℕ) (i : ℕ) → climbsTo end o os ≡ true → i < length os
+    → (getD (o ∷ os) i 0 ≤ getD os i 0) × (getD os i 0 ≤ end)
 climbs-pair end o [] i e h = absurd (not-suc-le-zero h)
-climbs-pair end o (p ∷ os) zero e h = (leb-true o p (left-on (leb o p) (climbsTo end p os) e), climbs-last end p os (right-on (leb o p) (climbsTo end p os) e))
-climbs-pair end o (p ∷ os) (suc i) e h = climbs-pair end p os i (right-on (leb o p) (climbsTo end p os) e) (le-of-suc-le-suc h)
+climbs-pair end o (p ∷ os) zero e h = (
+  leb-true o p (left-on (leb o p) (climbsTo end p os) e),
+  climbs-last end p os (right-on (leb o p) (climbsTo end p os) e),
+)
+climbs-pair end o (p ∷ os) (suc i) e h =
+    climbs-pair end p os i (right-on (leb o p) (climbsTo end p os) e) (le-of-suc-le-suc h)
 
-pub climbs-at : (end : ℕ) (os : List ℕ) (i : ℕ) → climbs end os ≡ true → i + 1 < length os → (getD os i 0 ≤ getD os (i + 1) 0) × (getD os (i + 1) 0 ≤ end)
+pub climbs-at : (end : ℕ) (os : List ℕ) (i : ℕ) → climbs end os ≡ true → i + 1 < length os
+    → (getD os i 0 ≤ getD os (i + 1) 0) × (getD os (i + 1) 0 ≤ end)
 climbs-at end [] i e h = absurd (not-suc-le-zero h)
-climbs-at end (o ∷ os) i e h = rw add-one (climbs-pair end o os i (right-on (eqb o 0) (climbsTo end o os) e) (le-of-suc-le-suc (rw add-one at h)))
+climbs-at end (o ∷ os) i e h =
+    rw add-one
+    (climbs-pair end o os i (right-on (eqb o 0) (climbsTo end o os) e) (le-of-suc-le-suc (rw add-one at h)))
 
 -- ---- identities
-pub borne-is : (lanes : List ℕ) (k : ℕ) → borne (lanesIn lanes) k ≡ not (eqb (lastOf (length lanes / 10) (isId lanes k)) 0)
+pub borne-is : (lanes : List ℕ) (k : ℕ)
+    → borne (lanesIn lanes) k ≡ not (eqb (lastOf (length lanes / 10) (isId lanes k)) 0)
 unfolding borne lanesIn laneIn isId
-borne-is lanes k = ap (some? (λ l. eqb (l .identity) k)) (lanes-tab lanes) ∙ some-tab (λ l. eqb (l .identity) k) (length lanes / 10) (λ i. laneIn (from 10 lanes i))
-    ∙ any-same (length lanes / 10) (λ i. eqb (getD (from 10 lanes i) 0 0) k) (λ i. eqb (getD lanes (i * 10) 0) k) (λ i lt. ap (λ (w : ℕ). eqb w k) (getD-drop (i * 10) lanes 0 0 ∙ ap (λ (m : ℕ). getD lanes m 0) (native.Mathlib.Nat.add-zero (i * 10))))
+borne-is lanes k =
+    ap (some? (λ l. eqb (l .identity) k)) (lanes-tab lanes)
+    ∙ some-tab (λ l. eqb (l .identity) k) (length lanes / 10) (λ i. laneIn (from 10 lanes i))
+    ∙ any-same (length lanes / 10) (λ i. eqb (getD (from 10 lanes i) 0 0) k)
+    (λ i. eqb (getD lanes (i * 10) 0) k)
+    (λ i lt.
+    ap (λ (w : ℕ). eqb w k)
+    (getD-drop (i * 10) lanes 0 0 ∙ ap (λ (m : ℕ). getD lanes m 0) (native.Mathlib.Nat.add-zero (i * 10))))
     ∙ any-is (length lanes / 10) (λ i. eqb (getD lanes (i * 10) 0) k)
 
 module _ (p : ℕ → Bool) (xs : List ℕ) (i : ℕ) (h : i < length xs) where
@@ -81,11 +102,19 @@ module _ (p : ℕ → Bool) (xs : List ℕ) (i : ℕ) (h : i < length xs) where
   every-split = rw (add-one, drop-cons xs i 0 h)
 
 module _ (lanes ids : List ℕ) (i : ℕ) where
-  pub borne-on : i < length ids → not (eqb (lastOf (length lanes / 10) (isId lanes (getD ids i 0))) 0) ≡ true → every (borne (lanesIn lanes)) (drop i ids) ≡ every (borne (lanesIn lanes)) (drop (i + 1) ids)
-  borne-on h e = every-split (borne (lanesIn lanes)) ids i h ∙ and-on (borne (lanesIn lanes) (getD ids i 0)) (every (borne (lanesIn lanes)) (drop (i + 1) ids)) (borne-is lanes (getD ids i 0) ∙ e)
+  pub borne-on : i < length ids → not (eqb (lastOf (length lanes / 10) (isId lanes (getD ids i 0))) 0) ≡ true
+      → every (borne (lanesIn lanes)) (drop i ids) ≡ every (borne (lanesIn lanes)) (drop (i + 1) ids)
+  borne-on h e =
+      every-split (borne (lanesIn lanes)) ids i h
+      ∙ and-on (borne (lanesIn lanes) (getD ids i 0)) (every (borne (lanesIn lanes)) (drop (i + 1) ids))
+      (borne-is lanes (getD ids i 0) ∙ e)
 
-  pub borne-miss : i < length ids → not (eqb (lastOf (length lanes / 10) (isId lanes (getD ids i 0))) 0) ≡ false → every (borne (lanesIn lanes)) (drop i ids) ≡ false
-  borne-miss h e = every-split (borne (lanesIn lanes)) ids i h ∙ and-off-left (borne (lanesIn lanes) (getD ids i 0)) (every (borne (lanesIn lanes)) (drop (i + 1) ids)) (borne-is lanes (getD ids i 0) ∙ e)
+  pub borne-miss : i < length ids → not (eqb (lastOf (length lanes / 10) (isId lanes (getD ids i 0))) 0) ≡ false
+      → every (borne (lanesIn lanes)) (drop i ids) ≡ false
+  borne-miss h e =
+      every-split (borne (lanesIn lanes)) ids i h
+      ∙ and-off-left (borne (lanesIn lanes) (getD ids i 0)) (every (borne (lanesIn lanes)) (drop (i + 1) ids))
+      (borne-is lanes (getD ids i 0) ∙ e)
 
   pub borne-end : length ids ≤ i → every (borne (lanesIn lanes)) (drop i ids) ≡ true
   borne-end h = ap (every (borne (lanesIn lanes))) (drop-past ids i h)
@@ -97,11 +126,17 @@ module _ (p : ℕ → Bool) where
   every-at (x ∷ xs) (suc k) e h = every-at xs k (right-on (p x) (every p xs) e) (le-of-suc-le-suc h)
 
 -- each identity has a bearer
-pub bearer : (lanes ids : List ℕ) → every (borne (lanesIn lanes)) ids ≡ true → (k : ℕ) → k < length ids → (0 < lastOf (length lanes / 10) (isId lanes (getD ids k 0))) × (lastOf (length lanes / 10) (isId lanes (getD ids k 0)) ≤ length lanes / 10)
+pub bearer : (lanes ids : List ℕ) → every (borne (lanesIn lanes)) ids ≡ true → (k : ℕ) → k < length ids
+    → (0 < lastOf (length lanes / 10) (isId lanes (getD ids k 0)))
+    × (lastOf (length lanes / 10) (isId lanes (getD ids k 0)) ≤ length lanes / 10)
 bearer lanes ids e k h =
     let b = sym (borne-is lanes (getD ids k 0)) ∙ every-at (borne (lanesIn lanes)) ids k e h in
-    let n = eqb-false (lastOf (length lanes / 10) (isId lanes (getD ids k 0))) 0 (off (eqb (lastOf (length lanes / 10) (isId lanes (getD ids k 0))) 0) b) in
-    (above (lastOf (length lanes / 10) (isId lanes (getD ids k 0))) n, last-le (length lanes / 10) (isId lanes (getD ids k 0)))
+    let n =
+    eqb-false (lastOf (length lanes / 10) (isId lanes (getD ids k 0))) 0
+    (off (eqb (lastOf (length lanes / 10) (isId lanes (getD ids k 0))) 0) b) in (
+      above (lastOf (length lanes / 10) (isId lanes (getD ids k 0))) n,
+      last-le (length lanes / 10) (isId lanes (getD ids k 0)),
+    )
   where
     off : (b : Bool) → not b ≡ true → b ≡ false
     off true e = sym e
@@ -114,17 +149,24 @@ bearer lanes ids e k h =
 -- ---- what rule 11 says
 module _ (lanes offsets ids : List ℕ) (e : listsRight lanes offsets ids ≡ true) where
   pub right-borne : every (borne (lanesIn lanes)) ids ≡ true
-  right-borne = right-on (eqb (length offsets) (suc (length lanes / 10)) && climbs (length ids) offsets) (every (borne (lanesIn lanes)) ids) e
+  right-borne =
+      right-on (eqb (length offsets) (suc (length lanes / 10)) && climbs (length ids) offsets)
+      (every (borne (lanesIn lanes)) ids) e
 
   right-two : (eqb (length offsets) (suc (length lanes / 10)) && climbs (length ids) offsets) ≡ true
-  right-two = left-on (eqb (length offsets) (suc (length lanes / 10)) && climbs (length ids) offsets) (every (borne (lanesIn lanes)) ids) e
+  right-two =
+      left-on (eqb (length offsets) (suc (length lanes / 10)) && climbs (length ids) offsets)
+      (every (borne (lanesIn lanes)) ids) e
 
   pub right-count : length offsets ≡ suc (length lanes / 10)
-  right-count = eqb-true (length offsets) (suc (length lanes / 10)) (left-on (eqb (length offsets) (suc (length lanes / 10))) (climbs (length ids) offsets) right-two)
+  right-count =
+      eqb-true (length offsets) (suc (length lanes / 10))
+      (left-on (eqb (length offsets) (suc (length lanes / 10))) (climbs (length ids) offsets) right-two)
 
   pub right-climbs : climbs (length ids) offsets ≡ true
   right-climbs = right-on (eqb (length offsets) (suc (length lanes / 10))) (climbs (length ids) offsets) right-two
 
   -- the offsets of lane i
-  pub right-at : (i : ℕ) → i < length lanes / 10 → (getD offsets i 0 ≤ getD offsets (i + 1) 0) × (getD offsets (i + 1) 0 ≤ length ids)
+  pub right-at : (i : ℕ) → i < length lanes / 10
+      → (getD offsets i 0 ≤ getD offsets (i + 1) 0) × (getD offsets (i + 1) 0 ≤ length ids)
   right-at i h = climbs-at (length ids) offsets i right-climbs (let c = right-count in omega arith)

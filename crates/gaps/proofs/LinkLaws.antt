@@ -18,12 +18,18 @@ use Rattle.gaps.proofs.RowLaws.{row-most}
 module _ (lanes : List ℕ) (edges : List Float) where
   link-most : (i k : ℕ) → length (linkRow lanes edges i k) ≤ 3
   unfolding linkRow
-  link-most i k = row-most i (lastOf (length lanes / 10) (isId lanes k) - 1) (decisionAt lanes edges i (lastOf (length lanes / 10) (isId lanes k) - 1))
+  link-most i k =
+      row-most i (lastOf (length lanes / 10) (isId lanes k) - 1)
+      (decisionAt lanes edges i (lastOf (length lanes / 10) (isId lanes k) - 1))
 
   -- the row of a link to the lane in row r
-  pub link-row : (i k : ℕ) {f r : ℕ} {d : Decision} → f ≡ lastOf (length lanes / 10) (isId lanes k) → f ≡ suc r → d ≡ decisionAt lanes edges i r → rowOf i r d ≡ linkRow lanes edges i k
+  pub link-row : (i k : ℕ) {f r : ℕ} {d : Decision} → f ≡ lastOf (length lanes / 10) (isId lanes k) → f ≡ suc r
+      → d ≡ decisionAt lanes edges i r → rowOf i r d ≡ linkRow lanes edges i k
   unfolding linkRow
-  link-row i k {f} {r} {d} e g h = ap (rowOf i r) h ∙ ap (λ (m : ℕ). rowOf i m (decisionAt lanes edges i m)) (let z : r ≡ lastOf (length lanes / 10) (isId lanes k) - 1 = omega arith in z)
+  link-row i k {f} {r} {d} e g h =
+      ap (rowOf i r) h
+      ∙ ap (λ (m : ℕ). rowOf i m (decisionAt lanes edges i m))
+      (let z : r ≡ lastOf (length lanes / 10) (isId lanes k) - 1 = omega arith in z)
 
   -- ---- a lane's links
   module _ (ids : List ℕ) (i a : ℕ) where
@@ -33,16 +39,23 @@ module _ (lanes : List ℕ) (edges : List Float) where
 
     pub lane-most : (n : ℕ) → length (laneRows lanes edges ids i a n) ≤ 3 * n
     unfolding laneRows
-    lane-most n = joined-most 3 n (λ k. linkRow lanes edges i (getD ids (a + k) 0)) (λ k. link-most i (getD ids (a + k) 0))
+    lane-most n =
+        joined-most 3 n (λ k. linkRow lanes edges i (getD ids (a + k) 0))
+        (λ k. link-most i (getD ids (a + k) 0))
 
-    pub lane-le : (n m : ℕ) → n ≤ m → length (laneRows lanes edges ids i a n) ≤ length (laneRows lanes edges ids i a m)
+    pub lane-le : (n m : ℕ) → n ≤ m
+        → length (laneRows lanes edges ids i a n) ≤ length (laneRows lanes edges ids i a m)
     unfolding laneRows
     lane-le n m h = joined-le n m (λ k. linkRow lanes edges i (getD ids (a + k) 0)) h
 
     -- the row that a turn puts
-    pub lane-more : (k : ℕ) {id : ℕ} → id ≡ getD ids (a + k) 0 → laneRows lanes edges ids i a (k + 1) ≡ laneRows lanes edges ids i a k ++ linkRow lanes edges i id
+    pub lane-more : (k : ℕ) {id : ℕ} → id ≡ getD ids (a + k) 0
+        → laneRows lanes edges ids i a (k + 1) ≡ laneRows lanes edges ids i a k ++ linkRow lanes edges i id
     unfolding laneRows
-    lane-more k e = joined-more k (λ k. linkRow lanes edges i (getD ids (a + k) 0)) ∙ ap (λ (m : ℕ). joined k (λ k. linkRow lanes edges i (getD ids (a + k) 0)) ++ linkRow lanes edges i m) (sym e)
+    lane-more k e =
+        joined-more k (λ k. linkRow lanes edges i (getD ids (a + k) 0))
+        ∙ ap (λ (m : ℕ). joined k (λ k. linkRow lanes edges i (getD ids (a + k) 0)) ++ linkRow lanes edges i m)
+        (sym e)
 
   -- ---- all lanes' links
   module _ (offsets ids : List ℕ) where
@@ -50,22 +63,34 @@ module _ (lanes : List ℕ) (edges : List Float) where
     unfolding rowsBelow
     below-none = sym (joined-none (rowsAt lanes edges offsets ids))
 
-    pub below-le : (n m : ℕ) → n ≤ m → length (rowsBelow lanes edges offsets ids n) ≤ length (rowsBelow lanes edges offsets ids m)
+    pub below-le : (n m : ℕ) → n ≤ m
+        → length (rowsBelow lanes edges offsets ids n) ≤ length (rowsBelow lanes edges offsets ids m)
     unfolding rowsBelow
     below-le n m h = joined-le n m (rowsAt lanes edges offsets ids) h
 
-    pub below-more : (i : ℕ) {a n : ℕ} → a ≡ getD offsets i 0 → n ≡ getD offsets (i + 1) 0 - a → rowsBelow lanes edges offsets ids (i + 1) ≡ rowsBelow lanes edges offsets ids i ++ laneRows lanes edges ids i a n
+    pub below-more : (i : ℕ) {a n : ℕ} → a ≡ getD offsets i 0 → n ≡ getD offsets (i + 1) 0 - a
+        → rowsBelow lanes edges offsets ids (i + 1)
+        ≡ rowsBelow lanes edges offsets ids i ++ laneRows lanes edges ids i a n
     unfolding rowsBelow rowsAt
     below-more i {a} {n} e f = joined-more i (rowsAt lanes edges offsets ids)
-        ∙ ap (λ (l : List ℕ). joined i (rowsAt lanes edges offsets ids) ++ l) (sym (ap (laneRows lanes edges ids i a) f ∙ ap (λ (b : ℕ). laneRows lanes edges ids i b (getD offsets (i + 1) 0 - b)) e))
+        ∙ ap (λ (l : List ℕ). joined i (rowsAt lanes edges offsets ids) ++ l)
+        (sym (ap (laneRows lanes edges ids i a) f
+        ∙ ap (λ (b : ℕ). laneRows lanes edges ids i b (getD offsets (i + 1) 0 - b)) e))
 
-    below-step : (i : ℕ) → length (rowsBelow lanes edges offsets ids (suc i)) ≡ length (rowsBelow lanes edges offsets ids i) + length (laneRows lanes edges ids i (getD offsets i 0) (getD offsets (suc i) 0 - getD offsets i 0))
+    below-step : (i : ℕ)
+        → length (rowsBelow lanes edges offsets ids (suc i))
+        ≡ length (rowsBelow lanes edges offsets ids i) + length
+        (laneRows lanes edges ids i (getD offsets i 0) (getD offsets (suc i) 0 - getD offsets i 0))
     unfolding rowsBelow rowsAt joined
-    below-step i = length-append (joined i (rowsAt lanes edges offsets ids)) (rowsAt lanes edges offsets ids i) ∙ rw (add-one i)
+    below-step i =
+        length-append (joined i (rowsAt lanes edges offsets ids)) (rowsAt lanes edges offsets ids i)
+        ∙ rw (add-one i)
 
     module _ (right : listsRight lanes offsets ids ≡ true) where
-      pub below-most : (i : ℕ) → i ≤ length lanes / 10 → length (rowsBelow lanes edges offsets ids i) ≤ 3 * getD offsets i 0
-      below-most zero h = let e : length (rowsBelow lanes edges offsets ids 0) ≡ 0 = ap length (sym below-none) in omega arith
+      pub below-most : (i : ℕ) → i ≤ length lanes / 10
+          → length (rowsBelow lanes edges offsets ids i) ≤ 3 * getD offsets i 0
+      below-most zero h =
+          let e : length (rowsBelow lanes edges offsets ids 0) ≡ 0 = ap length (sym below-none) in omega arith
       below-most (suc i) h =
           let ih = below-most i (omega arith) in
           let e = below-step i in
@@ -79,7 +104,9 @@ module _ (lanes : List ℕ) (edges : List Float) where
       total-most = go (length lanes / 10) (native.Mathlib.Nat.le-refl (length lanes / 10))
         where
           go : (i : ℕ) → i ≤ length lanes / 10 → length (rowsBelow lanes edges offsets ids i) ≤ 3 * length ids
-          go zero h = let e : length (rowsBelow lanes edges offsets ids 0) ≡ 0 = ap length (sym below-none) in omega arith
+          go zero h =
+              let e : length (rowsBelow lanes edges offsets ids 0) ≡ 0 = ap length (sym below-none) in
+              omega arith
           go (suc i) h =
               let m = below-most (suc i) h in
               let r = rw (add-one i) at (right-at lanes offsets ids right i h) in

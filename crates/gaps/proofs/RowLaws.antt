@@ -33,25 +33,32 @@ decision-number g h = go (le g tolerance)
     go false = h
 
 -- a gap is a number, so its width has bits
-pub decision-is : {d : Decision} {g : Float} (from : List (List Point)) (leaves : Direction) (to : List (List Point)) (enters : Direction) → d ≡ decisionOf g → g ≡ gapOf from leaves to enters →
+pub decision-is : {d : Decision} {g : Float} (from : List (List Point)) (leaves : Direction)
+    (to : List (List Point)) (enters : Direction) → d ≡ decisionOf g → g ≡ gapOf from leaves to enters →
     (d ≡ decisionOf (gapOf from leaves to enters)) × T (isNumber d)
 decision-is {d} {g} from leaves to enters e f =
-    let z : d ≡ decisionOf (gapOf from leaves to enters) = e ∙ ap decisionOf f in
-    (z, subst (λ (x : Decision). T (isNumber x)) (sym z) (decision-number (gapOf from leaves to enters) (gap-never-nan from leaves to enters)))
+    let z : d ≡ decisionOf (gapOf from leaves to enters) = e ∙ ap decisionOf f in (
+      z,
+      subst (λ (x : Decision). T (isNumber x)) (sym z)
+          (decision-number (gapOf from leaves to enters) (gap-never-nan from leaves to enters)),
+    )
 
 pub wide-number : (d : Decision) (w : Float) → d ≡ Wide w → T (isNumber d) → T (not (isNan w))
 wide-number d w e h = subst (λ (x : Decision). T (isNumber x)) e h
 
 module _ (write : Bool) (out : List ℕ) (at lane next : ℕ) (d : Decision) where
-  pub passed-row : d ≡ Passed → (at ≡ at + length (rowOf lane next d)) × (out ≡ putIf write at (rowOf lane next d) out)
+  pub passed-row : d ≡ Passed
+      → (at ≡ at + length (rowOf lane next d)) × (out ≡ putIf write at (rowOf lane next d) out)
   passed-row e = rw e (sym (add-zero at), sym (put-none write at out))
 
   module _ (w : Float) (e : d ≡ Wide w) where
-    pub wide-counted : write ≡ false → (at + 3 ≡ at + length (rowOf lane next d)) × (out ≡ putIf write at (rowOf lane next d) out)
+    pub wide-counted : write ≡ false
+        → (at + 3 ≡ at + length (rowOf lane next d)) × (out ≡ putIf write at (rowOf lane next d) out)
     unfolding putIf
     wide-counted f = rw (e, f) (refl, refl)
 
-    pub wide-put : {out′ : List ℕ} → write ≡ true → out′ ≡ spliced at (lane ∷ next ∷ toBits binary32 w ∷ []) out → (at + 3 ≡ at + length (rowOf lane next d)) × (out′ ≡ putIf write at (rowOf lane next d) out)
+    pub wide-put : {out′ : List ℕ} → write ≡ true → out′ ≡ spliced at (lane ∷ next ∷ toBits binary32 w ∷ []) out
+        → (at + 3 ≡ at + length (rowOf lane next d)) × (out′ ≡ putIf write at (rowOf lane next d) out)
     unfolding putIf
     wide-put f p = rw (e, f) (refl, p)
 
@@ -63,5 +70,11 @@ row-most lane next Passed = omega arith
 row-most lane next (Wide w) = omega arith
 
 -- a link's gap, from what is read of its two lanes
-pub link-gap : {g : Float} {a b c d : List (List Point)} {p q r s : Direction} → g ≡ gapOf a p c q → a ≡ b → p ≡ r → c ≡ d → q ≡ s → g ≡ gapOf b r d s
-link-gap {g} {a} {b} {c} {d} {p} {q} {r} {s} e f h i j = e ∙ ap (λ x. gapOf x p c q) f ∙ ap (λ x. gapOf b x c q) h ∙ ap (λ x. gapOf b r x q) i ∙ ap (λ x. gapOf b r d x) j
+pub link-gap : {g : Float} {a b c d : List (List Point)} {p q r s : Direction} → g ≡ gapOf a p c q → a ≡ b
+    → p ≡ r → c ≡ d → q ≡ s → g ≡ gapOf b r d s
+link-gap {g} {a} {b} {c} {d} {p} {q} {r} {s} e f h i j =
+    e
+    ∙ ap (λ x. gapOf x p c q) f
+    ∙ ap (λ x. gapOf b x c q) h
+    ∙ ap (λ x. gapOf b r x q) i
+    ∙ ap (λ x. gapOf b r d x) j

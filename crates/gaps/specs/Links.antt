@@ -1,4 +1,5 @@
--- The gap rows by row numbers: what the loops over lanes and links write. proofs/ has them as the model's gap rows. Definitions only.
+-- The gap rows by row numbers: what the loops over lanes and links write. proofs/ has them as the model's gap
+-- rows. Definitions only.
 use mathlib.Core.Bool.{Bool, true, not, _&&_, cond}
 use mathlib.Core.List.{List, [], _∷_}
 use Prim.Native.Nat.{ℕ, suc, _+_, _*_, _-_, _/_}
@@ -38,7 +39,9 @@ rowBearing lanes k = lastOf (length lanes / 10) (isId lanes k) - 1
 
 -- the decision for a link from the lane in row i to that in row r
 unfoldable pub decisionAt : List ℕ → List Float → ℕ → ℕ → Decision
-decisionAt lanes edges i r = decisionOf (gapOf (endsAt edges i) (directionOf (getD lanes (i * 10 + 5) 0)) (endsAt edges r) (directionOf (getD lanes (r * 10 + 5) 0)))
+decisionAt lanes edges i r =
+    decisionOf (gapOf (endsAt edges i) (directionOf (getD lanes (i * 10 + 5) 0)) (endsAt edges r)
+    (directionOf (getD lanes (r * 10 + 5) 0)))
 
 -- the words of a link from the lane in row i to the lane of identity k
 unfoldable pub linkRow : List ℕ → List Float → ℕ → ℕ → List ℕ
@@ -50,7 +53,8 @@ laneRows lanes edges ids i a n = joined n (λ k. linkRow lanes edges i (getD ids
 
 -- those of all its links
 unfoldable pub rowsAt : List ℕ → List Float → (offsets ids : List ℕ) → ℕ → List ℕ
-rowsAt lanes edges offsets ids i = laneRows lanes edges ids i (getD offsets i 0) (getD offsets (i + 1) 0 - getD offsets i 0)
+rowsAt lanes edges offsets ids i =
+    laneRows lanes edges ids i (getD offsets i 0) (getD offsets (i + 1) 0 - getD offsets i 0)
 
 -- those of the first n lanes
 unfoldable pub rowsBelow : List ℕ → List Float → (offsets ids : List ℕ) → ℕ → List ℕ
@@ -58,4 +62,6 @@ rowsBelow lanes edges offsets ids n = joined n (rowsAt lanes edges offsets ids)
 
 -- rule 11, over what it reads
 abbrev pub listsRight : (lanes offsets ids : List ℕ) → Bool
-listsRight lanes offsets ids = eqb (length offsets) (suc (length lanes / 10)) && climbs (length ids) offsets && every (borne (lanesIn lanes)) ids
+listsRight lanes offsets ids =
+    eqb (length offsets) (suc (length lanes / 10)) && climbs (length ids) offsets && every
+    (borne (lanesIn lanes)) ids

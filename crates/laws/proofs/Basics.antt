@@ -1,4 +1,5 @@
--- Laws of the lists and optional values of the model (its specs/Lists.antt): each function over append, reverse and map.
+-- Laws of the lists and optional values of the model (its specs/Lists.antt): each function over append, reverse
+-- and map.
 use mathlib.Core.Path.{_≡_, refl, sym, ap, _∙_, ap₂}
 use mathlib.Core.Bool.{Bool, true, false, not, cond}
 use mathlib.Core.Option.{Option, none, some}
@@ -73,13 +74,15 @@ module _ {A : Type 0} where
   first-append p [] ys = refl
   first-append p (x ∷ xs) ys = go (p x) (first-append p xs ys)
     where
-      go : (b : Bool) → first p (xs ++ ys) ≡ orElse (first p xs) (first p ys) → cond b (some x) (first p (xs ++ ys)) ≡ orElse (cond b (some x) (first p xs)) (first p ys)
+      go : (b : Bool) → first p (xs ++ ys) ≡ orElse (first p xs) (first p ys)
+          → cond b (some x) (first p (xs ++ ys)) ≡ orElse (cond b (some x) (first p xs)) (first p ys)
       go true h = refl
       go false h = h
 
   pub final-append : (p : A → Bool) (xs ys : List A) → final p (xs ++ ys) ≡ orElse (final p ys) (final p xs)
   final-append p [] ys = sym (orElse-none (final p ys))
-  final-append p (x ∷ xs) ys = rw (final-append p xs ys) (orElse-assoc (final p ys) (final p xs) (cond (p x) (some x) none))
+  final-append p (x ∷ xs) ys =
+      rw (final-append p xs ys) (orElse-assoc (final p ys) (final p xs) (cond (p x) (some x) none))
 
   pub first-reverse : (p : A → Bool) (xs : List A) → first p (reverse xs) ≡ final p xs
   first-reverse p [] = refl
@@ -87,7 +90,9 @@ module _ {A : Type 0} where
 
   pub final-reverse : (p : A → Bool) (xs : List A) → final p (reverse xs) ≡ first p xs
   final-reverse p [] = refl
-  final-reverse p (x ∷ xs) = rw (reverse-cons x xs, final-append p (reverse xs) (x ∷ []), final-reverse p xs) (sym (cond-orElse (p x) x (first p xs)))
+  final-reverse p (x ∷ xs) =
+      rw (reverse-cons x xs, final-append p (reverse xs) (x ∷ []), final-reverse p xs)
+      (sym (cond-orElse (p x) x (first p xs)))
 
   pub first-ext : (p q : A → Bool) (xs : List A) → Each (λ x. p x ≡ q x) xs → first p xs ≡ first q xs
   first-ext p q [] h = refl
@@ -109,7 +114,8 @@ module _ {A : Type 0} where
   first-holds p [] a q = absurd (no-some a q)
   first-holds p (x ∷ xs) a q = go (p x) refl q (first-holds p xs a)
     where
-      go : (b : Bool) → p x ≡ b → cond b (some x) (first p xs) ≡ some a → (first p xs ≡ some a → p a ≡ true) → p a ≡ true
+      go : (b : Bool) → p x ≡ b → cond b (some x) (first p xs) ≡ some a → (first p xs ≡ some a → p a ≡ true)
+          → p a ≡ true
       go true e q ih = let k : x ≡ a = cc in rw k at e
       go false e q ih = ih q
 
@@ -133,7 +139,8 @@ module _ {A : Type 0} where
   keep-append p [] ys = refl
   keep-append p (x ∷ xs) ys = go (p x) (keep-append p xs ys)
     where
-      go : (b : Bool) → keep p (xs ++ ys) ≡ keep p xs ++ keep p ys → cond b (x ∷ keep p (xs ++ ys)) (keep p (xs ++ ys)) ≡ cond b (x ∷ keep p xs) (keep p xs) ++ keep p ys
+      go : (b : Bool) → keep p (xs ++ ys) ≡ keep p xs ++ keep p ys
+          → cond b (x ∷ keep p (xs ++ ys)) (keep p (xs ++ ys)) ≡ cond b (x ∷ keep p xs) (keep p xs) ++ keep p ys
       go true h = ap (λ (l : List A). x ∷ l) h
       go false h = h
 
@@ -161,11 +168,16 @@ module _ {A B : Type 0} where
   pub final-map : (f : A → B) (p : B → Bool) (xs : List A) → final p (map f xs) ≡ mapO f (final (λ x. p (f x)) xs)
   final-map f p [] = refl
   final-map f p (x ∷ xs) =
-      rw (final-map f p xs, mapO-orElse f (final (λ x. p (f x)) xs) (cond (p (f x)) (some x) none), mapO-cond f (p (f x)) (some x) none)
+      rw (
+        final-map f p xs,
+        mapO-orElse f (final (λ x. p (f x)) xs) (cond (p (f x)) (some x) none),
+        mapO-cond f (p (f x)) (some x) none,
+      )
 
   pub keep-map : (f : A → B) (p : B → Bool) (xs : List A) → keep p (map f xs) ≡ map f (keep (λ x. p (f x)) xs)
   keep-map f p [] = refl
-  keep-map f p (x ∷ xs) = rw (keep-map f p xs) (sym (map-cond f (p (f x)) (x ∷ keep (λ x. p (f x)) xs) (keep (λ x. p (f x)) xs)))
+  keep-map f p (x ∷ xs) =
+      rw (keep-map f p xs) (sym (map-cond f (p (f x)) (x ∷ keep (λ x. p (f x)) xs) (keep (λ x. p (f x)) xs)))
 
   pub some?-map : (f : A → B) (p : B → Bool) (xs : List A) → some? p (map f xs) ≡ some? (λ x. p (f x)) xs
   some?-map f p [] = refl
@@ -177,7 +189,9 @@ module _ {A B : Type 0} where
 
   pub reverse-map : (f : A → B) (xs : List A) → reverse (map f xs) ≡ map f (reverse xs)
   reverse-map f [] = refl
-  reverse-map f (x ∷ xs) = rw (reverse-cons (f x) (map f xs), reverse-map f xs, reverse-cons x xs, map-append f (reverse xs) (x ∷ []))
+  reverse-map f (x ∷ xs) =
+      rw
+      (reverse-cons (f x) (map f xs), reverse-map f xs, reverse-cons x xs, map-append f (reverse xs) (x ∷ []))
 
   pub map-ext : (f g : A → B) (xs : List A) → Each (λ x. f x ≡ g x) xs → map f xs ≡ map g xs
   map-ext f g [] h = refl
@@ -187,9 +201,13 @@ module _ {A B : Type 0} where
   gather-ext f g [] h = refl
   gather-ext f g (x ∷ xs) h = rw (h .0, gather-ext f g xs (h .1))
 
-  pub length-gather : (f g : A → List B) (xs : List A) → Each (λ x. length (f x) ≡ length (g x)) xs → length (gather f xs) ≡ length (gather g xs)
+  pub length-gather : (f g : A → List B) (xs : List A) → Each (λ x. length (f x) ≡ length (g x)) xs
+      → length (gather f xs) ≡ length (gather g xs)
   length-gather f g [] h = refl
-  length-gather f g (x ∷ xs) h = length-append (f x) (gather f xs) ∙ ap₂ (λ a b. a + b) (h .0) (length-gather f g xs (h .1)) ∙ sym (length-append (g x) (gather g xs))
+  length-gather f g (x ∷ xs) h =
+      length-append (f x) (gather f xs)
+      ∙ ap₂ (λ a b. a + b) (h .0) (length-gather f g xs (h .1))
+      ∙ sym (length-append (g x) (gather g xs))
 
 module _ {A B C : Type 0} where
   pub gather-map : (f : A → B) (g : B → List C) (xs : List A) → gather g (map f xs) ≡ gather (λ x. g (f x)) xs
@@ -206,4 +224,5 @@ map-id f (x ∷ xs) h = rw (h .0, map-id f xs (h .1))
 
 -- the tests of two numbers on which a map is one to one
 pub eqb-ext : (a b c d : ℕ) → (a ≡ b → c ≡ d) → (c ≡ d → a ≡ b) → eqb a b ≡ eqb c d
-eqb-ext a b c d f g = bool-ext (eqb a b) (eqb c d) (λ e. eq-eqb c d (f (eqb-true a b e))) (λ e. eq-eqb a b (g (eqb-true c d e)))
+eqb-ext a b c d f g =
+    bool-ext (eqb a b) (eqb c d) (λ e. eq-eqb c d (f (eqb-true a b e))) (λ e. eq-eqb a b (g (eqb-true c d e)))

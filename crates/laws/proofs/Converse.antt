@@ -1,4 +1,5 @@
--- The lists before are the lists onward read the other way, as often; of two two-way lanes each lists the other or neither does.
+-- The lists before are the lists onward read the other way, as often; of two two-way lanes each lists the other
+-- or neither does.
 use mathlib.Core.Path.{_≡_, refl, sym, _∙_, ap, ap₂}
 use mathlib.Core.Bool.{Bool, true, false, not, _&&_, _||_, cond, true≢false, or-comm}
 use mathlib.Core.List.{List, [], _∷_, _++_, map, List·Memᴰ, List·Memᴰ·cases-cons}
@@ -30,7 +31,8 @@ length-keep : (n : ℕ) (ys : List ℕ) → length (keep (eqb n) ys) ≡ count n
 length-keep n [] = refl
 length-keep n (y ∷ ys) = go (eqb n y) (length-keep n ys)
   where
-    go : (b : Bool) → length (keep (eqb n) ys) ≡ count n ys → length (cond b (y ∷ keep (eqb n) ys) (keep (eqb n) ys)) ≡ cond b (suc (count n ys)) (count n ys)
+    go : (b : Bool) → length (keep (eqb n) ys) ≡ count n ys
+        → length (cond b (y ∷ keep (eqb n) ys) (keep (eqb n) ys)) ≡ cond b (suc (count n ys)) (count n ys)
     go true ih = ap suc ih
     go false ih = ih
 
@@ -38,10 +40,13 @@ abbrev pub OneEach : List Lane → Type 0
 OneEach ls = distinct (λ a b. eqb (a .identity) (b .identity)) ls ≡ true
 
 -- an identity that no lane of a list has
-absent-count : (n : ℕ) (g : Lane → List ℕ) (ls : List Lane) → some? (λ b. eqb n (b .identity)) ls ≡ false → count n (gather (λ a. map (λ i. a .identity) (g a)) ls) ≡ 0
+absent-count : (n : ℕ) (g : Lane → List ℕ) (ls : List Lane) → some? (λ b. eqb n (b .identity)) ls ≡ false
+    → count n (gather (λ a. map (λ i. a .identity) (g a)) ls) ≡ 0
 absent-count n g [] h = refl
-absent-count n g (l ∷ ls) h = count-append n (map (λ i. l .identity) (g l)) (gather (λ a. map (λ i. a .identity) (g a)) ls)
-    ∙ ap₂ (λ x y. x + y) (count-constant n (l .identity) (g l)) (absent-count n g ls (or-right (eqb n (l .identity)) (some? (λ b. eqb n (b .identity)) ls) h))
+absent-count n g (l ∷ ls) h =
+    count-append n (map (λ i. l .identity) (g l)) (gather (λ a. map (λ i. a .identity) (g a)) ls)
+    ∙ ap₂ (λ x y. x + y) (count-constant n (l .identity) (g l))
+    (absent-count n g ls (or-right (eqb n (l .identity)) (some? (λ b. eqb n (b .identity)) ls) h))
     ∙ ap (λ b. cond b (length (g l)) 0 + 0) (or-left (eqb n (l .identity)) (some? (λ b. eqb n (b .identity)) ls) h)
 
 some-of : (p : Lane → Bool) {a : Lane} {ls : List Lane} → List·Memᴰ a ls → p a ≡ true → some? p ls ≡ true
@@ -57,28 +62,44 @@ some-of p {a} {ls} h q = go ls h
 
 -- the first of lanes with one identity each: no other bears its identity
 alone : (l : Lane) (ls : List Lane) → OneEach (l ∷ ls) → some? (λ b. eqb (l .identity) (b .identity)) ls ≡ false
-alone l ls u = not-true (some? (λ b. eqb (l .identity) (b .identity)) ls) (and-left (not (some? (λ b. eqb (l .identity) (b .identity)) ls)) (distinct (λ a b. eqb (a .identity) (b .identity)) ls) u)
+alone l ls u =
+    not-true (some? (λ b. eqb (l .identity) (b .identity)) ls)
+    (and-left (not (some? (λ b. eqb (l .identity) (b .identity)) ls))
+    (distinct (λ a b. eqb (a .identity) (b .identity)) ls) u)
 
-unlike : (l : Lane) (ls : List Lane) → OneEach (l ∷ ls) → {a : Lane} → List·Memᴰ a ls → eqb (a .identity) (l .identity) ≡ false
+unlike : (l : Lane) (ls : List Lane) → OneEach (l ∷ ls) → {a : Lane} → List·Memᴰ a ls
+    → eqb (a .identity) (l .identity) ≡ false
 unlike l ls u {a} k = go (eqb (a .identity) (l .identity)) refl
   where
     go : (b : Bool) → eqb (a .identity) (l .identity) ≡ b → b ≡ false
     go false q = refl
-    go true q = sym (sym (alone l ls u) ∙ some-of (λ b. eqb (l .identity) (b .identity)) k (eq-eqb (l .identity) (a .identity) (sym (eqb-true (a .identity) (l .identity) q))))
+    go true q =
+        sym (sym (alone l ls u)
+        ∙ some-of (λ b. eqb (l .identity) (b .identity)) k
+        (eq-eqb (l .identity) (a .identity) (sym (eqb-true (a .identity) (l .identity) q))))
 
 -- the lane of an identity counts alone
-own-count : (g : Lane → List ℕ) (a : Lane) (ls : List Lane) → OneEach ls → List·Memᴰ a ls → count (a .identity) (gather (λ a. map (λ i. a .identity) (g a)) ls) ≡ length (g a)
+own-count : (g : Lane → List ℕ) (a : Lane) (ls : List Lane) → OneEach ls → List·Memᴰ a ls
+    → count (a .identity) (gather (λ a. map (λ i. a .identity) (g a)) ls) ≡ length (g a)
 own-count g a [] u h = absurd (mathlib.Core.List.List·Memᴰ·not-nil h)
 own-count g a (l ∷ ls) u h =
     count-append (a .identity) (map (λ i. l .identity) (g l)) rest
     ∙ ap (λ x. x + count (a .identity) rest) (count-constant (a .identity) (l .identity) (g l))
-    ∙ one (List·Memᴰ·cases-cons h) (own-count g a ls (and-right (not (some? (λ b. eqb (l .identity) (b .identity)) ls)) (distinct (λ a b. eqb (a .identity) (b .identity)) ls) u))
+    ∙ one (List·Memᴰ·cases-cons h)
+    (own-count g a ls (and-right (not (some? (λ b. eqb (l .identity) (b .identity)) ls))
+    (distinct (λ a b. eqb (a .identity) (b .identity)) ls) u))
   where
     rest : List ℕ
     rest = gather (λ a. map (λ i. a .identity) (g a)) ls
 
-    one : (a ≡ l) ⊎ List·Memᴰ a ls → (List·Memᴰ a ls → count (a .identity) rest ≡ length (g a)) → cond (eqb (a .identity) (l .identity)) (length (g l)) 0 + count (a .identity) rest ≡ length (g a)
-    one (inl e) f = ap₂ (λ b k. cond b (length (g l)) 0 + k) (eq-eqb (a .identity) (l .identity) (ap (λ (x : Lane). x .identity) e)) (ap (λ (x : Lane). count (x .identity) rest) e ∙ absent-count (l .identity) g ls (alone l ls u)) ∙ plus (length (g l)) ∙ ap (λ (x : Lane). length (g x)) (sym e)
+    one : (a ≡ l) ⊎ List·Memᴰ a ls → (List·Memᴰ a ls → count (a .identity) rest ≡ length (g a))
+        → cond (eqb (a .identity) (l .identity)) (length (g l)) 0 + count (a .identity) rest ≡ length (g a)
+    one (inl e) f =
+        ap₂ (λ b k. cond b (length (g l)) 0 + k)
+        (eq-eqb (a .identity) (l .identity) (ap (λ (x : Lane). x .identity) e))
+        (ap (λ (x : Lane). count (x .identity) rest) e ∙ absent-count (l .identity) g ls (alone l ls u))
+        ∙ plus (length (g l))
+        ∙ ap (λ (x : Lane). length (g x)) (sym e)
       where
         plus : (n : ℕ) → n + 0 ≡ n
         plus n = omega arith
@@ -89,46 +110,75 @@ own-count g a (l ∷ ls) u h =
 
 module _ (same : Span → Span → Bool) (m : Map) (u : OneEach (m .lanes)) where
   -- b stands in a's successors as often as a in b's predecessors
-  pub converse : (a b : Lane) → List·Memᴰ a (m .lanes) → count (b .identity) (successors same m a) ≡ count (a .identity) (predecessors same m b)
+  pub converse : (a b : Lane) → List·Memᴰ a (m .lanes)
+      → count (b .identity) (successors same m a) ≡ count (a .identity) (predecessors same m b)
   unfolding predecessors
-  converse a b h = sym (count-sort (a .identity) (gather (λ a. map (λ i. a .identity) (keep (eqb (b .identity)) (successors same m a))) (m .lanes))
+  converse a b h =
+      sym (count-sort (a .identity)
+      (gather (λ a. map (λ i. a .identity) (keep (eqb (b .identity)) (successors same m a))) (m .lanes))
       ∙ own-count (λ a. keep (eqb (b .identity)) (successors same m a)) a (m .lanes) u h
       ∙ length-keep (b .identity) (successors same m a))
 
   -- a lane of the list, by its identity
-  keep-member : (p : Lane → Bool) (b : Lane) (ls : List Lane) → OneEach ls → List·Memᴰ b ls → member (b .identity) (map (λ x. x .identity) (keep p ls)) ≡ p b
+  keep-member : (p : Lane → Bool) (b : Lane) (ls : List Lane) → OneEach ls → List·Memᴰ b ls
+      → member (b .identity) (map (λ x. x .identity) (keep p ls)) ≡ p b
   keep-member p b [] v h = absurd (mathlib.Core.List.List·Memᴰ·not-nil h)
-  keep-member p b (l ∷ ls) v h = one (List·Memᴰ·cases-cons h) (keep-member p b ls (and-right (not (some? (λ b. eqb (l .identity) (b .identity)) ls)) (distinct (λ a b. eqb (a .identity) (b .identity)) ls) v))
+  keep-member p b (l ∷ ls) v h =
+      one (List·Memᴰ·cases-cons h)
+      (keep-member p b ls (and-right (not (some? (λ b. eqb (l .identity) (b .identity)) ls))
+      (distinct (λ a b. eqb (a .identity) (b .identity)) ls) v))
     where
-      less : (p : Lane → Bool) (n : ℕ) (ls : List Lane) → some? (λ b. eqb n (b .identity)) ls ≡ false → member n (map (λ x. x .identity) (keep p ls)) ≡ false
+      less : (p : Lane → Bool) (n : ℕ) (ls : List Lane) → some? (λ b. eqb n (b .identity)) ls ≡ false
+          → member n (map (λ x. x .identity) (keep p ls)) ≡ false
       less p n [] q = refl
       less p n (x ∷ xs) q = go (p x) (eqb n (x .identity)) refl q (less p n xs)
         where
-          go : (b c : Bool) → eqb n (x .identity) ≡ c → c || some? (λ b. eqb n (b .identity)) xs ≡ false → (some? (λ b. eqb n (b .identity)) xs ≡ false → member n (map (λ x. x .identity) (keep p xs)) ≡ false) →
+          go : (b c : Bool) → eqb n (x .identity) ≡ c → c || some? (λ b. eqb n (b .identity)) xs ≡ false
+              → (some? (λ b. eqb n (b .identity)) xs ≡ false
+              → member n (map (λ x. x .identity) (keep p xs)) ≡ false) →
               member n (map (λ x. x .identity) (cond b (x ∷ keep p xs) (keep p xs))) ≡ false
           go b true w q ih = absurd (true≢false q)
           go true false w q ih = ap (λ c. c || member n (map (λ x. x .identity) (keep p xs))) w ∙ ih q
           go false false w q ih = ih q
 
       found : (c : Bool) → member (l .identity) (map (λ x. x .identity) (cond c (l ∷ keep p ls) (keep p ls))) ≡ c
-      found true = ap (λ c. c || member (l .identity) (map (λ x. x .identity) (keep p ls))) (eq-eqb (l .identity) (l .identity) refl)
+      found true =
+          ap (λ c. c || member (l .identity) (map (λ x. x .identity) (keep p ls)))
+          (eq-eqb (l .identity) (l .identity) refl)
       found false = less p (l .identity) ls (alone l ls v)
 
-      skip : (c : Bool) → eqb (b .identity) (l .identity) ≡ false → member (b .identity) (map (λ x. x .identity) (cond c (l ∷ keep p ls) (keep p ls))) ≡ member (b .identity) (map (λ x. x .identity) (keep p ls))
+      skip : (c : Bool) → eqb (b .identity) (l .identity) ≡ false
+          → member (b .identity) (map (λ x. x .identity) (cond c (l ∷ keep p ls) (keep p ls)))
+          ≡ member (b .identity) (map (λ x. x .identity) (keep p ls))
       skip true q = ap (λ c. c || member (b .identity) (map (λ x. x .identity) (keep p ls))) q
       skip false q = refl
 
-      one : (b ≡ l) ⊎ List·Memᴰ b ls → (List·Memᴰ b ls → member (b .identity) (map (λ x. x .identity) (keep p ls)) ≡ p b) → member (b .identity) (map (λ x. x .identity) (cond (p l) (l ∷ keep p ls) (keep p ls))) ≡ p b
-      one (inl e) f = ap (λ (x : Lane). member (x .identity) (map (λ x. x .identity) (cond (p l) (l ∷ keep p ls) (keep p ls)))) e ∙ found (p l) ∙ ap p (sym e)
+      one : (b ≡ l) ⊎ List·Memᴰ b ls
+          → (List·Memᴰ b ls → member (b .identity) (map (λ x. x .identity) (keep p ls)) ≡ p b)
+          → member (b .identity) (map (λ x. x .identity) (cond (p l) (l ∷ keep p ls) (keep p ls))) ≡ p b
+      one (inl e) f =
+          ap
+          (λ (x : Lane). member (x .identity) (map (λ x. x .identity) (cond (p l) (l ∷ keep p ls) (keep p ls))))
+          e
+          ∙ found (p l)
+          ∙ ap p (sym e)
       one (inr k) f = skip (p l) (unlike l ls v k) ∙ f k
 
-  either : (a b : Lane) → List·Memᴰ b (m .lanes) → isBoth (a .direction) ≡ true → isBoth (b .direction) ≡ true → member (b .identity) (successors same m a) ≡ member (b .identity) (successorsOf same m a) || member (a .identity) (successorsOf same m b)
+  either : (a b : Lane) → List·Memᴰ b (m .lanes) → isBoth (a .direction) ≡ true → isBoth (b .direction) ≡ true
+      → member (b .identity) (successors same m a)
+      ≡ member (b .identity) (successorsOf same m a) || member (a .identity) (successorsOf same m b)
   unfolding successors backLinks findsBack
   either a b h p q =
       member-sort (b .identity) (successorsOf same m a ++ backLinks same m a)
       ∙ member-append (b .identity) (successorsOf same m a) (backLinks same m a)
-      ∙ ap (λ c. member (b .identity) (successorsOf same m a) || member (b .identity) (cond c (map (λ x. x .identity) (keep (findsBack same m a) (m .lanes))) [])) p
-      ∙ ap (λ c. member (b .identity) (successorsOf same m a) || c) (keep-member (findsBack same m a) b (m .lanes) u h ∙ ap (λ c. c && member (a .identity) (successorsOf same m b) && not (member (b .identity) (successorsOf same m a))) q)
+      ∙ ap (λ c.
+      member (b .identity) (successorsOf same m a) || member (b .identity)
+      (cond c (map (λ x. x .identity) (keep (findsBack same m a) (m .lanes))) [])) p
+      ∙ ap (λ c. member (b .identity) (successorsOf same m a) || c)
+      (keep-member (findsBack same m a) b (m .lanes) u h
+      ∙ ap (λ c.
+      c && member (a .identity) (successorsOf same m b) && not (member (b .identity) (successorsOf same m a)))
+      q)
       ∙ absorb (member (b .identity) (successorsOf same m a)) (member (a .identity) (successorsOf same m b))
     where
       absorb : (x y : Bool) → x || (y && not x) ≡ x || y
@@ -137,6 +187,10 @@ module _ (same : Span → Span → Bool) (m : Map) (u : OneEach (m .lanes)) wher
       absorb false false = refl
 
   -- of two two-way lanes each lists the other or neither does
-  pub both-or-neither : (a b : Lane) → List·Memᴰ a (m .lanes) → List·Memᴰ b (m .lanes) → isBoth (a .direction) ≡ true → isBoth (b .direction) ≡ true →
+  pub both-or-neither : (a b : Lane) → List·Memᴰ a (m .lanes) → List·Memᴰ b (m .lanes)
+      → isBoth (a .direction) ≡ true → isBoth (b .direction) ≡ true →
       member (b .identity) (successors same m a) ≡ member (a .identity) (successors same m b)
-  both-or-neither a b h k p q = either a b k p q ∙ or-comm (member (b .identity) (successorsOf same m a)) (member (a .identity) (successorsOf same m b)) ∙ sym (either b a h q p)
+  both-or-neither a b h k p q =
+      either a b k p q
+      ∙ or-comm (member (b .identity) (successorsOf same m a)) (member (a .identity) (successorsOf same m b))
+      ∙ sym (either b a h q p)

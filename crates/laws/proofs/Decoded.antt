@@ -14,7 +14,11 @@ use Rattle.model.specs.Lists.{every, gather}
 use Rattle.model.specs.Records.{Connection, Lane, Pair}
 use Rattle.model.specs.Rows.{part, partsFit, rowsFrom, table, word}
 use Rattle.model.specs.Rules.{connectionWorded, junctionWorded, laneWorded, linkWorded, roadWorded, targetWorded}
-use Rattle.model.specs.Tables.{allConnections, bit, connectionIn, connectionRow, directionOf, directionWord, edgeRow, flag, isAbsent, junctionIn, junctionRow, junctionWords, kindOf, kindWord, laneIn, laneRow, laneWords, linkOf, linkWords, nameIn, nameWords, pairIn, pairRow, roadIn, roadRow, roadWords, sectionWords, spanIn, targetOf, targetWords, withEdges}
+use Rattle.model.specs.Tables.{allConnections, bit, connectionIn, connectionRow, directionOf, directionWord}
+use Rattle.model.specs.Tables.{edgeRow, flag, isAbsent, junctionIn, junctionRow, junctionWords, kindOf}
+use Rattle.model.specs.Tables.{kindWord, laneIn, laneRow, laneWords, linkOf, linkWords, nameIn, nameWords}
+use Rattle.model.specs.Tables.{pairIn, pairRow, roadIn, roadRow, roadWords, sectionWords, spanIn, targetOf}
+use Rattle.model.specs.Tables.{targetWords, withEdges}
 use Rattle.model.specs.Text.{placed}
 use Rattle.laws.proofs.Encoded.{Six}
 use Rattle.laws.proofs.ForEach.{each-both, each-map}
@@ -31,17 +35,27 @@ name-forth : (s n : ℕ) → nameWords (cond (isAbsent s n) none (some (record {
 name-forth s n = go (isAbsent s n) refl
   where
     go : (b : Bool) → isAbsent s n ≡ b → nameWords (cond b none (some (record { start = s; size = n }))) ≡ s ∷ n ∷ []
-    go true h = λ i. sym (eqb-true s 4294967295 (and-left (eqb s 4294967295) (eqb n 0) h)) i ∷ sym (eqb-true n 0 (and-right (eqb s 4294967295) (eqb n 0) h)) i ∷ []
+    go true h =
+        λ i.
+        sym (eqb-true s 4294967295 (and-left (eqb s 4294967295) (eqb n 0) h)) i
+        ∷ sym (eqb-true n 0 (and-right (eqb s 4294967295) (eqb n 0) h)) i ∷ []
     go false h = refl
 
-pub and5 : (a b c d e : Bool) → a && b && c && d && e ≡ true → (a ≡ true) × (b ≡ true) × (c ≡ true) × (d ≡ true) × (e ≡ true)
+pub and5 : (a b c d e : Bool) → a && b && c && d && e ≡ true
+    → (a ≡ true) × (b ≡ true) × (c ≡ true) × (d ≡ true) × (e ≡ true)
 and5 a b c d e h =
     let h4 = and-left (a && b && c && d) e h in
     let h3 = and-left (a && b && c) d h4 in
-    let h2 = and-left (a && b) c h3 in
-    (and-left a b h2, and-right a b h2, and-right (a && b) c h3, and-right (a && b && c) d h4, and-right (a && b && c && d) e h)
+    let h2 = and-left (a && b) c h3 in (
+      and-left a b h2,
+      and-right a b h2,
+      and-right (a && b) c h3,
+      and-right (a && b && c) d h4,
+      and-right (a && b && c && d) e h,
+    )
 
-pub and6 : (a b c d e f : Bool) → a && b && c && d && e && f ≡ true → (a ≡ true) × (b ≡ true) × (c ≡ true) × (d ≡ true) × (e ≡ true) × (f ≡ true)
+pub and6 : (a b c d e f : Bool) → a && b && c && d && e && f ≡ true
+    → (a ≡ true) × (b ≡ true) × (c ≡ true) × (d ≡ true) × (e ≡ true) × (f ≡ true)
 and6 a b c d e f h =
     let h5 = and5 a b c d e (and-left (a && b && c && d && e) f h) in
     (h5 .0, h5 .1, h5 .2, h5 .3, h5 .4, and-right (a && b && c && d && e) f h)
@@ -60,15 +74,19 @@ and3 a b c h =
 zero-word : (k : ℕ) → eqb k 0 ≡ true → 0 ≡ k
 zero-word k h = sym (eqb-true k 0 h)
 
-pub target-forth : (text : List ℕ) (p k s n c g a : ℕ) → targetWorded text p k s n c g a ≡ true → targetWords (targetOf p k s n c g a) ≡ p ∷ k ∷ s ∷ n ∷ c ∷ g ∷ a ∷ []
+pub target-forth : (text : List ℕ) (p k s n c g a : ℕ) → targetWorded text p k s n c g a ≡ true
+    → targetWords (targetOf p k s n c g a) ≡ p ∷ k ∷ s ∷ n ∷ c ∷ g ∷ a ∷ []
 unfolding targetWorded
 target-forth text zero k s n c g a h =
     let w = and6 (eqb k 0) (eqb s 0) (eqb n 0) (eqb c 0) (eqb g 0) (eqb a 0) h in
-    λ i. 0 ∷ zero-word k (w .0) i ∷ zero-word s (w .1) i ∷ zero-word n (w .2) i ∷ zero-word c (w .3) i ∷ zero-word g (w .4) i ∷ zero-word a (w .5) i ∷ []
+    λ i.
+    0 ∷ zero-word k (w .0) i ∷ zero-word s (w .1) i ∷ zero-word n (w .2) i ∷ zero-word c (w .3) i
+    ∷ zero-word g (w .4) i ∷ zero-word a (w .5) i ∷ []
 target-forth text (suc zero) k s n c g a h =
     let w = and5 (leb k 1) (placed text (record { start = s; size = n })) (leb c 1) (leb g 1) (leb a 1) h in
     λ i. 1 ∷ bit-flag k (w .0) i ∷ s ∷ n ∷ bit-flag c (w .2) i ∷ bit-flag g (w .3) i ∷ bit-flag a (w .4) i ∷ []
-target-forth text (suc (suc p)) k s n c g a h = absurd (let z = leb-true (suc (suc p)) 1 (and-left (leb (suc (suc p)) 1) _ h) in omega arith)
+target-forth text (suc (suc p)) k s n c g a h =
+    absurd (let z = leb-true (suc (suc p)) 1 (and-left (leb (suc (suc p)) 1) _ h) in omega arith)
 
 kind-forth : (k : ℕ) → leb k 2 ≡ true → kindWord (kindOf k) ≡ k
 kind-forth zero h = refl
@@ -86,13 +104,15 @@ link-forth : (f n : ℕ) → linkWorded f n ≡ true → linkWords (linkOf f n) 
 unfolding linkWorded
 link-forth zero n h = λ i. 0 ∷ zero-word n h i ∷ []
 link-forth (suc zero) n h = refl
-link-forth (suc (suc f)) n h = absurd (let z = leb-true (suc (suc f)) 1 (and-left (leb (suc (suc f)) 1) _ h) in omega arith)
+link-forth (suc (suc f)) n h =
+    absurd (let z = leb-true (suc (suc f)) 1 (and-left (leb (suc (suc f)) 1) _ h) in omega arith)
 
 -- ---- rows
 abbrev pub Worded : (List ℕ → Bool) → ℕ → List ℕ → Type 0
 Worded test w r = (test r ≡ true) × (length r ≡ w)
 
-pub road-forth : (text ss r : List ℕ) → Worded (roadWorded text) 20 r → length (roadIn ss r .sections) ≡ word r 19 → roadRow (word r 18) (roadIn ss r) ≡ r
+pub road-forth : (text ss r : List ℕ) → Worded (roadWorded text) 20 r
+    → length (roadIn ss r .sections) ≡ word r 19 → roadRow (word r 18) (roadIn ss r) ≡ r
 unfolding roadIn roadRow roadWorded
 road-forth text ss r h c =
     let w = and4 (placed text (spanIn r 0)) (isAbsent (word r 2) (word r 3) || placed text (spanIn r 2))
@@ -100,12 +120,15 @@ road-forth text ss r h c =
     (targetWorded text (word r 11) (word r 12) (word r 13) (word r 14) (word r 15) (word r 16) (word r 17)) (h .0) in
     let n = name-forth (word r 2) (word r 3) in
     let p = target-forth text (word r 4) (word r 5) (word r 6) (word r 7) (word r 8) (word r 9) (word r 10) (w .2) in
-    let s = target-forth text (word r 11) (word r 12) (word r 13) (word r 14) (word r 15) (word r 16) (word r 17) (w .3) in
+    let s =
+    target-forth text (word r 11) (word r 12) (word r 13) (word r 14) (word r 15) (word r 16) (word r 17)
+    (w .3) in
     let e : word r 0 ∷ word r 1 ∷ (nameWords (nameIn r 2) ++ (targetWords (roadIn ss r .predecessor) ++ (targetWords (roadIn ss r .successor) ++ (word r 18 ∷ length (part (word r 18) (word r 19) ss) ∷ [])))) ≡ wordsFrom 20 0 r
     = λ i. word r 0 ∷ word r 1 ∷ (n i ++ (p i ++ (s i ++ (word r 18 ∷ c i ∷ [])))) in
     e ∙ spelled 20 r (h .1)
 
-pub connection-forth : (text : List ℕ) (ps : List Pair) (r : List ℕ) → Worded (connectionWorded text) 7 r → length (connectionIn ps r .pairs) ≡ word r 6 → connectionRow (word r 5) (connectionIn ps r) ≡ r
+pub connection-forth : (text : List ℕ) (ps : List Pair) (r : List ℕ) → Worded (connectionWorded text) 7 r
+    → length (connectionIn ps r .pairs) ≡ word r 6 → connectionRow (word r 5) (connectionIn ps r) ≡ r
 unfolding connectionIn connectionRow connectionWorded
 connection-forth text ps r h c =
     let w = and3 (placed text (spanIn r 0)) (placed text (spanIn r 2)) (leb (word r 4) 1) (h .0) in
@@ -113,21 +136,31 @@ connection-forth text ps r h c =
     = λ i. word r 0 ∷ word r 1 ∷ word r 2 ∷ word r 3 ∷ bit-flag (word r 4) (w .2) i ∷ word r 5 ∷ c i ∷ [] in
     e ∙ spelled 7 r (h .1)
 
-pub junction-forth : (text : List ℕ) (cs : List Connection) (r : List ℕ) → Worded (junctionWorded text) 5 r → length (junctionIn cs r .connections) ≡ word r 4 → junctionRow (word r 3) (junctionIn cs r) ≡ r
+pub junction-forth : (text : List ℕ) (cs : List Connection) (r : List ℕ) → Worded (junctionWorded text) 5 r
+    → length (junctionIn cs r .connections) ≡ word r 4 → junctionRow (word r 3) (junctionIn cs r) ≡ r
 unfolding junctionIn junctionRow junctionWorded
 junction-forth text cs r h c =
     let e : word r 0 ∷ word r 1 ∷ kindWord (kindOf (word r 2)) ∷ word r 3 ∷ length (part (word r 3) (word r 4) cs) ∷ [] ≡ wordsFrom 5 0 r
-    = λ i. word r 0 ∷ word r 1 ∷ kind-forth (word r 2) (and-right (placed text (spanIn r 0)) (leb (word r 2) 2) (h .0)) i ∷ word r 3 ∷ c i ∷ [] in
+    =
+    λ i.
+    word r 0 ∷ word r 1
+    ∷ kind-forth (word r 2) (and-right (placed text (spanIn r 0)) (leb (word r 2) 2) (h .0)) i ∷ word r 3
+    ∷ c i ∷ [] in
     e ∙ spelled 5 r (h .1)
 
 pub lane-forth : (text r : List ℕ) → Worded (laneWorded text) 10 r → laneRow (laneIn r) ≡ r
 unfolding laneIn laneRow laneWorded
 lane-forth text r h =
-    let w = and4 (placed text (spanIn r 1)) (leb (word r 5) 2) (linkWorded (word r 6) (word r 7)) (linkWorded (word r 8) (word r 9)) (h .0) in
+    let w =
+    and4 (placed text (spanIn r 1)) (leb (word r 5) 2) (linkWorded (word r 6) (word r 7))
+    (linkWorded (word r 8) (word r 9)) (h .0) in
     let s = link-forth (word r 6) (word r 7) (w .2) in
     let p = link-forth (word r 8) (word r 9) (w .3) in
     let e : word r 0 ∷ word r 1 ∷ word r 2 ∷ word r 3 ∷ word r 4 ∷ directionWord (directionOf (word r 5)) ∷ (linkWords (linkOf (word r 6) (word r 7)) ++ linkWords (linkOf (word r 8) (word r 9))) ≡ wordsFrom 10 0 r
-    = λ i. word r 0 ∷ word r 1 ∷ word r 2 ∷ word r 3 ∷ word r 4 ∷ direction-forth (word r 5) (w .1) i ∷ (s i ++ p i) in
+    =
+    λ i.
+    word r 0 ∷ word r 1 ∷ word r 2 ∷ word r 3 ∷ word r 4 ∷ direction-forth (word r 5) (w .1) i
+    ∷ (s i ++ p i) in
     e ∙ spelled 10 r (h .1)
 
 pub pair-forth : (r : List ℕ) → length r ≡ 2 → pairRow (pairIn r) ≡ r
@@ -135,62 +168,94 @@ unfolding pairIn pairRow
 pair-forth r h = spelled 2 r h
 
 -- ---- tables
-pub gather-id : {A B : Type 0} (f : A → List B) (g : List B → A) (rs : List (List B)) → Each (λ r. f (g r) ≡ r) rs → gather f (map g rs) ≡ gather (λ r. r) rs
+pub gather-id : {A B : Type 0} (f : A → List B) (g : List B → A) (rs : List (List B))
+    → Each (λ r. f (g r) ≡ r) rs → gather f (map g rs) ≡ gather (λ r. r) rs
 gather-id f g [] h = refl
 gather-id {B = B} f g (r ∷ rs) h = ap₂ (λ (a b : List B). a ++ b) (h .0) (gather-id f g rs (h .1))
 
 -- every row of a table passes, and has its width
-rows-pass : (test : List ℕ → Bool) (w : ℕ) (ws : List ℕ) → length ws % w ≡ 0 → every test (table w ws) ≡ true → Each (Worded test w) (table w ws)
-rows-pass test w ws e h = each-both (λ r. test r ≡ true) (λ r. length r ≡ w) (table w ws) (every-each test (table w ws) h) (table-width w ws e)
+rows-pass : (test : List ℕ → Bool) (w : ℕ) (ws : List ℕ) → length ws % w ≡ 0 → every test (table w ws) ≡ true
+    → Each (Worded test w) (table w ws)
+rows-pass test w ws e h =
+    each-both (λ r. test r ≡ true) (λ r. length r ≡ w) (table w ws) (every-each test (table w ws) h)
+    (table-width w ws e)
 
 -- a table whose rows have parts in another: its rows are given back, and so is the other
 module _ {X A : Type 0} (test : List ℕ → Bool) (w kf kc : ℕ) (row : ℕ → X → List ℕ) (f : X → List A) (from : List ℕ → X) (all : List A)
     (reads : (r : List ℕ) → f (from r) ≡ part (word r kf) (word r kc) all)
     (forth : (r : List ℕ) → Worded test w r → length (f (from r)) ≡ word r kc → row (word r kf) (from r) ≡ r) where
-  table-forth : (ws : List ℕ) → length ws % w ≡ 0 → every test (table w ws) ≡ true → partsFit kf kc 0 (length all) (table w ws) ≡ true →
+  table-forth : (ws : List ℕ) → length ws % w ≡ 0 → every test (table w ws) ≡ true
+      → partsFit kf kc 0 (length all) (table w ws) ≡ true →
       (rowsFrom row f 0 (map from (table w ws)) ≡ ws) × (gather f (map from (table w ws)) ≡ all)
   table-forth ws e h p = (
-    rows-forth kf kc row f from all (Worded test w) reads forth 0 (table w ws) (rows-pass test w ws e h) p ∙ gather-table w ws e,
+    rows-forth kf kc row f from all (Worded test w) reads forth 0 (table w ws) (rows-pass test w ws e h) p
+        ∙ gather-table w ws e,
     parts-forth kf kc row f from all (Worded test w) reads forth 0 (table w ws) p,
   )
 
 module _ (text : List ℕ) where
-  pub roads-forth : (ws ss : List ℕ) → length ws % 20 ≡ 0 → every (roadWorded text) (table 20 ws) ≡ true → partsFit 18 19 0 (length ss) (table 20 ws) ≡ true →
+  pub roads-forth : (ws ss : List ℕ) → length ws % 20 ≡ 0 → every (roadWorded text) (table 20 ws) ≡ true
+      → partsFit 18 19 0 (length ss) (table 20 ws) ≡ true →
       (roadWords (map (roadIn ss) (table 20 ws)) ≡ ws) × (sectionWords (map (roadIn ss) (table 20 ws)) ≡ ss)
   unfolding roadWords sectionWords
-  roads-forth ws ss = table-forth (roadWorded text) 20 18 19 roadRow (λ r. r .sections) (roadIn ss) ss (λ r. unfold roadIn in refl) (road-forth text ss) ws
+  roads-forth ws ss =
+      table-forth (roadWorded text) 20 18 19 roadRow (λ r. r .sections) (roadIn ss) ss
+      (λ r. unfold roadIn in refl) (road-forth text ss) ws
 
   pub pairs-forth : (ws : List ℕ) → length ws % 2 ≡ 0 → gather pairRow (map pairIn (table 2 ws)) ≡ ws
-  pairs-forth ws e = gather-id pairRow pairIn (table 2 ws) (each-map pair-forth (table 2 ws) (table-width 2 ws e)) ∙ gather-table 2 ws e
+  pairs-forth ws e =
+      gather-id pairRow pairIn (table 2 ws) (each-map pair-forth (table 2 ws) (table-width 2 ws e))
+      ∙ gather-table 2 ws e
 
-  pub connections-forth : (ws : List ℕ) (ps : List Pair) → length ws % 7 ≡ 0 → every (connectionWorded text) (table 7 ws) ≡ true → partsFit 5 6 0 (length ps) (table 7 ws) ≡ true →
-      (rowsFrom connectionRow (λ c. c .pairs) 0 (map (connectionIn ps) (table 7 ws)) ≡ ws) × (gather (λ c. c .pairs) (map (connectionIn ps) (table 7 ws)) ≡ ps)
-  connections-forth ws ps = table-forth (connectionWorded text) 7 5 6 connectionRow (λ c. c .pairs) (connectionIn ps) ps (λ r. unfold connectionIn in refl) (connection-forth text ps) ws
+  pub connections-forth : (ws : List ℕ) (ps : List Pair) → length ws % 7 ≡ 0
+      → every (connectionWorded text) (table 7 ws) ≡ true → partsFit 5 6 0 (length ps) (table 7 ws) ≡ true →
+      (rowsFrom connectionRow (λ c. c .pairs) 0 (map (connectionIn ps) (table 7 ws)) ≡ ws)
+      × (gather (λ c. c .pairs) (map (connectionIn ps) (table 7 ws)) ≡ ps)
+  connections-forth ws ps =
+      table-forth (connectionWorded text) 7 5 6 connectionRow (λ c. c .pairs) (connectionIn ps) ps
+      (λ r. unfold connectionIn in refl) (connection-forth text ps) ws
 
-  pub junctions-forth : (ws : List ℕ) (cs : List Connection) → length ws % 5 ≡ 0 → every (junctionWorded text) (table 5 ws) ≡ true → partsFit 3 4 0 (length cs) (table 5 ws) ≡ true →
-      (junctionWords (map (junctionIn cs) (table 5 ws)) ≡ ws) × (allConnections (map (junctionIn cs) (table 5 ws)) ≡ cs)
+  pub junctions-forth : (ws : List ℕ) (cs : List Connection) → length ws % 5 ≡ 0
+      → every (junctionWorded text) (table 5 ws) ≡ true → partsFit 3 4 0 (length cs) (table 5 ws) ≡ true →
+      (junctionWords (map (junctionIn cs) (table 5 ws)) ≡ ws)
+      × (allConnections (map (junctionIn cs) (table 5 ws)) ≡ cs)
   unfolding junctionWords allConnections
-  junctions-forth ws cs = table-forth (junctionWorded text) 5 3 4 junctionRow (λ j. j .connections) (junctionIn cs) cs (λ r. unfold junctionIn in refl) (junction-forth text cs) ws
+  junctions-forth ws cs =
+      table-forth (junctionWorded text) 5 3 4 junctionRow (λ j. j .connections) (junctionIn cs) cs
+      (λ r. unfold junctionIn in refl) (junction-forth text cs) ws
 
-  pub lanes-forth : (ws : List ℕ) → length ws % 10 ≡ 0 → every (laneWorded text) (table 10 ws) ≡ true → laneWords (map laneIn (table 10 ws)) ≡ ws
+  pub lanes-forth : (ws : List ℕ) → length ws % 10 ≡ 0 → every (laneWorded text) (table 10 ws) ≡ true
+      → laneWords (map laneIn (table 10 ws)) ≡ ws
   unfolding laneWords
-  lanes-forth ws e h = gather-id laneRow laneIn (table 10 ws) (each-map (lane-forth text) (table 10 ws) (rows-pass (laneWorded text) 10 ws e h)) ∙ gather-table 10 ws e
+  lanes-forth ws e h =
+      gather-id laneRow laneIn (table 10 ws)
+      (each-map (lane-forth text) (table 10 ws) (rows-pass (laneWorded text) 10 ws e h))
+      ∙ gather-table 10 ws e
 
 -- the lanes with their edges
-pub edges-forth : (ls : List Lane) (es : List (List Float)) → length ls ≡ length es → gather edgeRow (withEdges ls es) ≡ gather (λ r. r) es
+pub edges-forth : (ls : List Lane) (es : List (List Float)) → length ls ≡ length es
+    → gather edgeRow (withEdges ls es) ≡ gather (λ r. r) es
 unfolding edgeRow
 edges-forth [] [] h = refl
 edges-forth [] (e ∷ es) h = absurd (let z : 0 ≡ suc (length es) = h in omega arith)
 edges-forth (l ∷ ls) [] h = absurd (let z : suc (length ls) ≡ 0 = h in omega arith)
-edges-forth (l ∷ ls) (e ∷ es) h = ap₂ (λ (a b : List Float). a ++ b) (take-append-drop 6 e) (edges-forth ls es (let z : suc (length ls) ≡ suc (length es) = h in omega arith))
+edges-forth (l ∷ ls) (e ∷ es) h =
+    ap₂ (λ (a b : List Float). a ++ b) (take-append-drop 6 e)
+    (edges-forth ls es (let z : suc (length ls) ≡ suc (length es) = h in omega arith))
 
-pub lanes-with : (ls : List Lane) (es : List (List Float)) → length ls ≡ length es → map (λ x. x .lane) (withEdges ls es) ≡ ls
+pub lanes-with : (ls : List Lane) (es : List (List Float)) → length ls ≡ length es
+    → map (λ x. x .lane) (withEdges ls es) ≡ ls
 lanes-with [] [] h = refl
 lanes-with [] (e ∷ es) h = absurd (let z : 0 ≡ suc (length es) = h in omega arith)
 lanes-with (l ∷ ls) [] h = absurd (let z : suc (length ls) ≡ 0 = h in omega arith)
-lanes-with (l ∷ ls) (e ∷ es) h = ap {B = List Lane} (λ x. l ∷ x) (lanes-with ls es (let z : suc (length ls) ≡ suc (length es) = h in omega arith))
+lanes-with (l ∷ ls) (e ∷ es) h =
+    ap {B = List Lane} (λ x. l ∷ x)
+    (lanes-with ls es (let z : suc (length ls) ≡ suc (length es) = h in omega arith))
 
 pub ends-six : (ls : List Lane) (es : List (List Float)) → Each (λ e. length e ≡ 12) es → Each Six (withEdges ls es)
 ends-six [] es h = tt
 ends-six (l ∷ ls) [] h = tt
-ends-six (l ∷ ls) (e ∷ es) h = ((length-take-le 6 e (let z = h .0 in omega arith), length-drop 6 e ∙ (let z = h .0 in omega arith)), ends-six ls es (h .1))
+ends-six (l ∷ ls) (e ∷ es) h = (
+  (length-take-le 6 e (let z = h .0 in omega arith), length-drop 6 e ∙ (let z = h .0 in omega arith)),
+  ends-six ls es (h .1),
+)

@@ -31,7 +31,8 @@ module _ {A : Type 0} (P : A → Type 0) where
 
   pub each-reverse : (xs : List A) → Each P xs → Each P (reverse xs)
   each-reverse [] h = tt
-  each-reverse (x ∷ xs) h = rw (reverse-cons x xs) (each-append (reverse xs) (x ∷ []) (each-reverse xs (h .1)) (h .0, tt))
+  each-reverse (x ∷ xs) h =
+      rw (reverse-cons x xs) (each-append (reverse xs) (x ∷ []) (each-reverse xs (h .1)) (h .0, tt))
 
   pub each-take : (n : ℕ) (xs : List A) → Each P xs → Each P (take n xs)
   each-take zero [] h = tt
@@ -54,11 +55,13 @@ module _ {A : Type 0} (P : A → Type 0) where
       go false k = k
 
   -- where the one that is changed, the first that passes, keeps P
-  pub each-amend : (p : A → Bool) (f : A → A) (xs : List A) → Each P xs → ((x : A) → first p xs ≡ some x → P x → P (f x)) → Each P (amend p f xs)
+  pub each-amend : (p : A → Bool) (f : A → A) (xs : List A) → Each P xs
+      → ((x : A) → first p xs ≡ some x → P x → P (f x)) → Each P (amend p f xs)
   each-amend p f [] h k = tt
   each-amend p f (x ∷ xs) h k = go (p x) refl (each-amend p f xs (h .1))
     where
-      go : (b : Bool) → p x ≡ b → (((y : A) → first p xs ≡ some y → P y → P (f y)) → Each P (amend p f xs)) → Each P (cond b (f x ∷ xs) (x ∷ amend p f xs))
+      go : (b : Bool) → p x ≡ b → (((y : A) → first p xs ≡ some y → P y → P (f y)) → Each P (amend p f xs))
+          → Each P (cond b (f x ∷ xs) (x ∷ amend p f xs))
       go true w ih = (k x (ap {B = Option A} (λ b. cond b (some x) (first p xs)) w) (h .0), h .1)
       go false w ih = (h .0, ih (λ y q. k y (ap {B = Option A} (λ b. cond b (some x) (first p xs)) w ∙ q)))
 
@@ -93,7 +96,8 @@ module _ {A B : Type 0} (f : A → B) (P : B → Type 0) where
   pub each-over : (Q : A → Type 0) → ((x : A) → Q x → P (f x)) → (xs : List A) → Each Q xs → Each P (map f xs)
   each-over Q k xs h = each-of-map xs (each-map k xs h)
 
-pub each-gather : {A B : Type 0} (P : A → Type 0) (Q : B → Type 0) (f : A → List B) → ((x : A) → P x → Each Q (f x)) → (xs : List A) → Each P xs → Each Q (gather f xs)
+pub each-gather : {A B : Type 0} (P : A → Type 0) (Q : B → Type 0) (f : A → List B)
+    → ((x : A) → P x → Each Q (f x)) → (xs : List A) → Each P xs → Each Q (gather f xs)
 each-gather P Q f k [] h = tt
 each-gather P Q f k (x ∷ xs) h = each-append Q (f x) (gather f xs) (k x (h .0)) (each-gather P Q f k xs (h .1))
 

@@ -1,4 +1,5 @@
--- Repair at most doubles the connections and the pairs, so what it writes passes rules 1 to 5 at the limits of the later calls.
+-- Repair at most doubles the connections and the pairs, so what it writes passes rules 1 to 5 at the limits of
+-- the later calls.
 use mathlib.Core.Path.{_≡_, refl, sym, _∙_, ap, subst}
 use mathlib.Core.Bool.{Bool, true, false, not, _&&_, cond}
 use mathlib.Core.Option.{Option, none, some}
@@ -13,10 +14,15 @@ use Rattle.model.specs.Calls.{repairContent, repairRules, rulesTo5}
 use Rattle.model.specs.Claim.{repairedTables}
 use Rattle.model.specs.Lists.{bindO, gather, keep, listO, some?}
 use Rattle.model.specs.Records.{Connection, Junction, JunctionKind, Map, Road, Span, common, direct, virtual}
-use Rattle.model.specs.Repair.{backAt, backOf, connectionsAfter, junctionsOver, meetingEnd, repair, repairJunction, repairRoads, reversed, roadOf, runsBack, startRoads, swapped}
+use Rattle.model.specs.Repair.{backAt, backOf, connectionsAfter, junctionsOver, meetingEnd, repair}
+use Rattle.model.specs.Repair.{repairJunction, repairRoads, reversed, roadOf, runsBack, startRoads, swapped}
 use Rattle.model.specs.Rows.{table}
-use Rattle.model.specs.Rules.{connectionPartsFit, connectionsFit, edgesEven, edgesSized, firstBroken, idsOnce, lanesSized, lanesWorded, listedIn, mapSized, mapWorded, namesOnce, pairPartsFit, placesOnce, roadsOnce, sectionPartsFit, sectionsAscend, sectionsFit, sized}
-use Rattle.model.specs.Tables.{Tables, allConnections, allPairs, connectionWords, connectionsIn, edgedLanesOf, junctionWords, junctionsIn, lanesIn, mapOf, mapTables, pairWords, pairsIn, roadWords, roadsIn, sectionWords, tablesOf}
+use Rattle.model.specs.Rules.{connectionPartsFit, connectionsFit, edgesEven, edgesSized, firstBroken, idsOnce}
+use Rattle.model.specs.Rules.{lanesSized, lanesWorded, listedIn, mapSized, mapWorded, namesOnce, pairPartsFit}
+use Rattle.model.specs.Rules.{placesOnce, roadsOnce, sectionPartsFit, sectionsAscend, sectionsFit, sized}
+use Rattle.model.specs.Tables.{Tables, allConnections, allPairs, connectionWords, connectionsIn, edgedLanesOf}
+use Rattle.model.specs.Tables.{junctionWords, junctionsIn, lanesIn, mapOf, mapTables, pairWords, pairsIn}
+use Rattle.model.specs.Tables.{roadWords, roadsIn, sectionWords, tablesOf}
 use Rattle.model.specs.Text.{sameIn}
 use Rattle.laws.proofs.Admitted.{Whole, forth, is-sound, sized-most, sizes-of, whole}
 use Rattle.laws.proofs.ListTests.{and-both, and-left}
@@ -33,78 +39,134 @@ pairCount cs = length (gather (λ c. c .pairs) cs)
 
 pairs-append : (a b : List Connection) → pairCount (a ++ b) ≡ pairCount a + pairCount b
 pairs-append [] b = omega arith
-pairs-append (c ∷ a) b = length-append (c .pairs) (gather (λ c. c .pairs) (a ++ b)) ∙ ap (λ n. length (c .pairs) + n) (pairs-append a b) ∙ assoc (length (c .pairs)) (pairCount a) (pairCount b) ∙ ap (λ n. n + pairCount b) (sym (length-append (c .pairs) (gather (λ c. c .pairs) a)))
+pairs-append (c ∷ a) b =
+    length-append (c .pairs) (gather (λ c. c .pairs) (a ++ b))
+    ∙ ap (λ n. length (c .pairs) + n) (pairs-append a b)
+    ∙ assoc (length (c .pairs)) (pairCount a) (pairCount b)
+    ∙ ap (λ n. n + pairCount b) (sym (length-append (c .pairs) (gather (λ c. c .pairs) a)))
   where
     assoc : (x y z : ℕ) → x + (y + z) ≡ (x + y) + z
     assoc x y z = omega arith
 
 module _ (same : Span → Span → Bool) where
-  back-small : (rs : List Road) (j : Span) (c : Connection) → (length (backOf same rs j c) ≤ 1) × (pairCount (backOf same rs j c) ≤ length (c .pairs))
+  back-small : (rs : List Road) (j : Span) (c : Connection)
+      → (length (backOf same rs j c) ≤ 1) × (pairCount (backOf same rs j c) ≤ length (c .pairs))
   unfolding backOf
   back-small rs j c = go (bindO (roadOf same rs (c .incoming)) (meetingEnd same j))
     where
       one : (e : Bool) → pairCount (backAt c e ∷ []) ≡ length (c .pairs)
-      one e = unfold backAt in (length-append (map swapped (c .pairs)) [] ∙ ap (λ n. n + 0) (length-map (c .pairs) swapped) ∙ plus (length (c .pairs)))
+      one e =
+          unfold backAt in (length-append (map swapped (c .pairs)) []
+          ∙ ap (λ n. n + 0) (length-map (c .pairs) swapped)
+          ∙ plus (length (c .pairs)))
         where
           plus : (n : ℕ) → n + 0 ≡ n
           plus n = omega arith
 
-      go : (o : Option Bool) → (length (listO o (λ e. backAt c e ∷ [])) ≤ 1) × (pairCount (listO o (λ e. backAt c e ∷ [])) ≤ length (c .pairs))
+      go : (o : Option Bool)
+          → (length (listO o (λ e. backAt c e ∷ [])) ≤ 1)
+          × (pairCount (listO o (λ e. backAt c e ∷ [])) ≤ length (c .pairs))
       go none = (omega arith, omega arith)
       go (some e) = (omega arith, let q : pairCount (backAt c e ∷ []) ≡ length (c .pairs) = one e in omega arith)
 
-  backs-small : (rs : List Road) (j : Span) (p : Connection → Bool) (cs : List Connection) → (length (gather (backOf same rs j) (keep p cs)) ≤ length cs) × (pairCount (gather (backOf same rs j) (keep p cs)) ≤ pairCount cs)
+  backs-small : (rs : List Road) (j : Span) (p : Connection → Bool) (cs : List Connection)
+      → (length (gather (backOf same rs j) (keep p cs)) ≤ length cs)
+      × (pairCount (gather (backOf same rs j) (keep p cs)) ≤ pairCount cs)
   backs-small rs j p [] = (omega arith, omega arith)
   backs-small rs j p (c ∷ cs) = go (p c) (backs-small rs j p cs)
     where
-      go : (b : Bool) → (length (gather (backOf same rs j) (keep p cs)) ≤ length cs) × (pairCount (gather (backOf same rs j) (keep p cs)) ≤ pairCount cs) →
-          (length (gather (backOf same rs j) (cond b (c ∷ keep p cs) (keep p cs))) ≤ suc (length cs)) × (pairCount (gather (backOf same rs j) (cond b (c ∷ keep p cs) (keep p cs))) ≤ pairCount (c ∷ cs))
+      go : (b : Bool)
+          → (length (gather (backOf same rs j) (keep p cs)) ≤ length cs)
+          × (pairCount (gather (backOf same rs j) (keep p cs)) ≤ pairCount cs) →
+          (length (gather (backOf same rs j) (cond b (c ∷ keep p cs) (keep p cs))) ≤ suc (length cs))
+          × (pairCount (gather (backOf same rs j) (cond b (c ∷ keep p cs) (keep p cs))) ≤ pairCount (c ∷ cs))
       go true h =
           let a : length (backOf same rs j c) ≤ 1 = back-small rs j c .0 in
           let b : pairCount (backOf same rs j c) ≤ length (c .pairs) = back-small rs j c .1 in
-          let e : length (backOf same rs j c ++ gather (backOf same rs j) (keep p cs)) ≡ length (backOf same rs j c) + length (gather (backOf same rs j) (keep p cs)) = length-append (backOf same rs j c) (gather (backOf same rs j) (keep p cs)) in
-          let f : pairCount (backOf same rs j c ++ gather (backOf same rs j) (keep p cs)) ≡ pairCount (backOf same rs j c) + pairCount (gather (backOf same rs j) (keep p cs)) = pairs-append (backOf same rs j c) (gather (backOf same rs j) (keep p cs)) in
-          let g : pairCount (c ∷ cs) ≡ length (c .pairs) + pairCount cs = length-append (c .pairs) (gather (λ c. c .pairs) cs) in
+          let e : length (backOf same rs j c ++ gather (backOf same rs j) (keep p cs))
+          ≡ length (backOf same rs j c) + length (gather (backOf same rs j) (keep p cs)) =
+          length-append (backOf same rs j c) (gather (backOf same rs j) (keep p cs)) in
+          let f : pairCount (backOf same rs j c ++ gather (backOf same rs j) (keep p cs))
+          ≡ pairCount (backOf same rs j c) + pairCount (gather (backOf same rs j) (keep p cs)) =
+          pairs-append (backOf same rs j c) (gather (backOf same rs j) (keep p cs)) in
+          let g : pairCount (c ∷ cs) ≡ length (c .pairs) + pairCount cs =
+          length-append (c .pairs) (gather (λ c. c .pairs) cs) in
           let h0 : length (gather (backOf same rs j) (keep p cs)) ≤ length cs = h .0 in
           let h1 : pairCount (gather (backOf same rs j) (keep p cs)) ≤ pairCount cs = h .1 in
           (omega arith, omega arith)
       go false h =
-          let g : pairCount (c ∷ cs) ≡ length (c .pairs) + pairCount cs = length-append (c .pairs) (gather (λ c. c .pairs) cs) in
+          let g : pairCount (c ∷ cs) ≡ length (c .pairs) + pairCount cs =
+          length-append (c .pairs) (gather (λ c. c .pairs) cs) in
           let h0 : length (gather (backOf same rs j) (keep p cs)) ≤ length cs = h .0 in
           let h1 : pairCount (gather (backOf same rs j) (keep p cs)) ≤ pairCount cs = h .1 in
           (omega arith, omega arith)
 
-  after-small : (k : JunctionKind) (j : Span) (cs : List Connection) (rs : List Road) → (length (connectionsAfter same k j cs rs) ≤ length cs + length cs) × (pairCount (connectionsAfter same k j cs rs) ≤ pairCount cs + pairCount cs)
+  after-small : (k : JunctionKind) (j : Span) (cs : List Connection) (rs : List Road)
+      → (length (connectionsAfter same k j cs rs) ≤ length cs + length cs)
+      × (pairCount (connectionsAfter same k j cs rs) ≤ pairCount cs + pairCount cs)
   unfolding reversed
   after-small common j cs rs = (omega arith, omega arith)
   after-small virtual j cs rs = (omega arith, omega arith)
   after-small direct j cs rs =
-      let e : length (cs ++ reversed same rs j cs) ≡ length cs + length (reversed same rs j cs) = length-append cs (reversed same rs j cs) in
-      let f : pairCount (cs ++ reversed same rs j cs) ≡ pairCount cs + pairCount (reversed same rs j cs) = pairs-append cs (reversed same rs j cs) in
-      let a : length (reversed same rs j cs) ≤ length cs = backs-small rs j (λ c. not (some? (runsBack same c) cs)) cs .0 in
-      let b : pairCount (reversed same rs j cs) ≤ pairCount cs = backs-small rs j (λ c. not (some? (runsBack same c) cs)) cs .1 in
+      let e : length (cs ++ reversed same rs j cs) ≡ length cs + length (reversed same rs j cs) =
+      length-append cs (reversed same rs j cs) in
+      let f : pairCount (cs ++ reversed same rs j cs) ≡ pairCount cs + pairCount (reversed same rs j cs) =
+      pairs-append cs (reversed same rs j cs) in
+      let a : length (reversed same rs j cs) ≤ length cs =
+      backs-small rs j (λ c. not (some? (runsBack same c) cs)) cs .0 in
+      let b : pairCount (reversed same rs j cs) ≤ pairCount cs =
+      backs-small rs j (λ c. not (some? (runsBack same c) cs)) cs .1 in
       (omega arith, omega arith)
 
   over-small : (js : List Junction) (rs : List Road) →
-      (length (allConnections (junctionsOver same js rs)) ≤ length (allConnections js) + length (allConnections js)) × (pairCount (allConnections (junctionsOver same js rs)) ≤ pairCount (allConnections js) + pairCount (allConnections js))
+      (length (allConnections (junctionsOver same js rs)) ≤ length (allConnections js) + length
+      (allConnections js))
+      × (pairCount (allConnections (junctionsOver same js rs)) ≤ pairCount (allConnections js) + pairCount
+      (allConnections js))
   unfolding allConnections repairJunction
   over-small [] rs = (omega arith, omega arith)
   over-small (j ∷ js) rs =
       let AF : List Connection = connectionsAfter same (j .kind) (j .name) (j .connections) rs in
-      let GR : List Connection = gather (λ (j : Junction). j .connections) (junctionsOver same js (repairRoads same j rs)) in
+      let GR : List Connection =
+      gather (λ (j : Junction). j .connections) (junctionsOver same js (repairRoads same j rs)) in
       let GJ : List Connection = gather (λ (j : Junction). j .connections) js in
-      let a0 : length (connectionsAfter same (j .kind) (j .name) (j .connections) rs) ≤ length (j .connections) + length (j .connections) = after-small (j .kind) (j .name) (j .connections) rs .0 in
-      let a1 : pairCount (connectionsAfter same (j .kind) (j .name) (j .connections) rs) ≤ pairCount (j .connections) + pairCount (j .connections) = after-small (j .kind) (j .name) (j .connections) rs .1 in
-      let i0 : length (gather (λ (j : Junction). j .connections) (junctionsOver same js (repairRoads same j rs))) ≤ length (gather (λ (j : Junction). j .connections) js) + length (gather (λ (j : Junction). j .connections) js) = over-small js (repairRoads same j rs) .0 in
-      let i1 : pairCount (gather (λ (j : Junction). j .connections) (junctionsOver same js (repairRoads same j rs))) ≤ pairCount (gather (λ (j : Junction). j .connections) js) + pairCount (gather (λ (j : Junction). j .connections) js) = over-small js (repairRoads same j rs) .1 in
-      let e0 : length (connectionsAfter same (j .kind) (j .name) (j .connections) rs ++ gather (λ (j : Junction). j .connections) (junctionsOver same js (repairRoads same j rs))) ≡ length (connectionsAfter same (j .kind) (j .name) (j .connections) rs) + length (gather (λ (j : Junction). j .connections) (junctionsOver same js (repairRoads same j rs))) = length-append (connectionsAfter same (j .kind) (j .name) (j .connections) rs) (gather (λ (j : Junction). j .connections) (junctionsOver same js (repairRoads same j rs))) in
-      let e1 : pairCount (connectionsAfter same (j .kind) (j .name) (j .connections) rs ++ gather (λ (j : Junction). j .connections) (junctionsOver same js (repairRoads same j rs))) ≡ pairCount (connectionsAfter same (j .kind) (j .name) (j .connections) rs) + pairCount (gather (λ (j : Junction). j .connections) (junctionsOver same js (repairRoads same j rs))) = pairs-append (connectionsAfter same (j .kind) (j .name) (j .connections) rs) (gather (λ (j : Junction). j .connections) (junctionsOver same js (repairRoads same j rs))) in
-      let g0 : length (j .connections ++ gather (λ (j : Junction). j .connections) js) ≡ length (j .connections) + length (gather (λ (j : Junction). j .connections) js) = length-append (j .connections) (gather (λ (j : Junction). j .connections) js) in
-      let g1 : pairCount (j .connections ++ gather (λ (j : Junction). j .connections) js) ≡ pairCount (j .connections) + pairCount (gather (λ (j : Junction). j .connections) js) = pairs-append (j .connections) (gather (λ (j : Junction). j .connections) js) in
+      let a0 : length (connectionsAfter same (j .kind) (j .name) (j .connections) rs) ≤ length (j .connections)
+      + length (j .connections) = after-small (j .kind) (j .name) (j .connections) rs .0 in
+      let a1 : pairCount (connectionsAfter same (j .kind) (j .name) (j .connections) rs) ≤ pairCount
+      (j .connections) + pairCount (j .connections) = after-small (j .kind) (j .name) (j .connections) rs .1 in
+      let i0 : length
+      (gather (λ (j : Junction). j .connections) (junctionsOver same js (repairRoads same j rs))) ≤ length
+      (gather (λ (j : Junction). j .connections) js) + length (gather (λ (j : Junction). j .connections) js) =
+      over-small js (repairRoads same j rs) .0 in
+      let i1 : pairCount
+      (gather (λ (j : Junction). j .connections) (junctionsOver same js (repairRoads same j rs))) ≤ pairCount
+      (gather (λ (j : Junction). j .connections) js) + pairCount
+      (gather (λ (j : Junction). j .connections) js) = over-small js (repairRoads same j rs) .1 in
+      let e0 : length (connectionsAfter same (j .kind) (j .name) (j .connections) rs
+      ++ gather (λ (j : Junction). j .connections) (junctionsOver same js (repairRoads same j rs)))
+      ≡ length (connectionsAfter same (j .kind) (j .name) (j .connections) rs) + length
+      (gather (λ (j : Junction). j .connections) (junctionsOver same js (repairRoads same j rs))) =
+      length-append (connectionsAfter same (j .kind) (j .name) (j .connections) rs)
+      (gather (λ (j : Junction). j .connections) (junctionsOver same js (repairRoads same j rs))) in
+      let e1 : pairCount (connectionsAfter same (j .kind) (j .name) (j .connections) rs
+      ++ gather (λ (j : Junction). j .connections) (junctionsOver same js (repairRoads same j rs)))
+      ≡ pairCount (connectionsAfter same (j .kind) (j .name) (j .connections) rs) + pairCount
+      (gather (λ (j : Junction). j .connections) (junctionsOver same js (repairRoads same j rs))) =
+      pairs-append (connectionsAfter same (j .kind) (j .name) (j .connections) rs)
+      (gather (λ (j : Junction). j .connections) (junctionsOver same js (repairRoads same j rs))) in
+      let g0 : length (j .connections ++ gather (λ (j : Junction). j .connections) js)
+      ≡ length (j .connections) + length (gather (λ (j : Junction). j .connections) js) =
+      length-append (j .connections) (gather (λ (j : Junction). j .connections) js) in
+      let g1 : pairCount (j .connections ++ gather (λ (j : Junction). j .connections) js)
+      ≡ pairCount (j .connections) + pairCount (gather (λ (j : Junction). j .connections) js) =
+      pairs-append (j .connections) (gather (λ (j : Junction). j .connections) js) in
       (omega arith, omega arith)
 
-  pub repair-small : (m : Map) → (length (allConnections (repair same m .junctions)) ≤ length (allConnections (m .junctions)) + length (allConnections (m .junctions)))
-      × (length (allPairs (repair same m .junctions)) ≤ length (allPairs (m .junctions)) + length (allPairs (m .junctions)))
+  pub repair-small : (m : Map)
+      → (length (allConnections (repair same m .junctions)) ≤ length (allConnections (m .junctions)) + length
+      (allConnections (m .junctions)))
+      × (length (allPairs (repair same m .junctions)) ≤ length (allPairs (m .junctions)) + length
+      (allPairs (m .junctions)))
   unfolding repair allPairs
   repair-small m = over-small (m .junctions) (startRoads same m)
 
@@ -122,12 +184,17 @@ unfoldable bare : Tables → Tables
 bare t = mapTables (t .text) (t .roads) (t .sections) (t .junctions) (t .connections) (t .pairs)
 
 module _ (t : Tables) (h : firstBroken (repairRules t) ≡ none) where
-  rules : (mapSized 8192 t ≡ true) × (mapWorded t ≡ true) × (roadsOnce t ≡ true) × (sectionsFit t ≡ true) × (connectionsFit t ≡ true)
+  rules : (mapSized 8192 t ≡ true)
+      × (mapWorded t ≡ true)
+      × (roadsOnce t ≡ true)
+      × (sectionsFit t ≡ true)
+      × (connectionsFit t ≡ true)
   unfolding repairRules rulesTo5
   rules = let p = all-pass (repairRules t) h in (p .0, p .1 .0, p .1 .1 .0, p .1 .1 .1 .0, p .1 .1 .1 .1 .0)
 
   bare-passed : Passed (bare t)
-  unfolding bare mapWorded lanesWorded namesOnce sectionPartsFit sectionsAscend connectionPartsFit pairPartsFit idsOnce listedIn placesOnce edgesEven roadsIn lanesIn table
+  unfolding bare mapWorded lanesWorded namesOnce sectionPartsFit sectionsAscend connectionPartsFit pairPartsFit
+      idsOnce listedIn placesOnce edgesEven roadsIn lanesIn table
   bare-passed = record {
     worded = ap (λ b. b && true) (rules .1);
     once = rules .2;
@@ -154,18 +221,32 @@ module _ (t : Tables) (h : firstBroken (repairRules t) ≡ none) where
   unfolding bare
   words-are = forth (bare t) bare-whole bare-passed
 
-  repaired-bare : repairedTables (bare t) ≡ tablesOf (t .text) (repair (sameIn (t .text)) (mapOf (bare t))) (edgedLanesOf (bare t))
-  repaired-bare = ap repairedTables (sym words-are) ∙ repaired-tables (t .text) (mapOf (bare t)) (edgedLanesOf (bare t)) sound
+  repaired-bare : repairedTables (bare t)
+      ≡ tablesOf (t .text) (repair (sameIn (t .text)) (mapOf (bare t))) (edgedLanesOf (bare t))
+  repaired-bare =
+      ap repairedTables (sym words-are)
+      ∙ repaired-tables (t .text) (mapOf (bare t)) (edgedLanesOf (bare t)) sound
 
   repaired-passed : Passed (repairedTables (bare t))
-  repaired-passed = subst Passed (sym repaired-bare) (passed (t .text) (repair (sameIn (t .text)) (mapOf (bare t))) (edgedLanesOf (bare t)) (sound-repair (t .text) (mapOf (bare t)) (edgedLanesOf (bare t)) sound))
+  repaired-passed =
+      subst Passed (sym repaired-bare)
+      (passed (t .text) (repair (sameIn (t .text)) (mapOf (bare t))) (edgedLanesOf (bare t))
+      (sound-repair (t .text) (mapOf (bare t)) (edgedLanesOf (bare t)) sound))
 
   -- rows below twice the limit
   sized-of : (w k n most : ℕ) → n ≡ k * w → k ≤ most → sized w most n ≡ true
   unfolding sized
-  sized-of w k n most e l = and-both (eqb (n % w) 0) (leb n (most * w)) (eq-eqb (n % w) 0 (ap (λ (a : ℕ). a % w) e ∙ mul-mod-left k w)) (le-leb n (most * w) (subst (λ (a : ℕ). a ≤ most * w) (sym e) (native.Mathlib.Nat.mul-le-mul-right w l)))
+  sized-of w k n most e l =
+      and-both (eqb (n % w) 0) (leb n (most * w))
+      (eq-eqb (n % w) 0 (ap (λ (a : ℕ). a % w) e ∙ mul-mod-left k w))
+      (le-leb n (most * w) (subst (λ (a : ℕ). a ≤ most * w) (sym e) (native.Mathlib.Nat.mul-le-mul-right w l)))
 
-  limits : (leb (length (t .text)) 1048576 ≡ true) × (sized 20 16384 (length (t .roads)) ≡ true) × (sized 1 16384 (length (t .sections)) ≡ true) × (sized 5 16384 (length (t .junctions)) ≡ true) × (sized 7 8192 (length (t .connections)) ≡ true) × (sized 2 8192 (length (t .pairs)) ≡ true)
+  limits : (leb (length (t .text)) 1048576 ≡ true)
+      × (sized 20 16384 (length (t .roads)) ≡ true)
+      × (sized 1 16384 (length (t .sections)) ≡ true)
+      × (sized 5 16384 (length (t .junctions)) ≡ true)
+      × (sized 7 8192 (length (t .connections)) ≡ true)
+      × (sized 2 8192 (length (t .pairs)) ≡ true)
   limits = sizes-of 8192 t (rules .0)
 
   roads-words : length (t .roads) ≡ length (mapOf (bare t) .roads) * 20
@@ -174,18 +255,24 @@ module _ (t : Tables) (h : firstBroken (repairRules t) ≡ none) where
 
   junctions-words : length (t .junctions) ≡ length (mapOf (bare t) .junctions) * 5
   unfolding tablesOf bare
-  junctions-words = ap (λ (u : Tables). length (u .junctions)) (sym words-are) ∙ length-junctions (mapOf (bare t) .junctions)
+  junctions-words =
+      ap (λ (u : Tables). length (u .junctions)) (sym words-are) ∙ length-junctions (mapOf (bare t) .junctions)
 
   connections-words : length (t .connections) ≡ length (allConnections (mapOf (bare t) .junctions)) * 7
   unfolding tablesOf bare
-  connections-words = ap (λ (u : Tables). length (u .connections)) (sym words-are) ∙ length-connections (mapOf (bare t) .junctions)
+  connections-words =
+      ap (λ (u : Tables). length (u .connections)) (sym words-are)
+      ∙ length-connections (mapOf (bare t) .junctions)
 
   pairs-words : length (t .pairs) ≡ length (allPairs (mapOf (bare t) .junctions)) * 2
   unfolding tablesOf bare
   pairs-words = ap (λ (u : Tables). length (u .pairs)) (sym words-are) ∙ length-pairs (mapOf (bare t) .junctions)
 
   roads-same : length (repair (sameIn (t .text)) (mapOf (bare t)) .roads) ≡ length (mapOf (bare t) .roads)
-  roads-same = sym (length-map (repair (sameIn (t .text)) (mapOf (bare t)) .roads) (λ (r : Road). r .name)) ∙ ap length (came-whole (sameIn (t .text)) (mapOf (bare t)) .names-kept) ∙ length-map (mapOf (bare t) .roads) (λ (r : Road). r .name)
+  roads-same =
+      sym (length-map (repair (sameIn (t .text)) (mapOf (bare t)) .roads) (λ (r : Road). r .name))
+      ∙ ap length (came-whole (sameIn (t .text)) (mapOf (bare t)) .names-kept)
+      ∙ length-map (mapOf (bare t) .roads) (λ (r : Road). r .name)
 
   kept-sections : sized 1 16384 (length (sectionWords (repair (sameIn (t .text)) (mapOf (bare t)) .roads))) ≡ true
   unfolding tablesOf repairedTables bare
@@ -198,43 +285,76 @@ module _ (t : Tables) (h : firstBroken (repairRules t) ≡ none) where
       n = repair (sameIn (t .text)) (mapOf (bare t))
 
       roads-few : length (repair (sameIn (t .text)) (mapOf (bare t)) .roads) ≤ 16384
-      roads-few = let a = sized-most 20 16384 (length (t .roads)) (limits .1) in let b = roads-words in let c = roads-same in omega arith
+      roads-few =
+          let a = sized-most 20 16384 (length (t .roads)) (limits .1) in
+          let b = roads-words in let c = roads-same in omega arith
 
       junctions-few : length (repair (sameIn (t .text)) (mapOf (bare t)) .junctions) ≤ 16384
-      junctions-few = let a = sized-most 5 16384 (length (t .junctions)) (limits .3) in let b = junctions-words in let c = junctions-count (sameIn (t .text)) (mapOf (bare t)) in omega arith
+      junctions-few =
+          let a = sized-most 5 16384 (length (t .junctions)) (limits .3) in
+          let b = junctions-words in let c = junctions-count (sameIn (t .text)) (mapOf (bare t)) in omega arith
 
       connections-few : length (allConnections (repair (sameIn (t .text)) (mapOf (bare t)) .junctions)) ≤ 16384
-      connections-few = let a = sized-most 7 8192 (length (t .connections)) (limits .4) in let b = connections-words in let c = repair-small (sameIn (t .text)) (mapOf (bare t)) .0 in omega arith
+      connections-few =
+          let a = sized-most 7 8192 (length (t .connections)) (limits .4) in
+          let b = connections-words in
+          let c = repair-small (sameIn (t .text)) (mapOf (bare t)) .0 in omega arith
 
       pairs-few : length (allPairs (repair (sameIn (t .text)) (mapOf (bare t)) .junctions)) ≤ 16384
-      pairs-few = let a = sized-most 2 8192 (length (t .pairs)) (limits .5) in let b = pairs-words in let c = repair-small (sameIn (t .text)) (mapOf (bare t)) .1 in omega arith
+      pairs-few =
+          let a = sized-most 2 8192 (length (t .pairs)) (limits .5) in
+          let b = pairs-words in let c = repair-small (sameIn (t .text)) (mapOf (bare t)) .1 in omega arith
 
       sections-few : sized 1 16384 (length (sectionWords (repair (sameIn (t .text)) (mapOf (bare t)) .roads))) ≡ true
       sections-few = kept-sections
 
-      inner : mapSized 16384 (tablesOf (t .text) (repair (sameIn (t .text)) (mapOf (bare t))) (edgedLanesOf (bare t))) ≡ true
-      inner = unfold mapSized tablesOf in λ i. limits .0 i && sized-of 20 (length (n .roads)) (length (roadWords (n .roads))) 16384 (length-roads (n .roads)) roads-few i
+      inner : mapSized 16384
+          (tablesOf (t .text) (repair (sameIn (t .text)) (mapOf (bare t))) (edgedLanesOf (bare t))) ≡ true
+      inner =
+          unfold mapSized tablesOf in λ i. limits .0 i && sized-of 20 (length (n .roads))
+          (length (roadWords (n .roads))) 16384 (length-roads (n .roads)) roads-few i
           && sections-few i
-          && sized-of 5 (length (n .junctions)) (length (junctionWords (n .junctions))) 16384 (length-junctions (n .junctions)) junctions-few i
-          && sized-of 7 (length (allConnections (n .junctions))) (length (connectionWords (n .junctions))) 16384 (length-connections (n .junctions)) connections-few i
-          && sized-of 2 (length (allPairs (n .junctions))) (length (pairWords (n .junctions))) 16384 (length-pairs (n .junctions)) pairs-few i
+          && sized-of 5 (length (n .junctions)) (length (junctionWords (n .junctions))) 16384
+          (length-junctions (n .junctions)) junctions-few i
+          && sized-of 7 (length (allConnections (n .junctions))) (length (connectionWords (n .junctions))) 16384
+          (length-connections (n .junctions)) connections-few i
+          && sized-of 2 (length (allPairs (n .junctions))) (length (pairWords (n .junctions))) 16384
+          (length-pairs (n .junctions)) pairs-few i
 
   -- what repair writes passes rules 1 to 5 at the limits of the later calls
-  pub repair-admitted : firstBroken (rulesTo5 (mapSized 16384 (repairedTables t)) (mapWorded (repairedTables t)) (repairedTables t)) ≡ none
+  pub repair-admitted : firstBroken
+      (rulesTo5 (mapSized 16384 (repairedTables t)) (mapWorded (repairedTables t)) (repairedTables t)) ≡ none
   unfolding rulesTo5
-  repair-admitted = pass-all (rulesTo5 (mapSized 16384 (repairedTables t)) (mapWorded (repairedTables t)) (repairedTables t)) (sizes, (and-left (mapWorded (repairedTables t)) (lanesWorded (repairedTables (bare t))) worded-both, (once, (sections, (connections, tt)))))
+  repair-admitted =
+      pass-all (rulesTo5 (mapSized 16384 (repairedTables t)) (mapWorded (repairedTables t)) (repairedTables t)) (
+        sizes,
+        (
+          and-left (mapWorded (repairedTables t)) (lanesWorded (repairedTables (bare t))) worded-both,
+          (once, (sections, (connections, tt))),
+        ),
+      )
     where
       sizes : mapSized 16384 (repairedTables t) ≡ true
-      sizes = unfold mapSized repairedTables bare repairContent repair startRoads mapOf roadsIn junctionsIn connectionsIn pairsIn in sized-bare
+      sizes =
+          unfold mapSized repairedTables bare repairContent repair startRoads mapOf roadsIn junctionsIn
+          connectionsIn pairsIn in sized-bare
 
       worded-both : mapWorded (repairedTables t) && lanesWorded (repairedTables (bare t)) ≡ true
-      worded-both = unfold mapWorded repairedTables bare repairContent repair startRoads mapOf roadsIn junctionsIn connectionsIn pairsIn in repaired-passed .worded
+      worded-both =
+          unfold mapWorded repairedTables bare repairContent repair startRoads mapOf roadsIn junctionsIn
+          connectionsIn pairsIn in repaired-passed .worded
 
       once : roadsOnce (repairedTables t) ≡ true
-      once = unfold namesOnce repairedTables bare repairContent repair startRoads mapOf roadsIn junctionsIn connectionsIn pairsIn in repaired-passed .once
+      once =
+          unfold namesOnce repairedTables bare repairContent repair startRoads mapOf roadsIn junctionsIn
+          connectionsIn pairsIn in repaired-passed .once
 
       sections : sectionsFit (repairedTables t) ≡ true
-      sections = unfold sectionPartsFit sectionsAscend repairedTables bare repairContent repair startRoads mapOf roadsIn junctionsIn connectionsIn pairsIn in repaired-passed .sections
+      sections =
+          unfold sectionPartsFit sectionsAscend repairedTables bare repairContent repair startRoads mapOf
+          roadsIn junctionsIn connectionsIn pairsIn in repaired-passed .sections
 
       connections : connectionsFit (repairedTables t) ≡ true
-      connections = unfold connectionPartsFit pairPartsFit repairedTables bare repairContent repair startRoads mapOf roadsIn junctionsIn connectionsIn pairsIn in repaired-passed .connections
+      connections =
+          unfold connectionPartsFit pairPartsFit repairedTables bare repairContent repair startRoads mapOf
+          roadsIn junctionsIn connectionsIn pairsIn in repaired-passed .connections

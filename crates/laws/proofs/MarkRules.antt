@@ -24,11 +24,15 @@ eqb-suc m n = go (eqb m n) refl
     go true e = eq-eqb (suc m) (suc n) (ap suc (eqb-true m n e))
     go false e = ne-eqb (suc m) (suc n) (λ z. eqb-false m n e (omega arith))
 
-pub mark-form : (rs : List Road) (ks : List ℕ) → markFor rs ks ≡ (eqb (length rs) (length ks) && every (λ k. leb k 1) ks)
+pub mark-form : (rs : List Road) (ks : List ℕ)
+    → markFor rs ks ≡ (eqb (length rs) (length ks) && every (λ k. leb k 1) ks)
 mark-form [] [] = refl
-mark-form [] (k ∷ ks) = sym (ap (λ b. b && every (λ k. leb k 1) (k ∷ ks)) (ne-eqb 0 (suc (length ks)) (λ z. omega arith)))
+mark-form [] (k ∷ ks) =
+    sym (ap (λ b. b && every (λ k. leb k 1) (k ∷ ks)) (ne-eqb 0 (suc (length ks)) (λ z. omega arith)))
 mark-form (r ∷ rs) [] = sym (ap (λ b. b && true) (ne-eqb (suc (length rs)) 0 (λ z. omega arith)))
-mark-form (r ∷ rs) (k ∷ ks) = ap (λ b. leb k 1 && b) (mark-form rs ks) ∙ swap (leb k 1) (eqb (length rs) (length ks)) (every (λ k. leb k 1) ks)
+mark-form (r ∷ rs) (k ∷ ks) =
+    ap (λ b. leb k 1 && b) (mark-form rs ks)
+    ∙ swap (leb k 1) (eqb (length rs) (length ks)) (every (λ k. leb k 1) ks)
     ∙ ap (λ b. b && (leb k 1 && every (λ k. leb k 1) ks)) (sym (eqb-suc (length rs) (length ks)))
   where
     swap : (a b c : Bool) → (a && (b && c)) ≡ (b && (a && c))
@@ -36,10 +40,12 @@ mark-form (r ∷ rs) (k ∷ ks) = ap (λ b. leb k 1 && b) (mark-form rs ks) ∙ 
     swap false true c = refl
     swap false false c = refl
 
-pub marks-form : (rs : List Road) (ks : List ℕ) → length (roadWords rs) ≡ length rs * 20 → marksFit (roadWords rs) ks ≡ markFor rs ks
+pub marks-form : (rs : List Road) (ks : List ℕ) → length (roadWords rs) ≡ length rs * 20
+    → marksFit (roadWords rs) ks ≡ markFor rs ks
 unfolding marksFit
 marks-form rs ks e = ap (λ (n : ℕ). eqb (n / 20) (length ks) && every (λ k. leb k 1) ks) e
-    ∙ ap (λ (n : ℕ). eqb n (length ks) && every (λ k. leb k 1) ks) (mul-div-cancel (length rs) (omega arith)) ∙ sym (mark-form rs ks)
+    ∙ ap (λ (n : ℕ). eqb n (length ks) && every (λ k. leb k 1) ks) (mul-div-cancel (length rs) (omega arith))
+    ∙ sym (mark-form rs ks)
 
 -- ---- 13
 pub pairs-form : (js : List Junction) → every pairFine (allPairs js) ≡ every junctionFine js
@@ -63,20 +69,25 @@ module _ {J R : Type 0} (d : J → Bool) (mk : R → Bool) (nt : J → R → Boo
   every-true [] = refl
   every-true (r ∷ rs) = go (mk r) (every-true rs)
     where
-      go : (x : Bool) → every (λ r. not (mk r && false)) rs ≡ true → (not (x && false) && every (λ r. not (mk r && false)) rs) ≡ true
+      go : (x : Bool) → every (λ r. not (mk r && false)) rs ≡ true
+          → (not (x && false) && every (λ r. not (mk r && false)) rs) ≡ true
       go true e = e
       go false e = e
 
-  guarded : (x : Bool) (j : J) (rs : List R) → (not x || every (λ r. not (mk r && nt j r)) rs) ≡ every (λ r. not (mk r && (x && nt j r))) rs
+  guarded : (x : Bool) (j : J) (rs : List R)
+      → (not x || every (λ r. not (mk r && nt j r)) rs) ≡ every (λ r. not (mk r && (x && nt j r))) rs
   guarded true j rs = refl
   guarded false j rs = sym (every-true rs)
 
-  roads-outside : (js : List J) (rs : List R) → every (λ j. not (d j) || every (λ r. not (mk r && nt j r)) rs) js ≡ every (λ r. not (mk r && some? (λ j. d j && nt j r) js)) rs
+  roads-outside : (js : List J) (rs : List R)
+      → every (λ j. not (d j) || every (λ r. not (mk r && nt j r)) rs) js
+      ≡ every (λ r. not (mk r && some? (λ j. d j && nt j r) js)) rs
   roads-outside [] rs = sym (every-true rs)
   roads-outside (j ∷ js) rs =
       ap₂ _&&_ (guarded (d j) j rs) (roads-outside js rs)
       ∙ sym (every-and (λ r. not (mk r && (d j && nt j r))) (λ r. not (mk r && some? (λ j. d j && nt j r) js)) rs)
-      ∙ every-ext (λ r. not (mk r && (d j && nt j r)) && not (mk r && some? (λ j. d j && nt j r) js)) (λ r. not (mk r && ((d j && nt j r) || some? (λ j. d j && nt j r) js))) rs
+      ∙ every-ext (λ r. not (mk r && (d j && nt j r)) && not (mk r && some? (λ j. d j && nt j r) js))
+      (λ r. not (mk r && ((d j && nt j r) || some? (λ j. d j && nt j r) js))) rs
       (each (λ r. go (mk r) (d j && nt j r) (some? (λ j. d j && nt j r) js)) rs)
     where
       go : (m x y : Bool) → (not (m && x) && not (m && y)) ≡ not (m && (x || y))
@@ -84,6 +95,9 @@ module _ {J R : Type 0} (d : J → Bool) (mk : R → Bool) (nt : J → R → Boo
       go true false y = refl
       go false x y = refl
 
-pub ends-form : (same : Span → Span → Bool) (mk : Span → Bool) (m : Map) → oneEndedIn same mk (m .junctions) (m .roads) ≡ noneTwice same mk m
+pub ends-form : (same : Span → Span → Bool) (mk : Span → Bool) (m : Map)
+    → oneEndedIn same mk (m .junctions) (m .roads) ≡ noneTwice same mk m
 unfolding oneEndedIn namesDirectTwice noneTwice
-ends-form same mk m = sym (roads-outside (λ (j : Junction). isDirect (j .kind)) (λ (r : Road). mk (r .name)) (λ (j : Junction) (r : Road). namesTwice same (j .name) r) (m .junctions) (m .roads))
+ends-form same mk m =
+    sym (roads-outside (λ (j : Junction). isDirect (j .kind)) (λ (r : Road). mk (r .name))
+    (λ (j : Junction) (r : Road). namesTwice same (j .name) r) (m .junctions) (m .roads))

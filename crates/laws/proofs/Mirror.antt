@@ -1,4 +1,5 @@
--- Lane numbers with their sign changed, directions swapped, and section numbers mirrored: done twice they are as before, and they keep order and equality.
+-- Lane numbers with their sign changed, directions swapped, and section numbers mirrored: done twice they are
+-- as before, and they keep order and equality.
 use mathlib.Core.Path.{_≡_, refl, sym, _∙_, ap}
 use mathlib.Core.Bool.{Bool, true, false, not, false≢true}
 use mathlib.Core.Option.{some}
@@ -12,7 +13,9 @@ use Rattle.geometry.specs.declared.gap.Direction.the-variants.{Backward, Both, 
 use Rattle.model.specs.Lists.{_⊕_, headOr, lastOr, mapO, member}
 use Rattle.model.specs.Reversal.{mirror, mirrored, negated, reverseDirection, signed}
 use Rattle.model.specs.Succession.{away, endSection, isBoth, nextSection}
-use Rattle.laws.proofs.Basics.{bool-ext, eqb-ext, final-ext, final-map, final-reverse, first-ext, first-map, first-reverse, headOr-reverse, lastOr-map, lastOr-reverse, map-id, reverse-map}
+use Rattle.laws.proofs.Basics.{bool-ext, eqb-ext, final-ext, final-map, final-reverse, first-ext}
+use Rattle.laws.proofs.Basics.{first-map, first-reverse, headOr-reverse, lastOr-map, lastOr-reverse}
+use Rattle.laws.proofs.Basics.{map-id, reverse-map}
 use Rattle.laws.proofs.ForEach.{each-map, final-each, first-each}
 use Rattle.laws.proofs.Valid.{Ascends, Each}
 
@@ -50,7 +53,8 @@ signed-eqb true m n = eqb-ext (negated m) (negated n) m n
     (λ e. ap negated e)
 
 -- directions
-pub reverseDirection-⊕ : (a b : Bool) (d : Direction) → reverseDirection a (reverseDirection b d) ≡ reverseDirection (b ⊕ a) d
+pub reverseDirection-⊕ : (a b : Bool) (d : Direction)
+    → reverseDirection a (reverseDirection b d) ≡ reverseDirection (b ⊕ a) d
 reverseDirection-⊕ false false d = refl
 reverseDirection-⊕ true false d = refl
 reverseDirection-⊕ false true d = refl
@@ -95,7 +99,10 @@ mirror-at ss i = refl
 mirrored-head : (x : ℕ) (xs : List ℕ) → headOr 0 (mirrored (x ∷ xs)) ≡ x
 unfolding mirrored
 mirrored-head x xs =
-    headOr-reverse 0 (map (mirror (x ∷ xs)) (x ∷ xs)) ∙ lastOr-map (mirror (x ∷ xs)) x xs ∙ mirror-at (x ∷ xs) (lastOr x xs) ∙ omega arith
+    headOr-reverse 0 (map (mirror (x ∷ xs)) (x ∷ xs))
+    ∙ lastOr-map (mirror (x ∷ xs)) x xs
+    ∙ mirror-at (x ∷ xs) (lastOr x xs)
+    ∙ omega arith
 
 mirrored-last : (x : ℕ) (xs : List ℕ) → lastOr 0 (mirrored (x ∷ xs)) ≡ lastOr x xs
 unfolding mirrored
@@ -124,12 +131,14 @@ mirrored-mirrored ss h =
     map-fun [] = refl
     map-fun (x ∷ xs) = rw (mirror-mirrored ss x, map-fun xs)
 
-pub mirror-eqb : (ss : List ℕ) (a b : ℕ) → a ≤ headOr 0 ss + lastOr 0 ss → b ≤ headOr 0 ss + lastOr 0 ss → eqb (mirror ss a) (mirror ss b) ≡ eqb a b
+pub mirror-eqb : (ss : List ℕ) (a b : ℕ) → a ≤ headOr 0 ss + lastOr 0 ss → b ≤ headOr 0 ss + lastOr 0 ss
+    → eqb (mirror ss a) (mirror ss b) ≡ eqb a b
 mirror-eqb ss a b h k = eqb-ext (mirror ss a) (mirror ss b) a b
     (λ e. sym (mirror-mirror ss a h) ∙ ap (mirror ss) e ∙ mirror-mirror ss b k)
     (λ e. ap (mirror ss) e)
 
-pub mirror-ltb : (ss : List ℕ) (a b : ℕ) → a ≤ headOr 0 ss + lastOr 0 ss → b ≤ headOr 0 ss + lastOr 0 ss → ltb (mirror ss a) (mirror ss b) ≡ ltb b a
+pub mirror-ltb : (ss : List ℕ) (a b : ℕ) → a ≤ headOr 0 ss + lastOr 0 ss → b ≤ headOr 0 ss + lastOr 0 ss
+    → ltb (mirror ss a) (mirror ss b) ≡ ltb b a
 unfolding mirror
 mirror-ltb ss a b h k = bool-ext (ltb (mirror ss a) (mirror ss b)) (ltb b a)
     (λ e. lt-ltb b a (omega (arith, ltb-true (mirror ss a) (mirror ss b) e)))
@@ -142,11 +151,13 @@ unfolding nextSection mirrored
 nextSection-mirrored ss s false h k =
     first-reverse (λ i. ltb (mirror ss s) i) (map (mirror ss) ss)
     ∙ final-map (mirror ss) (λ i. ltb (mirror ss s) i) ss
-    ∙ ap (mapO (mirror ss)) (final-ext (λ i. ltb (mirror ss s) (mirror ss i)) (λ i. ltb i s) ss (each-map (λ i b. mirror-ltb ss s i k b) ss h))
+    ∙ ap (mapO (mirror ss)) (final-ext (λ i. ltb (mirror ss s) (mirror ss i)) (λ i. ltb i s) ss
+    (each-map (λ i b. mirror-ltb ss s i k b) ss h))
 nextSection-mirrored ss s true h k =
     final-reverse (λ i. ltb i (mirror ss s)) (map (mirror ss) ss)
     ∙ first-map (mirror ss) (λ i. ltb i (mirror ss s)) ss
-    ∙ ap (mapO (mirror ss)) (first-ext (λ i. ltb (mirror ss i) (mirror ss s)) (λ i. ltb s i) ss (each-map (λ i b. mirror-ltb ss i s b k) ss h))
+    ∙ ap (mapO (mirror ss)) (first-ext (λ i. ltb (mirror ss i) (mirror ss s)) (λ i. ltb s i) ss
+    (each-map (λ i b. mirror-ltb ss i s b k) ss h))
 
 -- the section at an end
 pub endSection-mirrored : (ss : List ℕ) (s : ℕ) (e : Bool) → member s ss ≡ true →
@@ -161,7 +172,8 @@ unfolding endSection
 endSection-bound ss false = omega arith
 endSection-bound ss true = omega arith
 
-pub nextSection-bound : (ss : List ℕ) (s : ℕ) (e : Bool) (n : ℕ) → Bounded ss → nextSection ss s e ≡ some n → n ≤ headOr 0 ss + lastOr 0 ss
+pub nextSection-bound : (ss : List ℕ) (s : ℕ) (e : Bool) (n : ℕ) → Bounded ss → nextSection ss s e ≡ some n
+    → n ≤ headOr 0 ss + lastOr 0 ss
 unfolding nextSection
 nextSection-bound ss s false n h q = final-each (λ i. i ≤ headOr 0 ss + lastOr 0 ss) (λ i. ltb i s) ss n h q
 nextSection-bound ss s true n h q = first-each (λ i. i ≤ headOr 0 ss + lastOr 0 ss) (λ i. ltb s i) ss n h q

@@ -1,4 +1,5 @@
--- Names that are the same find the same road and the same sections; a listed section lies between the first and the last.
+-- Names that are the same find the same road and the same sections; a listed section lies between the first and
+-- the last.
 use mathlib.Core.Path.{_≡_, refl, ap, fun-ext}
 use mathlib.Core.Bool.{Bool, true}
 use mathlib.Core.Option.{Option, none, some}
@@ -19,11 +20,14 @@ module _ (same : Span → Span → Bool) (A : Alike same) where
 
   -- what is the same as one of two same names is the same as the other
   pub same-right : (a b x : Span) → same a b ≡ true → same x a ≡ same x b
-  same-right a b x h = bool-ext (same x a) (same x b) (λ e. A .same-trans x a b e h) (λ e. A .same-trans x b a e (A .same-sym a b h))
+  same-right a b x h =
+      bool-ext (same x a) (same x b) (λ e. A .same-trans x a b e h)
+      (λ e. A .same-trans x b a e (A .same-sym a b h))
 
   pub roadOf-same : (rs : List Road) (a b : Span) → same a b ≡ true → roadOf same rs a ≡ roadOf same rs b
   unfolding roadOf
-  roadOf-same rs a b h = ap {B = Option Road} (λ (p : Road → Bool). first p rs) (fun-ext (λ r. same-right a b (r .name) h))
+  roadOf-same rs a b h =
+      ap {B = Option Road} (λ (p : Road → Bool). first p rs) (fun-ext (λ r. same-right a b (r .name) h))
 
   pub sectionsOf-same : (rs : List Road) (a b : Span) → same a b ≡ true → sectionsOf same rs a ≡ sectionsOf same rs b
   unfolding sectionsOf
@@ -34,7 +38,8 @@ module _ (same : Span → Span → Bool) where
   unfolding roadOf
   roadOf-name rs n r q = first-holds (λ r. same (r .name) n) rs r q
 
-  pub sectionsOf-ascends : (rs : List Road) (n : Span) → Each (λ r. Ascends (r .sections)) rs → Ascends (sectionsOf same rs n)
+  pub sectionsOf-ascends : (rs : List Road) (n : Span) → Each (λ r. Ascends (r .sections)) rs
+      → Ascends (sectionsOf same rs n)
   unfolding sectionsOf roadOf
   sectionsOf-ascends rs n h = go (first (λ r. same (r .name) n) rs) refl
     where
@@ -42,11 +47,13 @@ module _ (same : Span → Span → Bool) where
       go none q = tt
       go (some r) q = first-each (λ r. Ascends (r .sections)) (λ r. same (r .name) n) rs r h q
 
-  pub sectionsOf-ascend : (rs : List Road) (n : Span) → Each (λ r. Ascends (r .sections)) rs → Bounded (sectionsOf same rs n)
+  pub sectionsOf-ascend : (rs : List Road) (n : Span) → Each (λ r. Ascends (r .sections)) rs
+      → Bounded (sectionsOf same rs n)
   sectionsOf-ascend rs n h = bounded (sectionsOf same rs n) (sectionsOf-ascends rs n h)
 
   pub placed-bound : (rs : List Road) (l : Lane) → Each (λ r. Ascends (r .sections)) rs → Placed same rs l →
       l .section ≤ headOr 0 (sectionsOf same rs (l .road)) + lastOr 0 (sectionsOf same rs (l .road))
   placed-bound rs l h k =
-      each-member (λ i. i ≤ headOr 0 (sectionsOf same rs (l .road)) + lastOr 0 (sectionsOf same rs (l .road))) (l .section) (sectionsOf same rs (l .road))
+      each-member (λ i. i ≤ headOr 0 (sectionsOf same rs (l .road)) + lastOr 0 (sectionsOf same rs (l .road)))
+      (l .section) (sectionsOf same rs (l .road))
       (sectionsOf-ascend rs (l .road) h) k

@@ -49,7 +49,9 @@ mirror-word (x ∷ xs) i a w k =
 pub mirrored-words : (ss : List ℕ) → Ascends ss → Each Word ss → Each Word (mirrored ss)
 unfolding mirrored
 mirrored-words [] a w = tt
-mirrored-words (x ∷ xs) a w = each-reverse Word (map (mirror (x ∷ xs)) (x ∷ xs)) (each-of-map (mirror (x ∷ xs)) Word (x ∷ xs) (each-map one (x ∷ xs) (head-low x xs a)))
+mirrored-words (x ∷ xs) a w =
+    each-reverse Word (map (mirror (x ∷ xs)) (x ∷ xs))
+    (each-of-map (mirror (x ∷ xs)) Word (x ∷ xs) (each-map one (x ∷ xs) (head-low x xs a)))
   where
     one : (i : ℕ) → x ≤ i → Word (mirror (x ∷ xs) i)
     one i low = let m = mirror-low x xs i low in let l = last-of x xs w in omega arith

@@ -1,4 +1,5 @@
--- The offsets that succession writes are words, and its identities keep within the limit; after it the gap check can refuse by 9 alone.
+-- The offsets that succession writes are words, and its identities keep within the limit; after it the gap
+-- check can refuse by 9 alone.
 use mathlib.Core.Path.{_≡_, sym, _∙_, ap}
 use mathlib.Core.Bool.{Bool, true, _&&_}
 use mathlib.Core.Option.{none}
@@ -13,9 +14,14 @@ use Rattle.model.specs.Calls.{gapRules, laneRules, listContent, rulesTo5, succe
 use Rattle.model.specs.Lists.{ascends, every, gather, member}
 use Rattle.model.specs.Records.{Connection, Junction, Lane, Road}
 use Rattle.model.specs.Rows.{partsFit, table}
-use Rattle.model.specs.Rules.{connectionPartsFit, connectionWorded, edgesEven, edgesFit, edgesSized, firstBroken, idsOnce, junctionWorded, lanesSized, lanesWorded, listedIn, listsSized, mapSized, mapWorded, pairPartsFit, placesOnce, roadWorded, same, sectionPartsFit, sectionsAscend, sized}
+use Rattle.model.specs.Rules.{connectionPartsFit, connectionWorded, edgesEven, edgesFit, edgesSized}
+use Rattle.model.specs.Rules.{firstBroken, idsOnce, junctionWorded, lanesSized, lanesWorded, listedIn}
+use Rattle.model.specs.Rules.{listsSized, mapSized, mapWorded, pairPartsFit, placesOnce, roadWorded, same}
+use Rattle.model.specs.Rules.{sectionPartsFit, sectionsAscend, sized}
 use Rattle.model.specs.Succession.{exits, sectionsOf, successorLists, successors}
-use Rattle.model.specs.Tables.{Tables, allConnections, allPairs, connectionIn, connectionsIn, connectionsOf, junctionsIn, junctionsOf, laneIn, lanesIn, lanesOf, mapOf, pairIn, pairsIn, pairsOf, roadsOf}
+use Rattle.model.specs.Tables.{Tables, allConnections, allPairs, connectionIn, connectionsIn, connectionsOf}
+use Rattle.model.specs.Tables.{junctionsIn, junctionsOf, laneIn, lanesIn, lanesOf, mapOf, pairIn, pairsIn}
+use Rattle.model.specs.Tables.{pairsOf, roadsOf}
 use Rattle.laws.proofs.Admitted.{sized-most, sized-whole, sizes-of, worded-of}
 use Rattle.laws.proofs.Bound.{ids-few, predecessors-few, sumOf}
 use Rattle.laws.proofs.ByBytes.{alike-in}
@@ -35,20 +41,33 @@ module _ (t : Tables) (h : firstBroken (successionRules t) ≡ none) where
 
   sizes : (mapSized 16384 t ≡ true) × (lanesSized t ≡ true)
   unfolding successionRules rulesTo5 laneRules
-  sizes = (and-left (mapSized 16384 t) (lanesSized t) (rules .0), and-right (mapSized 16384 t) (lanesSized t) (rules .0))
+  sizes = (
+    and-left (mapSized 16384 t) (lanesSized t) (rules .0),
+    and-right (mapSized 16384 t) (lanesSized t) (rules .0),
+  )
 
-  limits : (leb (length (t .text)) 1048576 ≡ true) × (sized 20 16384 (length (t .roads)) ≡ true) × (sized 1 16384 (length (t .sections)) ≡ true) × (sized 5 16384 (length (t .junctions)) ≡ true) × (sized 7 16384 (length (t .connections)) ≡ true) × (sized 2 16384 (length (t .pairs)) ≡ true)
+  limits : (leb (length (t .text)) 1048576 ≡ true)
+      × (sized 20 16384 (length (t .roads)) ≡ true)
+      × (sized 1 16384 (length (t .sections)) ≡ true)
+      × (sized 5 16384 (length (t .junctions)) ≡ true)
+      × (sized 7 16384 (length (t .connections)) ≡ true)
+      × (sized 2 16384 (length (t .pairs)) ≡ true)
   limits = sizes-of 16384 t (sizes .0)
 
-  worded : (every (roadWorded (t .text)) (table 20 (t .roads)) ≡ true) × (every (junctionWorded (t .text)) (table 5 (t .junctions)) ≡ true) × (every (connectionWorded (t .text)) (table 7 (t .connections)) ≡ true)
+  worded : (every (roadWorded (t .text)) (table 20 (t .roads)) ≡ true)
+      × (every (junctionWorded (t .text)) (table 5 (t .junctions)) ≡ true)
+      × (every (connectionWorded (t .text)) (table 7 (t .connections)) ≡ true)
   unfolding successionRules rulesTo5 laneRules
   worded = worded-of t (and-left (mapWorded t) (lanesWorded t) (rules .1 .0))
 
-  parts : (partsFit 3 4 0 (length (t .connections) / 7) (table 5 (t .junctions)) ≡ true) × (partsFit 5 6 0 (length (t .pairs) / 2) (table 7 (t .connections)) ≡ true)
+  parts : (partsFit 3 4 0 (length (t .connections) / 7) (table 5 (t .junctions)) ≡ true)
+      × (partsFit 5 6 0 (length (t .pairs) / 2) (table 7 (t .connections)) ≡ true)
   unfolding successionRules rulesTo5 laneRules connectionPartsFit pairPartsFit
   parts = (
-    and-left (partsFit 3 4 0 (length (t .connections) / 7) (table 5 (t .junctions))) (partsFit 5 6 0 (length (t .pairs) / 2) (table 7 (t .connections))) (rules .1 .1 .1 .1 .0),
-    and-right (partsFit 3 4 0 (length (t .connections) / 7) (table 5 (t .junctions))) (partsFit 5 6 0 (length (t .pairs) / 2) (table 7 (t .connections))) (rules .1 .1 .1 .1 .0),
+    and-left (partsFit 3 4 0 (length (t .connections) / 7) (table 5 (t .junctions)))
+        (partsFit 5 6 0 (length (t .pairs) / 2) (table 7 (t .connections))) (rules .1 .1 .1 .1 .0),
+    and-right (partsFit 3 4 0 (length (t .connections) / 7) (table 5 (t .junctions)))
+        (partsFit 5 6 0 (length (t .pairs) / 2) (table 7 (t .connections))) (rules .1 .1 .1 .1 .0),
   )
 
   count7 : length (t .connections) / 7 ≡ length (connectionsOf t)
@@ -61,15 +80,27 @@ module _ (t : Tables) (h : firstBroken (successionRules t) ≡ none) where
 
   all-connections : allConnections (junctionsOf t) ≡ connectionsOf t
   unfolding junctionsIn
-  all-connections = junctions-forth (t .text) (t .junctions) (connectionsOf t) (sized-whole 5 16384 (length (t .junctions)) (limits .3)) (worded .1) (ap (λ (k : ℕ). partsFit 3 4 0 k (table 5 (t .junctions))) (sym count7) ∙ parts .0) .1
+  all-connections =
+      junctions-forth (t .text) (t .junctions) (connectionsOf t)
+      (sized-whole 5 16384 (length (t .junctions)) (limits .3)) (worded .1)
+      (ap (λ (k : ℕ). partsFit 3 4 0 k (table 5 (t .junctions))) (sym count7) ∙ parts .0) .1
 
   all-pairs : allPairs (junctionsOf t) ≡ pairsOf t
   unfolding allPairs
-  all-pairs = ap (gather (λ (c : Connection). c .pairs)) all-connections ∙ (unfold connectionsIn in (connections-forth (t .text) (t .connections) (pairsOf t) (sized-whole 7 16384 (length (t .connections)) (limits .4)) (worded .2) (ap (λ (k : ℕ). partsFit 5 6 0 k (table 7 (t .connections))) (sym count2) ∙ parts .1) .1))
+  all-pairs =
+      ap (gather (λ (c : Connection). c .pairs)) all-connections
+      ∙ (unfold connectionsIn in (connections-forth (t .text) (t .connections) (pairsOf t)
+      (sized-whole 7 16384 (length (t .connections)) (limits .4)) (worded .2)
+      (ap (λ (k : ℕ). partsFit 5 6 0 k (table 7 (t .connections))) (sym count2) ∙ parts .1) .1))
 
-  pairs-few : length (gather (λ (j : Junction). gather (λ (c : Connection). c .pairs) (j .connections)) (junctionsOf t)) ≤ 16384
-  pairs-few = let a = ap length (sym (allPairs-nested (junctionsOf t)) ∙ all-pairs) in let b = count2 in let c = sized-most 2 16384 (length (t .pairs)) (limits .5) in
-      let d : length (t .pairs) / 2 ≤ 16384 = div-le-of-le-mul 2 (let e = mul-comm 16384 2 in omega arith) in omega arith
+  pairs-few : length
+      (gather (λ (j : Junction). gather (λ (c : Connection). c .pairs) (j .connections)) (junctionsOf t)) ≤
+      16384
+  pairs-few =
+      let a = ap length (sym (allPairs-nested (junctionsOf t)) ∙ all-pairs) in
+      let b = count2 in let c = sized-most 2 16384 (length (t .pairs)) (limits .5) in
+      let d : length (t .pairs) / 2 ≤ 16384 = div-le-of-le-mul 2 (let e = mul-comm 16384 2 in omega arith) in
+      omega arith
 
   lanes-few : length (lanesOf t) ≤ 16384
   unfolding lanesIn
@@ -84,53 +115,100 @@ module _ (t : Tables) (h : firstBroken (successionRules t) ≡ none) where
       let b = pairs-few in let c = lanes-few in
       let d = mul-le-mul lanes-few factor in omega arith
     where
-      factor : suc (length (gather (λ (j : Junction). gather (λ (c : Connection). c .pairs) (j .connections)) (junctionsOf t))) + suc (length (gather (λ (j : Junction). gather (λ (c : Connection). c .pairs) (j .connections)) (junctionsOf t))) + length (lanesOf t) ≤ 49154
+      factor : suc (length
+          (gather (λ (j : Junction). gather (λ (c : Connection). c .pairs) (j .connections)) (junctionsOf t))) +
+          suc (length
+          (gather (λ (j : Junction). gather (λ (c : Connection). c .pairs) (j .connections)) (junctionsOf t))) +
+          length (lanesOf t) ≤ 49154
       factor = let b = pairs-few in let c = lanes-few in omega arith
 
   pub predecessors-words : length (listContent t .predecessorIds) < 4294967296
   unfolding listContent mapOf successionRules rulesTo5 laneRules idsOnce
-  predecessors-words = let a = predecessors-few (same t) (mapOf t) (rules .1 .1 .1 .1 .1 .0) in let b = successors-words in omega arith
+  predecessors-words =
+      let a = predecessors-few (same t) (mapOf t) (rules .1 .1 .1 .1 .1 .0) in
+      let b = successors-words in omega arith
 
   -- ---- 01's limit on packed identities is never passed
   valid : Valid (same t) (mapOf t)
   unfolding successionRules rulesTo5 laneRules sectionPartsFit sectionsAscend listedIn mapOf
   valid = record {
-    ascending = each-map (λ (r : Road) q. ascends-fact (r .sections) q) (roadsOf t) (every-each (λ (r : Road). ascends (r .sections)) (roadsOf t) (and-right (partsFit 18 19 0 (length (t .sections)) (table 20 (t .roads))) (every (λ (r : Road). ascends (r .sections)) (roadsOf t)) (rules .1 .1 .1 .0)));
-    placed = every-each (λ (l : Lane). member (l .section) (sectionsOf (same t) (roadsOf t) (l .road))) (lanesOf t) (rules .1 .1 .1 .1 .1 .1 .0);
+    ascending = each-map (λ (r : Road) q. ascends-fact (r .sections) q) (roadsOf t)
+        (every-each (λ (r : Road). ascends (r .sections)) (roadsOf t)
+        (and-right (partsFit 18 19 0 (length (t .sections)) (table 20 (t .roads)))
+        (every (λ (r : Road). ascends (r .sections)) (roadsOf t)) (rules .1 .1 .1 .0)));
+    placed = every-each (λ (l : Lane). member (l .section) (sectionsOf (same t) (roadsOf t) (l .road)))
+        (lanesOf t) (rules .1 .1 .1 .1 .1 .1 .0);
   }
 
   pub ids-limit : length (listContent t .successorIds) ≤ 131072
   unfolding listContent mapOf successionRules rulesTo5 laneRules placesOnce idsOnce
-  ids-limit = let a = ids-tight (same t) (alike-in (t .text)) (mapOf t) valid (rules .1 .1 .1 .1 .1 .1 .1 .0) (rules .1 .1 .1 .1 .1 .0) in
+  ids-limit =
+      let a = ids-tight (same t) (alike-in (t .text)) (mapOf t) valid (rules .1 .1 .1 .1 .1 .1 .1 .0)
+      (rules .1 .1 .1 .1 .1 .0) in
       let b = pairs-few in let c = lanes-few in omega arith
 
   -- at each end, at most one for each lane and one for each pair
   pub exits-limit : (e : Bool) → sumOf (λ (l : Lane). length (exits (same t) (mapOf t) l e)) (lanesOf t) ≤ 32768
   unfolding successionRules rulesTo5 laneRules placesOnce mapOf
-  exits-limit e = let a = exits-all (same t) (alike-in (t .text)) (mapOf t) valid (rules .1 .1 .1 .1 .1 .1 .1 .0) e in let b = pairs-few in let c = lanes-few in omega arith
+  exits-limit e =
+      let a = exits-all (same t) (alike-in (t .text)) (mapOf t) valid (rules .1 .1 .1 .1 .1 .1 .1 .0) e in
+      let b = pairs-few in let c = lanes-few in omega arith
 
   sized-one : (most n : ℕ) → n ≤ most → sized 1 most n ≡ true
   unfolding sized
-  sized-one most n l = and-both (eqb (n % 1) 0) (leb n (most * 1)) (eq-eqb (n % 1) 0 (mod-one n)) (le-leb n (most * 1) (omega arith))
+  sized-one most n l =
+      and-both (eqb (n % 1) 0) (leb n (most * 1)) (eq-eqb (n % 1) 0 (mod-one n))
+      (le-leb n (most * 1) (omega arith))
 
   lists-sized : listsSized (listContent t .successorOffsets) (listContent t .successorIds) ≡ true
   unfolding listsSized
-  lists-sized = and-both (sized 1 16385 (length (listContent t .successorOffsets))) (sized 1 131072 (length (listContent t .successorIds)))
-      (sized-one 16385 (length (listContent t .successorOffsets)) (let a = offsets-are in let b = lanes-few in omega arith)) (sized-one 131072 (length (listContent t .successorIds)) ids-limit)
+  lists-sized =
+      and-both (sized 1 16385 (length (listContent t .successorOffsets)))
+      (sized 1 131072 (length (listContent t .successorIds)))
+      (sized-one 16385 (length (listContent t .successorOffsets))
+      (let a = offsets-are in let b = lanes-few in omega arith))
+      (sized-one 131072 (length (listContent t .successorIds)) ids-limit)
     where
       offsets-are : length (listContent t .successorOffsets) ≡ suc (length (lanesOf t))
-      offsets-are = unfold listContent successorLists mapOf in (offsets-count 0 (map (successors (same t) (mapOf t)) (lanesOf t)) ∙ ap suc (length-map (lanesOf t) (successors (same t) (mapOf t))))
+      offsets-are =
+          unfold listContent successorLists mapOf in
+          (offsets-count 0 (map (successors (same t) (mapOf t)) (lanesOf t))
+          ∙ ap suc (length-map (lanesOf t) (successors (same t) (mapOf t))))
 
   edges-sized : edgesFit t ≡ true → edgesSized t ≡ true
   unfolding edgesEven edgesSized sized lanesIn
   edges-sized e = let q = eqb-true (length (t .edges)) (12 * (length (t .lanes) / 10)) e in
       let a = length-map (table 10 (t .lanes)) laneIn in let b = length-table 10 (t .lanes) in let c = lanes-few in
-      and-both (eqb (length (t .edges) % 12) 0) (leb (length (t .edges)) (16384 * 12)) (eq-eqb (length (t .edges) % 12) 0 (ap (λ (k : ℕ). k % 12) q ∙ mul-mod-right 12 (length (t .lanes) / 10))) (le-leb (length (t .edges)) (16384 * 12) (omega arith))
+      and-both (eqb (length (t .edges) % 12) 0) (leb (length (t .edges)) (16384 * 12))
+      (eq-eqb (length (t .edges) % 12) 0 (ap (λ (k : ℕ). k % 12) q ∙ mul-mod-right 12 (length (t .lanes) / 10)))
+      (le-leb (length (t .edges)) (16384 * 12) (omega arith))
 
   -- so after an accepted succession the gap check, with twelve edges for each lane, can refuse by 9 alone
-  pub through : edgesFit t ≡ true → firstBroken (gapRules t (listContent t .successorOffsets) (listContent t .successorIds)) ≡ none
+  pub through : edgesFit t ≡ true
+      → firstBroken (gapRules t (listContent t .successorOffsets) (listContent t .successorIds)) ≡ none
   unfolding gapRules successionRules rulesTo5 laneRules
-  through e = pass-all (gapRules t (listContent t .successorOffsets) (listContent t .successorIds)) (
-    and-both (mapSized 16384 t && lanesSized t && edgesSized t) (listsSized (listContent t .successorOffsets) (listContent t .successorIds)) (and-both (mapSized 16384 t && lanesSized t) (edgesSized t) (rules .0) (edges-sized e)) lists-sized,
-    (rules .1 .0, (rules .1 .1 .0, (rules .1 .1 .1 .0, (rules .1 .1 .1 .1 .0, (rules .1 .1 .1 .1 .1 .0, (rules .1 .1 .1 .1 .1 .1 .0, (rules .1 .1 .1 .1 .1 .1 .1 .0, (e, (eleven t, tt))))))))),
-  )
+  through e =
+      pass-all (gapRules t (listContent t .successorOffsets) (listContent t .successorIds)) (
+        and-both (mapSized 16384 t && lanesSized t && edgesSized t)
+            (listsSized (listContent t .successorOffsets) (listContent t .successorIds))
+            (and-both (mapSized 16384 t && lanesSized t) (edgesSized t) (rules .0) (edges-sized e)) lists-sized,
+        (
+          rules .1 .0,
+          (
+            rules .1 .1 .0,
+            (
+              rules .1 .1 .1 .0,
+              (
+                rules .1 .1 .1 .1 .0,
+                (
+                  rules .1 .1 .1 .1 .1 .0,
+                  (
+                    rules .1 .1 .1 .1 .1 .1 .0,
+                    (rules .1 .1 .1 .1 .1 .1 .1 .0, (e, (eleven t, tt))),
+                  ),
+                ),
+              ),
+            ),
+          ),
+        ),
+      )

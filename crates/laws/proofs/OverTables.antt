@@ -1,4 +1,5 @@
--- The laws on a reversed map, said of tables: what reversal and repair write mean the map reversed and the map repaired, and the lists, gap rows and warning rows of reversed tables are those of the tables.
+-- The laws on a reversed map, said of tables: what reversal and repair write mean the map reversed and the map
+-- repaired, and the lists, gap rows and warning rows of reversed tables are those of the tables.
 use mathlib.Core.Path.{_≡_, sym, _∙_, ap, ap₂}
 use mathlib.Core.Bool.{true, not}
 use mathlib.Core.Option.{Option, none, some}
@@ -28,11 +29,15 @@ use Rattle.laws.proofs.SameWarnings.{warned-reversed}
 use Rattle.laws.proofs.SoundMaps.{is-map}
 use Rattle.laws.proofs.StaySound.{sound-repair}
 use Rattle.laws.proofs.Valid.{Each, markFor, reverseModel}
-use Rattle.laws.proofs.WordsReversed.{Fine, callRules, fine, fine-sound, fine-words, length-roads, modelOf, refusal-split}
+use Rattle.laws.proofs.WordsReversed.{Fine, callRules, fine, fine-sound, fine-words, length-roads}
+use Rattle.laws.proofs.WordsReversed.{modelOf, refusal-split}
 use Rattle.laws.proofs.Sequences as seq
 
 -- a junction name whose words mean absent just where it is absent
-pub plain-names : (rs : List Road) → Each (λ (r : Road). isAbsent (nameStart (r .junction)) (nameSize (r .junction)) ≡ not (isSome (r .junction))) rs → Each Plain rs
+pub plain-names : (rs : List Road)
+    → Each
+    (λ (r : Road). isAbsent (nameStart (r .junction)) (nameSize (r .junction)) ≡ not (isSome (r .junction))) rs
+    → Each Plain rs
 plain-names rs h = each-map (λ (r : Road) q. plain (r .junction) q) rs h
   where
     plain : (o : Option Span) → isAbsent (nameStart o) (nameSize o) ≡ not (isSome o) → PlainName o
@@ -41,13 +46,18 @@ plain-names rs h = each-map (λ (r : Road) q. plain (r .junction) q) rs h
 
 -- the tables of an accepted reversal pass rules 1 to 8 and 10
 pub accepted-fine : (t : Tables) (marks lengths : List ℕ) → reversalRefusal t marks lengths ≡ none → Fine t
-accepted-fine t marks lengths q = fine t (unbroken-append (tableRules t) (callRules t marks lengths) (sym (refusal-split t marks lengths) ∙ q) .0)
+accepted-fine t marks lengths q =
+    fine t
+    (unbroken-append (tableRules t) (callRules t marks lengths) (sym (refusal-split t marks lengths) ∙ q) .0)
 
 -- ---- tables that pass rules 1 to 8 and 10
 module _ (t : Tables) (f : Fine t) where
   -- rule 12, road by road
   pub marks-each : (marks : List ℕ) → marksFit (t .roads) marks ≡ true → markFor (modelOf t .map .roads) marks ≡ true
-  marks-each marks k = sym (ap (λ rs. marksFit rs marks) (sym words) ∙ marks-form (modelOf t .map .roads) marks (length-roads (modelOf t .map .roads))) ∙ k
+  marks-each marks k =
+      sym (ap (λ rs. marksFit rs marks) (sym words)
+      ∙ marks-form (modelOf t .map .roads) marks (length-roads (modelOf t .map .roads)))
+      ∙ k
     where
       words : roadWords (modelOf t .map .roads) ≡ t .roads
       words = unfold tablesOf in ap (λ (u : Tables). u .roads) (fine-words t f)
@@ -58,13 +68,18 @@ module _ (t : Tables) (f : Fine t) where
 
   pub repaired-means : mapOf (repairedTables t) ≡ repairedMap t
   unfolding modelOf
-  repaired-means = ap (λ u. mapOf (repairedTables u)) (sym (fine-words t f)) ∙ ap mapOf (repaired-tables (t .text) (mapOf t) (edgedLanesOf t) (fine-sound t f))
-      ∙ is-map (t .text) (repairedMap t) (edgedLanesOf t) (sound-repair (t .text) (mapOf t) (edgedLanesOf t) (fine-sound t f))
+  repaired-means =
+      ap (λ u. mapOf (repairedTables u)) (sym (fine-words t f))
+      ∙ ap mapOf (repaired-tables (t .text) (mapOf t) (edgedLanesOf t) (fine-sound t f))
+      ∙ is-map (t .text) (repairedMap t) (edgedLanesOf t)
+      (sound-repair (t .text) (mapOf t) (edgedLanesOf t) (fine-sound t f))
 
   pub warnings-over : (marks : List ℕ) → marksFit (t .roads) marks ≡ true →
-      table warningWidth (repairContent (reversedOnceBy marks t) .warnings) ≡ map (reversedWarning marks) (table warningWidth (repairContent t .warnings))
+      table warningWidth (repairContent (reversedOnceBy marks t) .warnings)
+      ≡ map (reversedWarning marks) (table warningWidth (repairContent t .warnings))
   unfolding modelOf reverseModel
-  warnings-over marks k = ap (λ u. table warningWidth (repairContent u .warnings)) (seq.reversedOnceBy-words t f marks)
+  warnings-over marks k =
+      ap (λ u. table warningWidth (repairContent u .warnings)) (seq.reversedOnceBy-words t f marks)
       ∙ warned-reversed (t .text) (mapOf t) (edgedLanesOf t) (fine-sound t f) marks (marks-each marks k)
       ∙ ap (λ u. map (reversedWarning marks) (table warningWidth (repairContent u .warnings))) (fine-words t f)
 
@@ -81,15 +96,24 @@ module _ (t : Tables) (marks lengths : List ℕ) (q : reversalRefusal t marks le
   unfolding modelOf
   reversed = seq.reversed-map t f marks
 
-  pub successors-over : successorLists (same t) (repairedMap (reversedOnceBy marks t)) ≡ successorLists (same t) (repairedMap t)
+  pub successors-over : successorLists (same t) (repairedMap (reversedOnceBy marks t))
+      ≡ successorLists (same t) (repairedMap t)
   unfolding withReversed reversedOnceBy
-  successors-over = ap (λ m. successorLists (same t) (repair (same t) m)) reversed ∙ successors-held (same t) (alike-in (t .text)) (mapOf t) (seq.inSet t f marks) held
+  successors-over =
+      ap (λ m. successorLists (same t) (repair (same t) m)) reversed
+      ∙ successors-held (same t) (alike-in (t .text)) (mapOf t) (seq.inSet t f marks) held
 
-  pub predecessors-over : predecessorLists (same t) (repairedMap (reversedOnceBy marks t)) ≡ predecessorLists (same t) (repairedMap t)
+  pub predecessors-over : predecessorLists (same t) (repairedMap (reversedOnceBy marks t))
+      ≡ predecessorLists (same t) (repairedMap t)
   unfolding withReversed reversedOnceBy
-  predecessors-over = ap (λ m. predecessorLists (same t) (repair (same t) m)) reversed ∙ predecessors-held (same t) (alike-in (t .text)) (mapOf t) (seq.inSet t f marks) held
+  predecessors-over =
+      ap (λ m. predecessorLists (same t) (repair (same t) m)) reversed
+      ∙ predecessors-held (same t) (alike-in (t .text)) (mapOf t) (seq.inSet t f marks) held
 
-  pub gaps-over : linkGaps (edgedLanesOf (reversedOnceBy marks t)) (successorLists (same t) (repairedMap (reversedOnceBy marks t))) ≡ linkGaps (edgedLanesOf t) (successorLists (same t) (repairedMap t))
+  pub gaps-over : linkGaps (edgedLanesOf (reversedOnceBy marks t))
+      (successorLists (same t) (repairedMap (reversedOnceBy marks t)))
+      ≡ linkGaps (edgedLanesOf t) (successorLists (same t) (repairedMap t))
   unfolding modelOf
   gaps-over = ap₂ linkGaps (seq.reversed-edged t f marks) successors-over
-      ∙ linkGaps-reversed (same t) (seq.inSet t f marks) (mapOf t .roads) (edgedLanesOf t) (successorLists (same t) (repairedMap t))
+      ∙ linkGaps-reversed (same t) (seq.inSet t f marks) (mapOf t .roads) (edgedLanesOf t)
+      (successorLists (same t) (repairedMap t))

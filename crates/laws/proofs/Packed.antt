@@ -9,7 +9,9 @@ use native.Mathlib.Omega.{arith}
 use lib.ListN.{length, take, getD, length-append, length-map}
 use lib.Seq.{drop-at, take-append-seam}
 use borrow.Author.Tests.{eqb-true}
-use Rattle.model.specs.Calls.{Answer, ListOutputs, laneRules, listContent, listLengths, longEnough, putLists, refused, rulesTo5, settled, successionCall, successionRefusal, successionRules, wrote}
+use Rattle.model.specs.Calls.{Answer, ListOutputs, laneRules, listContent, listLengths, longEnough, putLists}
+use Rattle.model.specs.Calls.{refused, rulesTo5, settled, successionCall, successionRefusal, successionRules}
+use Rattle.model.specs.Calls.{wrote}
 use Rattle.model.specs.Claim.{Mutual, identityAt, isTwoWay, listAt, listRows}
 use Rattle.model.specs.Lists.{count, member}
 use Rattle.model.specs.Lookup.{listsAfter, listsIn, offsetsFrom, packed}
@@ -23,7 +25,8 @@ use Rattle.laws.proofs.RulesReversed.{all-pass, unbroken-append}
 use Rattle.laws.proofs.Converse as conv
 
 -- ---- packed and read back
-unpack-head : (ids : List ℕ) (k n : ℕ) (ls : List (List ℕ)) → listsAfter ids k (offsetsFrom n ls) ≡ part k (n - k) ids ∷ listsIn (offsetsFrom n ls) ids
+unpack-head : (ids : List ℕ) (k n : ℕ) (ls : List (List ℕ))
+    → listsAfter ids k (offsetsFrom n ls) ≡ part k (n - k) ids ∷ listsIn (offsetsFrom n ls) ids
 unpack-head ids k n [] = refl
 unpack-head ids k n (l ∷ ls) = refl
 
@@ -31,8 +34,11 @@ unpack-at : (pre : List ℕ) (ls : List (List ℕ)) → listsIn (offsetsFrom (le
 unpack-at pre [] = refl
 unpack-at pre (l ∷ ls) = unpack-head (pre ++ (l ++ packed ls)) (length pre) (length pre + length l) ls
     ∙ ap₂ {C = List (List ℕ)} (λ a b. a ∷ b)
-    (ap₂ (λ (n : ℕ) (xs : List ℕ). take n xs) width (drop-at pre (l ++ packed ls) (length pre) refl) ∙ take-append-seam l (packed ls))
-    (ap₂ (λ (n : ℕ) (xs : List ℕ). listsIn (offsetsFrom n ls) xs) (sym (length-append pre l)) (sym (append-assoc pre l (packed ls))) ∙ unpack-at (pre ++ l) ls)
+    (ap₂ (λ (n : ℕ) (xs : List ℕ). take n xs) width (drop-at pre (l ++ packed ls) (length pre) refl)
+    ∙ take-append-seam l (packed ls))
+    (ap₂ (λ (n : ℕ) (xs : List ℕ). listsIn (offsetsFrom n ls) xs) (sym (length-append pre l))
+    (sym (append-assoc pre l (packed ls)))
+    ∙ unpack-at (pre ++ l) ls)
   where
     width : (length pre + length l) - length pre ≡ length l
     width = omega arith
@@ -46,7 +52,8 @@ member-at [] i d h = absurd (not-suc-le-zero h)
 member-at (x ∷ xs) zero d h = List·Memᴰ·head refl
 member-at (x ∷ xs) (suc i) d h = List·Memᴰ·tail (member-at xs i d (le-of-suc-le-suc h))
 
-pub map-at : {A B : Type 0} (f : A → B) (l : List A) (i : ℕ) (d : A) (e : B) → i < length l → getD (map f l) i e ≡ f (getD l i d)
+pub map-at : {A B : Type 0} (f : A → B) (l : List A) (i : ℕ) (d : A) (e : B) → i < length l
+    → getD (map f l) i e ≡ f (getD l i d)
 map-at f [] i d e h = absurd (not-suc-le-zero h)
 map-at f (x ∷ xs) zero d e h = refl
 map-at f (x ∷ xs) (suc i) d e h = map-at f xs i d e (le-of-suc-le-suc h)
@@ -61,21 +68,32 @@ module _ (t : Tables) where
 
   lane-at : (i : ℕ) → i < length (t .lanes) / 10 → getD (lanesOf t) i (laneIn []) ≡ lane i
   unfolding lanesIn
-  lane-at i h = map-at laneIn (table 10 (t .lanes)) i [] (laneIn []) (let e = length-table 10 (t .lanes) in omega arith)
+  lane-at i h =
+      map-at laneIn (table 10 (t .lanes)) i [] (laneIn []) (let e = length-table 10 (t .lanes) in omega arith)
 
   lane-in : (i : ℕ) → i < length (t .lanes) / 10 → List·Memᴰ (lane i) (lanesOf t)
-  lane-in i h = subst (λ l. List·Memᴰ l (lanesOf t)) (lane-at i h) (member-at (lanesOf t) i (laneIn []) (let e = lanes-count in omega arith))
+  lane-in i h =
+      subst (λ l. List·Memᴰ l (lanesOf t)) (lane-at i h)
+      (member-at (lanesOf t) i (laneIn []) (let e = lanes-count in omega arith))
 
   list-at : (f : Lane → List ℕ) (i : ℕ) → i < length (t .lanes) / 10 → getD (map f (lanesOf t)) i [] ≡ f (lane i)
   list-at f i h = map-at f (lanesOf t) i (laneIn []) [] (let e = lanes-count in omega arith) ∙ ap f (lane-at i h)
 
-  successors-at : (i : ℕ) → i < length (t .lanes) / 10 → listAt (listContent t .successorOffsets) (listContent t .successorIds) i ≡ successors (same t) (mapOf t) (lane i)
+  successors-at : (i : ℕ) → i < length (t .lanes) / 10
+      → listAt (listContent t .successorOffsets) (listContent t .successorIds) i
+      ≡ successors (same t) (mapOf t) (lane i)
   unfolding listContent
-  successors-at i h = ap (λ (ls : List (List ℕ)). getD ls i []) (unpack (successorLists (same t) (mapOf t))) ∙ (unfold successorLists mapOf in list-at (successors (same t) (mapOf t)) i h)
+  successors-at i h =
+      ap (λ (ls : List (List ℕ)). getD ls i []) (unpack (successorLists (same t) (mapOf t)))
+      ∙ (unfold successorLists mapOf in list-at (successors (same t) (mapOf t)) i h)
 
-  predecessors-at : (i : ℕ) → i < length (t .lanes) / 10 → listAt (listContent t .predecessorOffsets) (listContent t .predecessorIds) i ≡ predecessors (same t) (mapOf t) (lane i)
+  predecessors-at : (i : ℕ) → i < length (t .lanes) / 10
+      → listAt (listContent t .predecessorOffsets) (listContent t .predecessorIds) i
+      ≡ predecessors (same t) (mapOf t) (lane i)
   unfolding listContent
-  predecessors-at i h = ap (λ (ls : List (List ℕ)). getD ls i []) (unpack (predecessorLists (same t) (mapOf t))) ∙ (unfold predecessorLists mapOf in list-at (predecessors (same t) (mapOf t)) i h)
+  predecessors-at i h =
+      ap (λ (ls : List (List ℕ)). getD ls i []) (unpack (predecessorLists (same t) (mapOf t)))
+      ∙ (unfold predecessorLists mapOf in list-at (predecessors (same t) (mapOf t)) i h)
 
   pub mutual-content : identitiesOnce t ≡ true → Mutual (t .lanes) (listContent t)
   unfolding idsOnce laneIn mapOf
@@ -91,21 +109,30 @@ module _ (t : Tables) where
       way : (i : ℕ) → isTwoWay (t .lanes) i ≡ true → isBoth (lane i .direction) ≡ true
       way i a = ap (λ (k : ℕ). isBoth (directionOf k)) (eqb-true (word (getD (table 10 (t .lanes)) i []) 5) 2 a)
 
-  rows-content : (o : ListOutputs) → listRows (listLengths (listContent t)) (putLists (listContent t) o) ≡ listContent t
+  rows-content : (o : ListOutputs)
+      → listRows (listLengths (listContent t)) (putLists (listContent t) o) ≡ listContent t
   unfolding listRows listLengths putLists
   rows-content o = λ i. record {
-    successorOffsets = take-written (listContent t .successorOffsets) (o .successorOffsets) (length (listContent t .successorOffsets)) refl i;
-    successorIds = take-written (listContent t .successorIds) (o .successorIds) (length (listContent t .successorIds)) refl i;
-    predecessorOffsets = take-written (listContent t .predecessorOffsets) (o .predecessorOffsets) (length (listContent t .predecessorOffsets)) refl i;
-    predecessorIds = take-written (listContent t .predecessorIds) (o .predecessorIds) (length (listContent t .predecessorIds)) refl i;
+    successorOffsets = take-written (listContent t .successorOffsets) (o .successorOffsets)
+        (length (listContent t .successorOffsets)) refl i;
+    successorIds = take-written (listContent t .successorIds) (o .successorIds)
+        (length (listContent t .successorIds)) refl i;
+    predecessorOffsets = take-written (listContent t .predecessorOffsets) (o .predecessorOffsets)
+        (length (listContent t .predecessorOffsets)) refl i;
+    predecessorIds = take-written (listContent t .predecessorIds) (o .predecessorIds)
+        (length (listContent t .predecessorIds)) refl i;
   }
 
   ids-once : (lengths : List ℕ) → successionRefusal t lengths ≡ none → identitiesOnce t ≡ true
   unfolding successionRefusal successionRules rulesTo5 laneRules
-  ids-once lengths q = all-pass (successionRules t) (unbroken-append (successionRules t) (longEnough (listLengths (listContent t)) lengths) q .0) .1 .1 .1 .1 .1 .0
+  ids-once lengths q =
+      all-pass (successionRules t)
+      (unbroken-append (successionRules t) (longEnough (listLengths (listContent t)) lengths) q .0)
+      .1 .1 .1 .1 .1 .0
 
   -- every succession that is accepted
-  pub mutual-lists : (o : ListOutputs) (counts : List ℕ) → successionCall t o .answer ≡ wrote counts → Mutual (t .lanes) (listRows counts (successionCall t o .outs))
+  pub mutual-lists : (o : ListOutputs) (counts : List ℕ) → successionCall t o .answer ≡ wrote counts
+      → Mutual (t .lanes) (listRows counts (successionCall t o .outs))
   unfolding successionCall
   mutual-lists o counts a = go (successionRefusal t (listLengths o)) refl a
     where
@@ -117,6 +144,12 @@ module _ (t : Tables) where
       isWrote (refused k) = false
       isWrote (wrote ns) = true
 
-      go : (r : Option ℕ) → successionRefusal t (listLengths o) ≡ r → settled r (listLengths (listContent t)) (putLists (listContent t) o) o .answer ≡ wrote counts → Mutual (t .lanes) (listRows counts (settled r (listLengths (listContent t)) (putLists (listContent t) o) o .outs))
+      go : (r : Option ℕ) → successionRefusal t (listLengths o) ≡ r
+          → settled r (listLengths (listContent t)) (putLists (listContent t) o) o .answer ≡ wrote counts
+          → Mutual (t .lanes)
+          (listRows counts (settled r (listLengths (listContent t)) (putLists (listContent t) o) o .outs))
       go (some k) q a = absurd (false≢true (ap isWrote a))
-      go none q a = subst (Mutual (t .lanes)) (sym (ap (λ ns. listRows ns (putLists (listContent t) o)) (sym (ap unwrap a)) ∙ rows-content o)) (mutual-content (ids-once (listLengths o) q))
+      go none q a =
+          subst (Mutual (t .lanes))
+          (sym (ap (λ ns. listRows ns (putLists (listContent t) o)) (sym (ap unwrap a)) ∙ rows-content o))
+          (mutual-content (ids-once (listLengths o) q))

@@ -6,7 +6,8 @@ use mathlib.Core.List.{List, [], _∷_, map}
 use Prim.Native.Nat.{ℕ}
 use Rattle.model.specs.Lists.{amend, bindO, first, mapO, pick}
 use Rattle.model.specs.Records.{Connection, Junction, Map, Road, Span, Target, targetAt}
-use Rattle.model.specs.Repair.{dropAlong, linkAtEnd, linked, missingEnd, missingLink, putTarget, repair, roadOf, startRoads, withoutAlong}
+use Rattle.model.specs.Repair.{dropAlong, linkAtEnd, linked, missingEnd, missingLink, putTarget, repair, roadOf}
+use Rattle.model.specs.Repair.{startRoads, withoutAlong}
 use Rattle.model.specs.Reversal.{roadNamed, roadward}
 use Rattle.model.specs.Succession.{sectionsFrom, sectionsOf}
 use Rattle.laws.proofs.Basics.{no-some}
@@ -18,7 +19,8 @@ use Rattle.laws.proofs.RepairReversed.{bareRoad, bareTarget}
 abbrev seen : (Span → Span → Bool) → List Road → Span → Bool → Option Span
 seen same rs n e = bindO (roadOf same rs n) (λ r. bindO (targetAt e r) roadNamed)
 
-seen-roadward : (same : Span → Span → Bool) (rs : List Road) (n : Span) (e : Bool) → roadward same rs n e ≡ seen same rs n e
+seen-roadward : (same : Span → Span → Bool) (rs : List Road) (n : Span) (e : Bool)
+    → roadward same rs n e ≡ seen same rs n e
 unfolding roadward
 seen-roadward same rs n e = go (roadOf same rs n)
   where
@@ -42,7 +44,8 @@ came-trans same a b c h k = record {
 }
 
 came-refl : (same : Span → Span → Bool) (a : List Road) → Came same a a
-came-refl same a = record { sections-kept = λ n. refl; seen-kept = λ n x e q. q; names-kept = refl; listed-kept = refl }
+came-refl same a =
+    record { sections-kept = λ n. refl; seen-kept = λ n x e q. q; names-kept = refl; listed-kept = refl }
 
 -- one road that came of another
 record Came1 (r r′ : Road) : Type 0 where
@@ -65,7 +68,8 @@ pointwise-map : (f : Road → Road) → ((r : Road) → Came1 r (f r)) → (rs :
 pointwise-map f h [] = none-left
 pointwise-map f h (r ∷ rs) = one-more (h r) (pointwise-map f h rs)
 
-pointwise-amend : (p : Road → Bool) (f : Road → Road) → ((r : Road) → Came1 r (f r)) → (rs : List Road) → Pointwise rs (amend p f rs)
+pointwise-amend : (p : Road → Bool) (f : Road → Road) → ((r : Road) → Came1 r (f r)) → (rs : List Road)
+    → Pointwise rs (amend p f rs)
 pointwise-amend p f h [] = none-left
 pointwise-amend p f h (r ∷ rs) = go (p r) (pointwise-amend p f h rs)
   where
@@ -86,29 +90,45 @@ module _ (same : Span → Span → Bool) where
   unfolding sectionsOf roadOf
   sections-point n none-left = refl
   sections-point n (one-more {r = r} {r′ = r′} {rs = rs} {rs′ = rs′} c t) =
-      ap (λ m. sectionsFrom (cond (same m n) (some r′) (first (λ r. same (r .name) n) rs′))) (c .name-is) ∙ go (same (r .name) n) (sections-point n t)
+      ap (λ m. sectionsFrom (cond (same m n) (some r′) (first (λ r. same (r .name) n) rs′))) (c .name-is)
+      ∙ go (same (r .name) n) (sections-point n t)
     where
-      go : (b : Bool) → sectionsFrom (first (λ r. same (r .name) n) rs′) ≡ sectionsFrom (first (λ r. same (r .name) n) rs) →
-          sectionsFrom (cond b (some r′) (first (λ r. same (r .name) n) rs′)) ≡ sectionsFrom (cond b (some r) (first (λ r. same (r .name) n) rs))
+      go : (b : Bool)
+          → sectionsFrom (first (λ r. same (r .name) n) rs′) ≡ sectionsFrom (first (λ r. same (r .name) n) rs) →
+          sectionsFrom (cond b (some r′) (first (λ r. same (r .name) n) rs′))
+          ≡ sectionsFrom (cond b (some r) (first (λ r. same (r .name) n) rs))
       go true ih = c .sections-is
       go false ih = ih
 
-  seen-point : (n x : Span) (e : Bool) {rs rs′ : List Road} → Pointwise rs rs′ → seen same rs′ n e ≡ some x → seen same rs n e ≡ some x
+  seen-point : (n x : Span) (e : Bool) {rs rs′ : List Road} → Pointwise rs rs′ → seen same rs′ n e ≡ some x
+      → seen same rs n e ≡ some x
   unfolding roadOf
   seen-point n x e none-left q = q
   seen-point n x e (one-more {r = r} {r′ = r′} {rs = rs} {rs′ = rs′} c t) q =
-      go (same (r .name) n) (seen-point n x e t) (sym (ap (λ m. bindO (cond (same m n) (some r′) (first (λ r. same (r .name) n) rs′)) (λ r. bindO (targetAt e r) roadNamed)) (c .name-is)) ∙ q)
+      go (same (r .name) n) (seen-point n x e t)
+      (sym (ap (λ m.
+      bindO (cond (same m n) (some r′) (first (λ r. same (r .name) n) rs′))
+      (λ r. bindO (targetAt e r) roadNamed)) (c .name-is))
+      ∙ q)
     where
       obs : Option Road → Option Span
       obs o = bindO o (λ r. bindO (targetAt e r) roadNamed)
 
-      go : (b : Bool) → (obs (first (λ r. same (r .name) n) rs′) ≡ some x → obs (first (λ r. same (r .name) n) rs) ≡ some x) →
-          obs (cond b (some r′) (first (λ r. same (r .name) n) rs′)) ≡ some x → obs (cond b (some r) (first (λ r. same (r .name) n) rs)) ≡ some x
+      go : (b : Bool)
+          → (obs (first (λ r. same (r .name) n) rs′) ≡ some x → obs (first (λ r. same (r .name) n) rs) ≡ some x) →
+          obs (cond b (some r′) (first (λ r. same (r .name) n) rs′)) ≡ some x
+          → obs (cond b (some r) (first (λ r. same (r .name) n) rs)) ≡ some x
       go true ih w = c .seen-is e x w
       go false ih w = ih w
 
   came-point : {rs rs′ : List Road} → Pointwise rs rs′ → Came same rs rs′
-  came-point p = record { sections-kept = λ n. sections-point n p; seen-kept = λ n x e. seen-point n x e p; names-kept = names-point p; listed-kept = listed-point p }
+  came-point p =
+      record {
+        sections-kept = λ n. sections-point n p;
+        seen-kept = λ n x e. seen-point n x e p;
+        names-kept = names-point p;
+        listed-kept = listed-point p;
+      }
 
   came-put : (j : Span) (e : Bool) (r : Road) → Came1 r (putTarget e (linked j e) r)
   unfolding putTarget linked
@@ -117,14 +137,18 @@ module _ (same : Span → Span → Bool) where
       L : Target
       L = record { isJunction = true; name = j; contact = e; given = true; along = false }
 
-      go : (e f : Bool) (x : Span) → bindO (pick f (pick e (some L) (r .predecessor)) (pick e (r .successor) (some L))) roadNamed ≡ some x → bindO (targetAt f r) roadNamed ≡ some x
+      go : (e f : Bool) (x : Span)
+          → bindO (pick f (pick e (some L) (r .predecessor)) (pick e (r .successor) (some L))) roadNamed
+          ≡ some x → bindO (targetAt f r) roadNamed ≡ some x
       go false false x q = absurd (no-some x q)
       go false true x q = q
       go true false x q = q
       go true true x q = absurd (no-some x q)
 
   came-along : (js : List Junction) (r : Road) → Came1 r (withoutAlong same js r)
-  came-along js r = withoutAlong-kept same (Came1 r) js r (record { name-is = refl; sections-is = refl; seen-is = ends }) (came1-refl r)
+  came-along js r =
+      withoutAlong-kept same (Came1 r) js r (record { name-is = refl; sections-is = refl; seen-is = ends })
+      (came1-refl r)
     where
       less : (o : Option Target) (x : Span) → bindO (dropAlong o) roadNamed ≡ some x → bindO o roadNamed ≡ some x
       less none x q = q
@@ -134,7 +158,8 @@ module _ (same : Span → Span → Bool) where
           pickOne true q = absurd (no-some x q)
           pickOne false q = q
 
-      ends : (e : Bool) (x : Span) → bindO (targetAt e (cleared r)) roadNamed ≡ some x → bindO (targetAt e r) roadNamed ≡ some x
+      ends : (e : Bool) (x : Span) → bindO (targetAt e (cleared r)) roadNamed ≡ some x
+          → bindO (targetAt e r) roadNamed ≡ some x
       ends false x q = less (r .predecessor) x q
       ends true x q = less (r .successor) x q
 
@@ -142,11 +167,13 @@ module _ (same : Span → Span → Bool) where
   unfolding bareRoad bareTarget
   came-bare r = record { name-is = refl; sections-is = refl; seen-is = ends }
     where
-      less : (o : Option Target) (x : Span) → bindO (mapO bareTarget o) roadNamed ≡ some x → bindO o roadNamed ≡ some x
+      less : (o : Option Target) (x : Span) → bindO (mapO bareTarget o) roadNamed ≡ some x
+          → bindO o roadNamed ≡ some x
       less none x q = q
       less (some t) x q = q
 
-      ends : (e : Bool) (x : Span) → bindO (targetAt e (bareRoad r)) roadNamed ≡ some x → bindO (targetAt e r) roadNamed ≡ some x
+      ends : (e : Bool) (x : Span) → bindO (targetAt e (bareRoad r)) roadNamed ≡ some x
+          → bindO (targetAt e r) roadNamed ≡ some x
       ends false x q = less (r .predecessor) x q
       ends true x q = less (r .successor) x q
 
@@ -156,19 +183,30 @@ module _ (same : Span → Span → Bool) where
     where
       go : (o : Option Bool) → Came same rs (linkAtEnd same rs j c o)
       go none = came-refl same rs
-      go (some e) = came-point (pointwise-amend (λ r. same (r .name) (c .incoming)) (putTarget e (linked j e)) (came-put j e) rs)
+      go (some e) =
+          came-point
+          (pointwise-amend (λ r. same (r .name) (c .incoming)) (putTarget e (linked j e)) (came-put j e) rs)
 
   -- after repair, and after that with no contacts of junctions
   pub came-whole : (m : Map) → Came same (m .roads) (repair same m .roads)
   unfolding repair startRoads
-  came-whole m = roadsOver-kept same (Came same (m .roads)) (m .junctions) (each (λ j c rs h. came-trans same (m .roads) rs (missingLink same (j .name) c rs) h (came-link (j .name) c rs)) (m .junctions)) (startRoads same m)
+  came-whole m =
+      roadsOver-kept same (Came same (m .roads)) (m .junctions)
+      (each (λ j c rs h.
+      came-trans same (m .roads) rs (missingLink same (j .name) c rs) h (came-link (j .name) c rs))
+      (m .junctions)) (startRoads same m)
       (came-point (pointwise-map (withoutAlong same (m .junctions)) (came-along (m .junctions)) (m .roads)))
 
   pub came-repair : (m : Map) → Came same (m .roads) (map bareRoad (repair same m .roads))
-  came-repair m = came-trans same (m .roads) (repair same m .roads) (map bareRoad (repair same m .roads)) (came-whole m) (came-point (pointwise-map bareRoad came-bare (repair same m .roads)))
+  came-repair m =
+      came-trans same (m .roads) (repair same m .roads) (map bareRoad (repair same m .roads)) (came-whole m)
+      (came-point (pointwise-map bareRoad came-bare (repair same m .roads)))
 
-  pub roadward-repair : (m : Map) (n x : Span) (e : Bool) → roadward same (map bareRoad (repair same m .roads)) n e ≡ some x → roadward same (m .roads) n e ≡ some x
-  roadward-repair m n x e q = seen-roadward same (m .roads) n e ∙ came-repair m .seen-kept n x e (sym (seen-roadward same (map bareRoad (repair same m .roads)) n e) ∙ q)
+  pub roadward-repair : (m : Map) (n x : Span) (e : Bool)
+      → roadward same (map bareRoad (repair same m .roads)) n e ≡ some x → roadward same (m .roads) n e ≡ some x
+  roadward-repair m n x e q =
+      seen-roadward same (m .roads) n e
+      ∙ came-repair m .seen-kept n x e (sym (seen-roadward same (map bareRoad (repair same m .roads)) n e) ∙ q)
 
   pub bare-sections : (rs : List Road) (n : Span) → sectionsOf same (map bareRoad rs) n ≡ sectionsOf same rs n
   bare-sections rs n = sections-point n (pointwise-map bareRoad came-bare rs)

@@ -29,34 +29,44 @@ mark-small s k h = go (eqb k 1) (eqb s 1)
     go true false = refl
     go false a = h
 
-pub toggled-for : (rs : List Road) (ss ks : List ℕ) → markFor rs ss ≡ true → markFor rs ks ≡ true → markFor rs (toggledMarks ss ks) ≡ true
+pub toggled-for : (rs : List Road) (ss ks : List ℕ) → markFor rs ss ≡ true → markFor rs ks ≡ true
+    → markFor rs (toggledMarks ss ks) ≡ true
 toggled-for [] [] ks h q = refl
 toggled-for [] (s ∷ ss) ks h q = absurd (false≢true h)
 toggled-for (r ∷ rs) [] ks h q = absurd (false≢true h)
 toggled-for (r ∷ rs) (s ∷ ss) [] h q = absurd (false≢true q)
-toggled-for (r ∷ rs) (s ∷ ss) (k ∷ ks) h q = and-both (leb (toggledMark s k) 1) (markFor rs (toggledMarks ss ks)) (mark-small s k (and-left (leb s 1) (markFor rs ss) h)) (toggled-for rs ss ks (and-right (leb s 1) (markFor rs ss) h) (and-right (leb k 1) (markFor rs ks) q))
+toggled-for (r ∷ rs) (s ∷ ss) (k ∷ ks) h q =
+    and-both (leb (toggledMark s k) 1) (markFor rs (toggledMarks ss ks))
+    (mark-small s k (and-left (leb s 1) (markFor rs ss) h))
+    (toggled-for rs ss ks (and-right (leb s 1) (markFor rs ss) h) (and-right (leb k 1) (markFor rs ks) q))
 
 module _ (alike : Span → Span → Bool) where
-  toggled-at : (rs : List Road) (ss ks : List ℕ) → markFor rs ss ≡ true → markFor rs ks ≡ true → (n : Span) → marked alike rs (toggledMarks ss ks) n ≡ marked alike rs ss n ⊕ marked alike rs ks n
+  toggled-at : (rs : List Road) (ss ks : List ℕ) → markFor rs ss ≡ true → markFor rs ks ≡ true → (n : Span)
+      → marked alike rs (toggledMarks ss ks) n ≡ marked alike rs ss n ⊕ marked alike rs ks n
   toggled-at [] [] ks h q n = refl
   toggled-at [] (s ∷ ss) ks h q n = absurd (false≢true h)
   toggled-at (r ∷ rs) [] ks h q n = absurd (false≢true h)
   toggled-at (r ∷ rs) (s ∷ ss) [] h q n = absurd (false≢true q)
-  toggled-at (r ∷ rs) (s ∷ ss) (k ∷ ks) h q n = go (alike (r .name) n) (toggled-at rs ss ks (and-right (leb s 1) (markFor rs ss) h) (and-right (leb k 1) (markFor rs ks) q) n)
+  toggled-at (r ∷ rs) (s ∷ ss) (k ∷ ks) h q n =
+      go (alike (r .name) n)
+      (toggled-at rs ss ks (and-right (leb s 1) (markFor rs ss) h) (and-right (leb k 1) (markFor rs ks) q) n)
     where
       go : (b : Bool) → marked alike rs (toggledMarks ss ks) n ≡ marked alike rs ss n ⊕ marked alike rs ks n →
-          cond b (eqb (toggledMark s k) 1) (marked alike rs (toggledMarks ss ks) n) ≡ cond b (eqb s 1) (marked alike rs ss n) ⊕ cond b (eqb k 1) (marked alike rs ks n)
+          cond b (eqb (toggledMark s k) 1) (marked alike rs (toggledMarks ss ks) n)
+          ≡ cond b (eqb s 1) (marked alike rs ss n) ⊕ cond b (eqb k 1) (marked alike rs ks n)
       go true ih = mark-bit s k
       go false ih = ih
 
-  pub toggled-is : (rs : List Road) (ss ks : List ℕ) → markFor rs ss ≡ true → markFor rs ks ≡ true → marked alike rs (toggledMarks ss ks) ≡ toggled (marked alike rs ss) (marked alike rs ks)
+  pub toggled-is : (rs : List Road) (ss ks : List ℕ) → markFor rs ss ≡ true → markFor rs ks ≡ true
+      → marked alike rs (toggledMarks ss ks) ≡ toggled (marked alike rs ss) (marked alike rs ks)
   unfolding toggled
   toggled-is rs ss ks h q = fun-ext (toggled-at rs ss ks h q)
 
   empty-at : (rs : List Road) (ss : List ℕ) → isEmpty ss ≡ true → (n : Span) → marked alike rs ss n ≡ false
   empty-at [] ss h n = refl
   empty-at (r ∷ rs) [] h n = refl
-  empty-at (r ∷ rs) (s ∷ ss) h n = go (alike (r .name) n) (empty-at rs ss (and-right (eqb 0 s) (every (eqb 0) ss) h) n)
+  empty-at (r ∷ rs) (s ∷ ss) h n =
+      go (alike (r .name) n) (empty-at rs ss (and-right (eqb 0 s) (every (eqb 0) ss) h) n)
     where
       go : (b : Bool) → marked alike rs ss n ≡ false → cond b (eqb s 1) (marked alike rs ss n) ≡ false
       go true ih = ap (λ (k : ℕ). eqb k 1) (sym (eqb-true 0 s (and-left (eqb 0 s) (every (eqb 0) ss) h)))

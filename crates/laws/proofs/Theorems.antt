@@ -1,17 +1,20 @@
--- THE MAIN THEOREMS over the model, each stated in full; the proof cites where it is worked out. The last is demand 3.
+-- THE MAIN THEOREMS over the model, each stated in full; the proof cites where it is worked out. The last is
+-- demand 3.
 --
 -- Three hypotheses recur, each a test of the model's own:
 --   firstBroken (tableRules t) ≡ none          rules 1 to 8 and 10 let the tables pass: admitted tables
 --   marksFit (t .roads) marks ≡ true           rule 12: a mark, 0 or 1, for each road
 --   reversalRefusal t marks lengths ≡ none     a reversal by the marks, with outputs of these lengths, is accepted
--- reversedOnceBy marks t: the tables with what reversal by the marks writes in place of what it reads. repairedMap t: the map after repair. Each P xs: P of every element of xs. List·Memᴰ a l: a stands in l.
+-- reversedOnceBy marks t: the tables with what reversal by the marks writes in place of what it reads.
+-- repairedMap t: the map after repair. Each P xs: P of every element of xs. List·Memᴰ a l: a stands in l.
 use mathlib.Core.Path.{_≡_}
 use mathlib.Core.Bool.{Bool, true, not}
 use mathlib.Core.Option.{none}
 use mathlib.Core.List.{List, [], map, List·Memᴰ}
 use Prim.Native.Nat.{ℕ, _<_}
 use lib.ListN.{length, getD}
-use Rattle.model.specs.Calls.{listContent, repairContent, repairedMap, reversalRefusal, reversedMap, tableRules, warningWidth}
+use Rattle.model.specs.Calls.{listContent, repairContent, repairedMap, reversalRefusal, reversedMap, tableRules}
+use Rattle.model.specs.Calls.{warningWidth}
 use Rattle.model.specs.Claim.{Claim, repairedTables, reversedWarning}
 use Rattle.model.specs.Gaps.{linkGaps}
 use Rattle.model.specs.Lists.{count, isSome, member, pick}
@@ -24,7 +27,8 @@ use Rattle.model.specs.Succession.{isBoth, predecessorLists, predecessors, succ
 use Rattle.model.specs.Tables.{Tables, edgedLanesOf, isAbsent, lanesOf, mapOf, nameSize, nameStart, tablesOf}
 use Rattle.laws.proofs.Encoded.{edged-whole, map-back}
 use Rattle.laws.proofs.Looked.{listContent-looked}
-use Rattle.laws.proofs.OverTables.{gaps-over, marks-each, plain-names, predecessors-over, repaired-means, reversed-means, successors-over, warnings-over}
+use Rattle.laws.proofs.OverTables.{gaps-over, marks-each, plain-names, predecessors-over, repaired-means}
+use Rattle.laws.proofs.OverTables.{reversed-means, successors-over, warnings-over}
 use Rattle.laws.proofs.Valid.{Each}
 use Rattle.laws.proofs.WordsReversed.{fine, fine-words, modelOf}
 use Rattle.laws.proofs.Converse as conv
@@ -38,9 +42,14 @@ pub encode-decoded : (t : Tables) → firstBroken (tableRules t) ≡ none →
 unfolding modelOf
 encode-decoded t h = fine-words t (fine t h)
 
--- encode then decode: the words of a map mean that map, where a junction name's words mean absent just where it is absent, and each lane has six floats at each end
-pub decode-encoded : (text : List ℕ) (m : Map) (xs : List EdgedLane) → Each (λ (r : Road). isAbsent (nameStart (r .junction)) (nameSize (r .junction)) ≡ not (isSome (r .junction))) (m .roads) →
-    map (λ x. x .lane) xs ≡ m .lanes → Each (λ (x : EdgedLane). (length (x .atStart) ≡ 6) × (length (x .atEnd) ≡ 6)) xs →
+-- encode then decode: the words of a map mean that map, where a junction name's words mean absent just where it
+-- is absent, and each lane has six floats at each end
+pub decode-encoded : (text : List ℕ) (m : Map) (xs : List EdgedLane)
+    → Each
+    (λ (r : Road). isAbsent (nameStart (r .junction)) (nameSize (r .junction)) ≡ not (isSome (r .junction)))
+    (m .roads) →
+    map (λ x. x .lane) xs ≡ m .lanes
+    → Each (λ (x : EdgedLane). (length (x .atStart) ≡ 6) × (length (x .atEnd) ≡ 6)) xs →
     (mapOf (tablesOf text m xs) ≡ m) × (edgedLanesOf (tablesOf text m xs) ≡ xs)
 decode-encoded text m xs p e six = (map-back text m xs (plain-names (m .roads) p), edged-whole text m xs e six)
 
@@ -56,9 +65,11 @@ repair-means t h = repaired-means t (fine t h)
 
 -- ---- reversal
 -- reversal composes: by one set and then by another is once by the roads that are in just one of them
-pub reversal-composes : (t : Tables) → firstBroken (tableRules t) ≡ none → (set marks : List ℕ) → marksFit (t .roads) set ≡ true → marksFit (t .roads) marks ≡ true →
+pub reversal-composes : (t : Tables) → firstBroken (tableRules t) ≡ none → (set marks : List ℕ)
+    → marksFit (t .roads) set ≡ true → marksFit (t .roads) marks ≡ true →
     reversedOnceBy marks (reversedOnceBy set t) ≡ reversedOnceBy (toggledMarks set marks) t
-reversal-composes t h set marks p q = seq.reversed-twice t (fine t h) set marks (marks-each t (fine t h) set p) (marks-each t (fine t h) marks q)
+reversal-composes t h set marks p q =
+    seq.reversed-twice t (fine t h) set marks (marks-each t (fine t h) set p) (marks-each t (fine t h) marks q)
 
 -- the empty set changes nothing
 pub empty-changes-nothing : (t : Tables) → firstBroken (tableRules t) ≡ none → (set : List ℕ) → isEmpty set ≡ true →
@@ -66,7 +77,8 @@ pub empty-changes-nothing : (t : Tables) → firstBroken (tableRules t) ≡ none
 empty-changes-nothing t h set e = seq.empty-reversed t (fine t h) set e
 
 -- ---- what reversal leaves as it was
--- on a map reversed and then repaired every lane has the lists that it has on the map repaired, successors and predecessors, all lanes at once
+-- on a map reversed and then repaired every lane has the lists that it has on the map repaired, successors and
+-- predecessors, all lanes at once
 pub same-lists : (t : Tables) (marks lengths : List ℕ) → reversalRefusal t marks lengths ≡ none →
     (successorLists (same t) (repairedMap (reversedOnceBy marks t)) ≡ successorLists (same t) (repairedMap t))
     × (predecessorLists (same t) (repairedMap (reversedOnceBy marks t)) ≡ predecessorLists (same t) (repairedMap t))
@@ -74,12 +86,17 @@ same-lists t marks lengths q = (successors-over t marks lengths q, predecessors-
 
 -- the gap rows are the same, to the bit
 pub same-gap-rows : (t : Tables) (marks lengths : List ℕ) → reversalRefusal t marks lengths ≡ none →
-    linkGaps (edgedLanesOf (reversedOnceBy marks t)) (successorLists (same t) (repairedMap (reversedOnceBy marks t))) ≡ linkGaps (edgedLanesOf t) (successorLists (same t) (repairedMap t))
+    linkGaps (edgedLanesOf (reversedOnceBy marks t))
+    (successorLists (same t) (repairedMap (reversedOnceBy marks t)))
+    ≡ linkGaps (edgedLanesOf t) (successorLists (same t) (repairedMap t))
 same-gap-rows t marks lengths q = gaps-over t marks lengths q
 
--- repair's warnings differ only in the end of a marked road: each row has its first three words, and the fourth is the other end where the road is marked
-pub same-warnings : (t : Tables) → firstBroken (tableRules t) ≡ none → (marks : List ℕ) → marksFit (t .roads) marks ≡ true →
-    table warningWidth (repairContent (reversedOnceBy marks t) .warnings) ≡ map (reversedWarning marks) (table warningWidth (repairContent t .warnings))
+-- repair's warnings differ only in the end of a marked road: each row has its first three words, and the fourth
+-- is the other end where the road is marked
+pub same-warnings : (t : Tables) → firstBroken (tableRules t) ≡ none → (marks : List ℕ)
+    → marksFit (t .roads) marks ≡ true →
+    table warningWidth (repairContent (reversedOnceBy marks t) .warnings)
+    ≡ map (reversedWarning marks) (table warningWidth (repairContent t .warnings))
 same-warnings t h marks k = warnings-over t (fine t h) marks k
 
 -- ---- the lists
@@ -90,19 +107,24 @@ unfolding idsOnce mapOf
 converse t u a b p = conv.converse (same t) (mapOf t) u a b p
 
 -- of two two-way lanes each lists the other or neither does
-pub both-or-neither : (t : Tables) → identitiesOnce t ≡ true → (a b : Lane) → List·Memᴰ a (lanesOf t) → List·Memᴰ b (lanesOf t) → isBoth (a .direction) ≡ true → isBoth (b .direction) ≡ true →
+pub both-or-neither : (t : Tables) → identitiesOnce t ≡ true → (a b : Lane) → List·Memᴰ a (lanesOf t)
+    → List·Memᴰ b (lanesOf t) → isBoth (a .direction) ≡ true → isBoth (b .direction) ≡ true →
     member (b .identity) (successors (same t) (mapOf t) a) ≡ member (a .identity) (successors (same t) (mapOf t) b)
 unfolding idsOnce mapOf
 both-or-neither t u a b p q x y = conv.both-or-neither (same t) (mapOf t) u a b p q x y
 
 -- list lookup on what succession writes finds the lane's list, onward or before
 pub lookup-finds : (t : Tables) (row : ℕ) (before : Bool) → row < length (lanesOf t) →
-    listLookup (listContent t .successorOffsets) (listContent t .successorIds) (listContent t .predecessorOffsets) (listContent t .predecessorIds) row before
-    ≡ pick before (getD (successorLists (same t) (mapOf t)) row []) (getD (predecessorLists (same t) (mapOf t)) row [])
+    listLookup (listContent t .successorOffsets) (listContent t .successorIds)
+    (listContent t .predecessorOffsets) (listContent t .predecessorIds) row before
+    ≡ pick before (getD (successorLists (same t) (mapOf t)) row [])
+    (getD (predecessorLists (same t) (mapOf t)) row [])
 lookup-finds t row before h = listContent-looked t row before h
 
 -- ---- DEMAND 3
--- THE CLAIM HOLDS of every sequence of reversal calls on every tables, refused ones included, with outputs of any content and length. The model's specs/Claim.antt says it part by part: each answer, the tables,
--- the set, one reversal at once, repair's answer and warnings, the same lists and gap rows, and that the lists are each other's converse.
+-- THE CLAIM HOLDS of every sequence of reversal calls on every tables, refused ones included, with outputs of
+-- any content and length. The model's specs/Claim.antt says it part by part: each answer, the tables,
+-- the set, one reversal at once, repair's answer and warnings, the same lists and gap rows, and that the lists
+-- are each other's converse.
 pub every-sequence : (t : Tables) (cs : List Call) → Claim t cs
 every-sequence t cs = demand3.every-sequence t cs

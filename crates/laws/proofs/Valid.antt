@@ -1,4 +1,5 @@
--- The notions that the laws are stated with: what a map must be for its reversal to mean anything, sets of roads as tests on names, and a map with its edges.
+-- The notions that the laws are stated with: what a map must be for its reversal to mean anything, sets of
+-- roads as tests on names, and a map with its edges.
 use mathlib.Core.Path.{_≡_}
 use mathlib.Core.Bool.{Bool, true, false, not, _&&_, _||_}
 use mathlib.Core.List.{List, [], _∷_, map}
@@ -47,7 +48,10 @@ Reversible same mk m = Each (λ j. isDirect (j .kind) ≡ true → Single same m
 
 -- the same, as a test by junctions
 unfoldable pub noneTwice : (Span → Span → Bool) → (Span → Bool) → Map → Bool
-noneTwice same mk m = every (λ j. not (isDirect (j .kind)) || every (λ r. not (mk (r .name) && namesTwice same (j .name) r)) (m .roads)) (m .junctions)
+noneTwice same mk m =
+    every
+    (λ j. not (isDirect (j .kind)) || every (λ r. not (mk (r .name) && namesTwice same (j .name) r)) (m .roads))
+    (m .junctions)
 
 -- rule 13 on the pairs of a junction
 unfoldable pub junctionFine : Junction → Bool
@@ -75,4 +79,5 @@ pub record Model : Type 0 where
 
 -- and reversed
 unfoldable pub reverseModel : (Span → Span → Bool) → (Span → Bool) → Model → Model
-reverseModel same mk x = record { map = reverseMap same mk (x .map); edged = map (reverseEdged same mk (x .map .roads)) (x .edged) }
+reverseModel same mk x =
+    record { map = reverseMap same mk (x .map); edged = map (reverseEdged same mk (x .map .roads)) (x .edged) }

@@ -1,4 +1,5 @@
--- Reversal at the word level: what a reversed map's words are, that the rules judge them as the map's, and what an accepted call leaves.
+-- Reversal at the word level: what a reversed map's words are, that the rules judge them as the map's, and what
+-- an accepted call leaves.
 use mathlib.Core.Path.{_≡_, refl, sym, _∙_, ap, ap₂}
 use mathlib.Core.Bool.{Bool, true, _&&_}
 use mathlib.Core.Option.{none, some}
@@ -8,23 +9,32 @@ use native.Mathlib.Nat.{mul-div-cancel}
 use native.Mathlib.Omega.{arith}
 use lib.Dec.{leb}
 use lib.ListN.{length, getD, length-map}
-use Rattle.model.specs.Calls.{ReversalOutputs, laneRules, longEnough, markRules, putReversed, reversalCall, reversalContent, reversalCounts, reversalLengths, reversalRefusal, reversalRules, rulesTo5, settled, tableRules}
+use Rattle.model.specs.Calls.{ReversalOutputs, laneRules, longEnough, markRules, putReversed, reversalCall}
+use Rattle.model.specs.Calls.{reversalContent, reversalCounts, reversalLengths, reversalRefusal, reversalRules}
+use Rattle.model.specs.Calls.{rulesTo5, settled, tableRules}
 use Rattle.model.specs.Lists.{every, gather}
 use Rattle.model.specs.Records.{Connection, EdgedLane, Junction, Lane, Map, Road, Span}
-use Rattle.model.specs.Reversal.{marked, reverseConnection, reverseEdged, reverseJunction, reverseLane, reverseMap, reverseRoad}
+use Rattle.model.specs.Reversal.{marked, reverseConnection, reverseEdged, reverseJunction, reverseLane}
+use Rattle.model.specs.Reversal.{reverseMap, reverseRoad}
 use Rattle.model.specs.Rows.{rowsFrom}
-use Rattle.model.specs.Rules.{Rule, edgesSized, firstBroken, fits, laneFine, lanesSized, mapSized, numbersFine, oneEnded, oneEndedIn, pairFine, rule, sized}
+use Rattle.model.specs.Rules.{Rule, edgesSized, firstBroken, fits, laneFine, lanesSized, mapSized, numbersFine}
+use Rattle.model.specs.Rules.{oneEnded, oneEndedIn, pairFine, rule, sized}
 use Rattle.model.specs.Sequence.{Call, after, next, reversedOnceBy, reversedRows, withReversed}
-use Rattle.model.specs.Tables.{Tables, allConnections, allPairs, connectionRow, connectionWords, edgeRow, edgeWords, edgedLanesOf, junctionRow, junctionWords, kindWord, laneRow, laneWords, mapOf, pairRow, pairWords, pairsIn, roadRow, roadWords, sectionWords, tablesOf}
+use Rattle.model.specs.Tables.{Tables, allConnections, allPairs, connectionRow, connectionWords, edgeRow}
+use Rattle.model.specs.Tables.{edgeWords, edgedLanesOf, junctionRow, junctionWords, kindWord, laneRow}
+use Rattle.model.specs.Tables.{laneWords, mapOf, pairRow, pairWords, pairsIn, roadRow, roadWords, sectionWords}
+use Rattle.model.specs.Tables.{tablesOf}
 use Rattle.model.specs.Text.{sameIn}
 use Rattle.laws.proofs.Admitted.{Whole, forth, is-sound, whole}
 use Rattle.laws.proofs.ByBytes.{alike-in}
 use Rattle.laws.proofs.Decoded.{and3}
-use Rattle.laws.proofs.Encoded.{Six, connection-width, edge-width, junction-width, lane-width, pair-width, pairs-back, road-width}
+use Rattle.laws.proofs.Encoded.{Six, connection-width, edge-width, junction-width, lane-width}
+use Rattle.laws.proofs.Encoded.{pair-width, pairs-back, road-width}
 use Rattle.laws.proofs.ForEach.{each, each-map}
 use Rattle.laws.proofs.Lay.{length-even, length-rowsFrom, take-written}
 use Rattle.laws.proofs.MarkRules.{ends-form, marks-form, pairs-form}
-use Rattle.laws.proofs.RulesReversed.{all-pass, broken-append, ends-reversed, marked-steady, marks-reversed, numbers-reversed, pass-all, sizes, sizes-reversed}
+use Rattle.laws.proofs.RulesReversed.{all-pass, broken-append, ends-reversed, marked-steady}
+use Rattle.laws.proofs.RulesReversed.{marks-reversed, numbers-reversed, pass-all, sizes, sizes-reversed}
 use Rattle.laws.proofs.SoundMaps.{Passed, Sound, is-edged, is-junctions, is-lanes, is-map, is-roads, passed}
 use Rattle.laws.proofs.StaySound.{sound-reversed}
 use Rattle.laws.proofs.Valid.{Each, Model, Steady, junctionFine, markFor, noneTwice, reverseModel}
@@ -43,7 +53,10 @@ pub record Even (t u : Tables) : Type 0 where
 module _ (t u : Tables) (e : Even t u) where
   pub mapSized-even : (most : ℕ) → mapSized most t ≡ mapSized most u
   unfolding mapSized
-  mapSized-even most = λ i. leb (e .text i) 1048576 && sized 20 16384 (e .roads i) && sized 1 16384 (e .sections i) && sized 5 16384 (e .junctions i) && sized 7 most (e .connections i) && sized 2 most (e .pairs i)
+  mapSized-even most =
+      λ i.
+      leb (e .text i) 1048576 && sized 20 16384 (e .roads i) && sized 1 16384 (e .sections i) && sized 5 16384
+      (e .junctions i) && sized 7 most (e .connections i) && sized 2 most (e .pairs i)
 
   pub lanesSized-even : lanesSized t ≡ lanesSized u
   unfolding lanesSized
@@ -87,56 +100,85 @@ pub length-edges : (xs : List EdgedLane) → Each Six xs → length (edgeWords x
 unfolding edgeWords
 length-edges xs h = length-even 12 edgeRow xs (each-map edge-width xs h)
 
-pub even-tables : (text : List ℕ) (m n : Map) (xs ys : List EdgedLane) → Each Six xs → Each Six ys → Counted m n xs ys → Even (tablesOf text m xs) (tablesOf text n ys)
+pub even-tables : (text : List ℕ) (m n : Map) (xs ys : List EdgedLane) → Each Six xs → Each Six ys
+    → Counted m n xs ys → Even (tablesOf text m xs) (tablesOf text n ys)
 unfolding tablesOf
 even-tables text m n xs ys p q c = record {
   text = refl;
   roads = length-roads (m .roads) ∙ ap (λ (k : ℕ). k * 20) (c .roads) ∙ sym (length-roads (n .roads));
   sections = c .sections;
-  junctions = length-junctions (m .junctions) ∙ ap (λ (k : ℕ). k * 5) (c .junctions) ∙ sym (length-junctions (n .junctions));
-  connections = length-connections (m .junctions) ∙ ap (λ (k : ℕ). k * 7) (c .connections) ∙ sym (length-connections (n .junctions));
+  junctions = length-junctions (m .junctions)
+      ∙ ap (λ (k : ℕ). k * 5) (c .junctions)
+      ∙ sym (length-junctions (n .junctions));
+  connections = length-connections (m .junctions)
+      ∙ ap (λ (k : ℕ). k * 7) (c .connections)
+      ∙ sym (length-connections (n .junctions));
   pairs = length-pairs (m .junctions) ∙ ap (λ (k : ℕ). k * 2) (c .pairs) ∙ sym (length-pairs (n .junctions));
   lanes = length-lanes (m .lanes) ∙ ap (λ (k : ℕ). k * 10) (c .lanes) ∙ sym (length-lanes (n .lanes));
   edges = length-edges xs p ∙ ap (λ (k : ℕ). k * 12) (c .ends) ∙ sym (length-edges ys q);
 }
 
-pub gather-append : {A B : Type 0} (f : A → List B) (xs ys : List A) → gather f (xs ++ ys) ≡ gather f xs ++ gather f ys
+pub gather-append : {A B : Type 0} (f : A → List B) (xs ys : List A)
+    → gather f (xs ++ ys) ≡ gather f xs ++ gather f ys
 gather-append f [] ys = refl
-gather-append {B = B} f (x ∷ xs) ys = ap (λ (l : List B). f x ++ l) (gather-append f xs ys) ∙ sym (append-assoc (f x) (gather f xs) (gather f ys))
+gather-append {B = B} f (x ∷ xs) ys =
+    ap (λ (l : List B). f x ++ l) (gather-append f xs ys) ∙ sym (append-assoc (f x) (gather f xs) (gather f ys))
 
-pub gather-gather : {A B C : Type 0} (f : A → List B) (g : B → List C) (xs : List A) → gather g (gather f xs) ≡ gather (λ x. gather g (f x)) xs
+pub gather-gather : {A B C : Type 0} (f : A → List B) (g : B → List C) (xs : List A)
+    → gather g (gather f xs) ≡ gather (λ x. gather g (f x)) xs
 gather-gather f g [] = refl
-gather-gather {C = C} f g (x ∷ xs) = gather-append g (f x) (gather f xs) ∙ ap (λ (l : List C). gather g (f x) ++ l) (gather-gather f g xs)
+gather-gather {C = C} f g (x ∷ xs) =
+    gather-append g (f x) (gather f xs) ∙ ap (λ (l : List C). gather g (f x) ++ l) (gather-gather f g xs)
 
 pub allPairs-nested : (js : List Junction) → allPairs js ≡ gather (λ j. gather (λ c. c .pairs) (j .connections)) js
 unfolding allPairs allConnections
 allPairs-nested js = gather-gather (λ j. j .connections) (λ c. c .pairs) js
 
-pub counted-reversed : (alike : Span → Span → Bool) (s : Span → Bool) (m : Map) (xs : List EdgedLane) → Counted (reverseMap alike s m) m (map (reverseEdged alike s (m .roads)) xs) xs
+pub counted-reversed : (alike : Span → Span → Bool) (s : Span → Bool) (m : Map) (xs : List EdgedLane)
+    → Counted (reverseMap alike s m) m (map (reverseEdged alike s (m .roads)) xs) xs
 counted-reversed alike s m xs = record {
   roads = at 0;
   sections = (unfold sectionWords in at 1);
   junctions = (unfold reverseMap in length-map (m .junctions) (reverseJunction s));
   connections = (unfold allConnections in at 2);
-  pairs = ap length (allPairs-nested (reverseMap alike s m .junctions)) ∙ at 3 ∙ sym (ap length (allPairs-nested (m .junctions)));
+  pairs = ap length (allPairs-nested (reverseMap alike s m .junctions))
+      ∙ at 3
+      ∙ sym (ap length (allPairs-nested (m .junctions)));
   lanes = at 4;
   ends = length-map xs (reverseEdged alike s (m .roads));
 }
   where
-    at : (k : ℕ) → getD (length (reverseMap alike s m .roads) ∷ length (gather (λ (r : Road). r .sections) (reverseMap alike s m .roads)) ∷ length (gather (λ (j : Junction). j .connections) (reverseMap alike s m .junctions))
-        ∷ length (gather (λ (j : Junction). gather (λ (c : Connection). c .pairs) (j .connections)) (reverseMap alike s m .junctions)) ∷ length (reverseMap alike s m .lanes) ∷ length (reverseMap alike s m .lanes) ∷ []) k 0
-        ≡ getD (length (m .roads) ∷ length (gather (λ (r : Road). r .sections) (m .roads)) ∷ length (gather (λ (j : Junction). j .connections) (m .junctions))
-        ∷ length (gather (λ (j : Junction). gather (λ (c : Connection). c .pairs) (j .connections)) (m .junctions)) ∷ length (m .lanes) ∷ length (m .lanes) ∷ []) k 0
+    at : (k : ℕ)
+        → getD (length (reverseMap alike s m .roads)
+        ∷ length (gather (λ (r : Road). r .sections) (reverseMap alike s m .roads))
+        ∷ length (gather (λ (j : Junction). j .connections) (reverseMap alike s m .junctions))
+        ∷ length (gather (λ (j : Junction). gather (λ (c : Connection). c .pairs) (j .connections))
+        (reverseMap alike s m .junctions)) ∷ length (reverseMap alike s m .lanes)
+        ∷ length (reverseMap alike s m .lanes) ∷ []) k 0
+        ≡ getD (length (m .roads) ∷ length (gather (λ (r : Road). r .sections) (m .roads))
+        ∷ length (gather (λ (j : Junction). j .connections) (m .junctions))
+        ∷ length
+        (gather (λ (j : Junction). gather (λ (c : Connection). c .pairs) (j .connections)) (m .junctions))
+        ∷ length (m .lanes) ∷ length (m .lanes) ∷ []) k 0
     at k = unfold sizes in ap (λ (l : List ℕ). getD l k 0) (sizes-reversed alike s m)
 
 -- ---- the junction table of a reversed map
-junction-rows : (s : Span → Bool) (i : ℕ) (js : List Junction) → rowsFrom junctionRow (λ j. j .connections) i (map (reverseJunction s) js) ≡ rowsFrom junctionRow (λ j. j .connections) i js
+junction-rows : (s : Span → Bool) (i : ℕ) (js : List Junction)
+    → rowsFrom junctionRow (λ j. j .connections) i (map (reverseJunction s) js)
+    ≡ rowsFrom junctionRow (λ j. j .connections) i js
 unfolding reverseJunction junctionRow
 junction-rows s i [] = refl
-junction-rows s i (j ∷ js) = λ k. (j .name .start ∷ j .name .size ∷ kindWord (j .kind) ∷ i ∷ length-map (j .connections) (reverseConnection s) k ∷ [])
-    ++ (ap (λ (n : ℕ). rowsFrom junctionRow (λ (j : Junction). j .connections) (i + n) (map (reverseJunction s) js)) (length-map (j .connections) (reverseConnection s)) ∙ junction-rows s (i + length (j .connections)) js) k
+junction-rows s i (j ∷ js) =
+    λ k.
+    (j .name .start ∷ j .name .size ∷ kindWord (j .kind) ∷ i
+    ∷ length-map (j .connections) (reverseConnection s) k ∷ [])
+    ++ (ap
+    (λ (n : ℕ). rowsFrom junctionRow (λ (j : Junction). j .connections) (i + n) (map (reverseJunction s) js))
+    (length-map (j .connections) (reverseConnection s))
+    ∙ junction-rows s (i + length (j .connections)) js) k
 
-pub junctionWords-reversed : (s : Span → Bool) (js : List Junction) → junctionWords (map (reverseJunction s) js) ≡ junctionWords js
+pub junctionWords-reversed : (s : Span → Bool) (js : List Junction)
+    → junctionWords (map (reverseJunction s) js) ≡ junctionWords js
 unfolding junctionWords
 junctionWords-reversed s js = junction-rows s 0 js
 
@@ -147,26 +189,43 @@ wordsOf text x = tablesOf text (x .map) (x .edged)
 abbrev pub SoundModel : List ℕ → Model → Type 0
 SoundModel text x = Sound text (x .map) (x .edged)
 
-pub sound-model : (text : List ℕ) (s : Span → Bool) → Steady (sameIn text) s → (x : Model) → SoundModel text x → SoundModel text (reverseModel (sameIn text) s x)
+pub sound-model : (text : List ℕ) (s : Span → Bool) → Steady (sameIn text) s → (x : Model) → SoundModel text x
+    → SoundModel text (reverseModel (sameIn text) s x)
 unfolding reverseModel
 sound-model text s S x h = sound-reversed text s S (x .map) (x .edged) h
 
-pub even-model : (text : List ℕ) (s : Span → Bool) → Steady (sameIn text) s → (x : Model) → SoundModel text x → Even (wordsOf text (reverseModel (sameIn text) s x)) (wordsOf text x)
+pub even-model : (text : List ℕ) (s : Span → Bool) → Steady (sameIn text) s → (x : Model) → SoundModel text x
+    → Even (wordsOf text (reverseModel (sameIn text) s x)) (wordsOf text x)
 unfolding reverseModel
-even-model text s S x h = even-tables text (reverseMap (sameIn text) s (x .map)) (x .map) (map (reverseEdged (sameIn text) s (x .map .roads)) (x .edged)) (x .edged)
-    (sound-reversed text s S (x .map) (x .edged) h .six) (h .six) (counted-reversed (sameIn text) s (x .map) (x .edged))
+even-model text s S x h =
+    even-tables text (reverseMap (sameIn text) s (x .map)) (x .map)
+    (map (reverseEdged (sameIn text) s (x .map .roads)) (x .edged)) (x .edged)
+    (sound-reversed text s S (x .map) (x .edged) h .six) (h .six)
+    (counted-reversed (sameIn text) s (x .map) (x .edged))
 
 -- the roads that marks name on a map
 abbrev pub named : List ℕ → Model → List ℕ → Span → Bool
 named text x marks = marked (sameIn text) (x .map .roads) marks
 
 unfoldable pub reversedOf : Model → ReversalOutputs
-reversedOf y = record { roads = roadWords (y .map .roads); sections = sectionWords (y .map .roads); connections = connectionWords (y .map .junctions); pairs = pairWords (y .map .junctions); lanes = laneWords (y .map .lanes); edges = edgeWords (y .edged) }
+reversedOf y =
+    record {
+      roads = roadWords (y .map .roads);
+      sections = sectionWords (y .map .roads);
+      connections = connectionWords (y .map .junctions);
+      pairs = pairWords (y .map .junctions);
+      lanes = laneWords (y .map .lanes);
+      edges = edgeWords (y .edged);
+    }
 
 module _ (text : List ℕ) (x : Model) (h : SoundModel text x) (marks : List ℕ) where
-  pub content-is : reversalContent (wordsOf text x) marks ≡ reversedOf (reverseModel (sameIn text) (named text x marks) x)
+  pub content-is : reversalContent (wordsOf text x) marks
+      ≡ reversedOf (reverseModel (sameIn text) (named text x marks) x)
   unfolding reversalContent reversedOf reverseModel tablesOf
-  content-is = λ i. from (is-map text (x .map) (x .edged) h i) (is-roads text (x .map) (x .edged) h i) (is-edged text (x .map) (x .edged) h i)
+  content-is =
+      λ i.
+      from (is-map text (x .map) (x .edged) h i) (is-roads text (x .map) (x .edged) h i)
+      (is-edged text (x .map) (x .edged) h i)
     where
       from : Map → List Road → List EdgedLane → ReversalOutputs
       from m rs ys = record {
@@ -179,7 +238,8 @@ module _ (text : List ℕ) (x : Model) (h : SoundModel text x) (marks : List ℕ
       }
 
   -- reversal by marks, as words
-  pub reversedOnceBy-is : reversedOnceBy marks (wordsOf text x) ≡ wordsOf text (reverseModel (sameIn text) (named text x marks) x)
+  pub reversedOnceBy-is : reversedOnceBy marks (wordsOf text x)
+      ≡ wordsOf text (reverseModel (sameIn text) (named text x marks) x)
   unfolding reversedOnceBy
   reversedOnceBy-is = ap (withReversed (wordsOf text x)) content-is ∙ (unfold withReversed reversedOf tablesOf reverseModel reverseMap in λ i. record {
     text = text;
@@ -205,10 +265,28 @@ fine t h =
 
 pub fine-rules : (t : Tables) → Fine t → firstBroken (tableRules t) ≡ none
 unfolding tableRules rulesTo5 laneRules
-fine-rules t f = pass-all (tableRules t) (f .sizes, (f .rest .worded, (f .rest .once, (f .rest .sections, (f .rest .connections, (f .rest .identities, (f .rest .listed, (f .rest .keys, (f .rest .edges, tt)))))))))
+fine-rules t f =
+    pass-all (tableRules t) (
+      f .sizes,
+      (
+        f .rest .worded,
+        (
+          f .rest .once,
+          (
+            f .rest .sections,
+            (
+              f .rest .connections,
+              (f .rest .identities, (f .rest .listed, (f .rest .keys, (f .rest .edges, tt)))),
+            ),
+          ),
+        ),
+      ),
+    )
 
 pub fine-whole : (t : Tables) → Fine t → Whole t
-fine-whole t f = let w = and3 (mapSized 16384 t) (lanesSized t) (edgesSized t) (f .sizes) in whole 16384 t (w .0) (w .1) (w .2)
+fine-whole t f =
+    let w = and3 (mapSized 16384 t) (lanesSized t) (edgesSized t) (f .sizes) in
+    whole 16384 t (w .0) (w .1) (w .2)
 
 -- tables that pass are the words of a sound map
 unfoldable pub modelOf : Tables → Model
@@ -224,7 +302,9 @@ fine-words t f = forth t (fine-whole t f) (f .rest)
 
 -- ---- rules 12 to 14 and 9
 unfoldable pub sixLengths : Tables → List ℕ
-sixLengths t = length (t .roads) ∷ length (t .sections) ∷ length (t .connections) ∷ length (t .pairs) ∷ length (t .lanes) ∷ length (t .edges) ∷ []
+sixLengths t =
+    length (t .roads) ∷ length (t .sections) ∷ length (t .connections) ∷ length (t .pairs) ∷ length (t .lanes)
+    ∷ length (t .edges) ∷ []
 
 pub six-even : (t u : Tables) → Even t u → sixLengths t ≡ sixLengths u
 unfolding sixLengths
@@ -235,71 +315,102 @@ unfolding sixLengths reversalLengths reversedOf tablesOf
 six-of text y = refl
 
 unfoldable pub modelRules : List ℕ → Model → List ℕ → List ℕ → List Rule
-modelRules text x marks lengths = rule 12 (markFor (x .map .roads) marks) ∷ rule 13 (every laneFine (x .map .lanes) && every junctionFine (x .map .junctions))
-    ∷ rule 14 (noneTwice (sameIn text) (named text x marks) (x .map)) ∷ rule 9 (fits (sixLengths (wordsOf text x)) lengths) ∷ []
+modelRules text x marks lengths =
+    rule 12 (markFor (x .map .roads) marks)
+    ∷ rule 13 (every laneFine (x .map .lanes) && every junctionFine (x .map .junctions))
+    ∷ rule 14 (noneTwice (sameIn text) (named text x marks) (x .map))
+    ∷ rule 9 (fits (sixLengths (wordsOf text x)) lengths) ∷ []
 
 -- 12 to 14 and 9 of a call, and that the call's rules are those on the tables and then these
 unfoldable pub callRules : Tables → (marks lengths : List ℕ) → List Rule
 callRules t marks lengths = markRules t marks ++ longEnough (reversalLengths (reversalContent t marks)) lengths
 
-pub refusal-split : (t : Tables) (marks lengths : List ℕ) → reversalRefusal t marks lengths ≡ firstBroken (tableRules t ++ callRules t marks lengths)
+pub refusal-split : (t : Tables) (marks lengths : List ℕ)
+    → reversalRefusal t marks lengths ≡ firstBroken (tableRules t ++ callRules t marks lengths)
 unfolding reversalRefusal reversalRules callRules tableRules rulesTo5 laneRules
 refusal-split t marks lengths = refl
 
 module _ (text : List ℕ) (x : Model) (h : SoundModel text x) (marks : List ℕ) where
   pub lengths-are : reversalLengths (reversalContent (wordsOf text x) marks) ≡ sixLengths (wordsOf text x)
-  lengths-are = ap reversalLengths (content-is text x h marks) ∙ six-of text (reverseModel (sameIn text) (named text x marks) x)
-      ∙ six-even (wordsOf text (reverseModel (sameIn text) (named text x marks) x)) (wordsOf text x) (even-model text (named text x marks) (marked-steady (sameIn text) (alike-in text) (x .map .roads) marks) x h)
+  lengths-are =
+      ap reversalLengths (content-is text x h marks)
+      ∙ six-of text (reverseModel (sameIn text) (named text x marks) x)
+      ∙ six-even (wordsOf text (reverseModel (sameIn text) (named text x marks) x)) (wordsOf text x)
+      (even-model text (named text x marks) (marked-steady (sameIn text) (alike-in text) (x .map .roads) marks)
+      x h)
 
   pub callRules-are : (lengths : List ℕ) → callRules (wordsOf text x) marks lengths ≡ modelRules text x marks lengths
   unfolding callRules markRules modelRules numbersFine tablesOf
   callRules-are lengths = λ i.
       rule 12 (marks-form (x .map .roads) marks (length-roads (x .map .roads)) i)
-      ∷ rule 13 ((ap₂ (λ ls ps. every laneFine ls && every pairFine ps) (is-lanes text (x .map) (x .edged) h) pairs-are ∙ ap (λ b. every laneFine (x .map .lanes) && b) (pairs-form (x .map .junctions))) i)
+      ∷ rule 13 ((ap₂ (λ ls ps. every laneFine ls && every pairFine ps) (is-lanes text (x .map) (x .edged) h) pairs-are
+      ∙ ap (λ b. every laneFine (x .map .lanes) && b) (pairs-form (x .map .junctions))) i)
       ∷ rule 14 ((ends-are ∙ ends-form (sameIn text) (named text x marks) (x .map)) i)
       ∷ rule 9 (fits (lengths-are i) lengths) ∷ []
     where
       pairs-are : pairsIn (pairWords (x .map .junctions)) ≡ allPairs (x .map .junctions)
       pairs-are = unfold pairsIn in pairs-back (x .map .junctions)
 
-      ends-are : oneEnded (wordsOf text x) marks ≡ oneEndedIn (sameIn text) (named text x marks) (x .map .junctions) (x .map .roads)
-      ends-are = unfold tablesOf in ap₂ (λ js rs. oneEndedIn (sameIn text) (marked (sameIn text) rs marks) js rs) (is-junctions text (x .map) (x .edged) h) (is-roads text (x .map) (x .edged) h)
+      ends-are : oneEnded (wordsOf text x) marks
+          ≡ oneEndedIn (sameIn text) (named text x marks) (x .map .junctions) (x .map .roads)
+      ends-are =
+          unfold tablesOf in ap₂ (λ js rs. oneEndedIn (sameIn text) (marked (sameIn text) rs marks) js rs)
+          (is-junctions text (x .map) (x .edged) h) (is-roads text (x .map) (x .edged) h)
 
-pub modelRules-reversed : (text : List ℕ) (s : Span → Bool) → Steady (sameIn text) s → (x : Model) → SoundModel text x → (marks lengths : List ℕ) →
+pub modelRules-reversed : (text : List ℕ) (s : Span → Bool) → Steady (sameIn text) s → (x : Model)
+    → SoundModel text x → (marks lengths : List ℕ) →
     modelRules text (reverseModel (sameIn text) s x) marks lengths ≡ modelRules text x marks lengths
 unfolding modelRules
 modelRules-reversed text s S x h marks lengths = λ i.
     rule 12 (at12 i) ∷ rule 13 (at13 i) ∷ rule 14 (at14 i)
-    ∷ rule 9 (ap (λ l. fits l lengths) (six-even (wordsOf text (reverseModel (sameIn text) s x)) (wordsOf text x) (even-model text s S x h)) i) ∷ []
+    ∷ rule 9 (ap (λ l. fits l lengths)
+    (six-even (wordsOf text (reverseModel (sameIn text) s x)) (wordsOf text x) (even-model text s S x h)) i)
+    ∷ []
   where
     at12 : markFor (reverseModel (sameIn text) s x .map .roads) marks ≡ markFor (x .map .roads) marks
     at12 = unfold reverseModel in marks-reversed (sameIn text) s (x .map) marks
 
-    at13 : every laneFine (reverseModel (sameIn text) s x .map .lanes) && every junctionFine (reverseModel (sameIn text) s x .map .junctions) ≡ every laneFine (x .map .lanes) && every junctionFine (x .map .junctions)
+    at13 : every laneFine (reverseModel (sameIn text) s x .map .lanes) && every junctionFine
+        (reverseModel (sameIn text) s x .map .junctions)
+        ≡ every laneFine (x .map .lanes) && every junctionFine (x .map .junctions)
     at13 = unfold reverseModel in numbers-reversed (sameIn text) s (x .map)
 
-    at14 : noneTwice (sameIn text) (named text (reverseModel (sameIn text) s x) marks) (reverseModel (sameIn text) s x .map) ≡ noneTwice (sameIn text) (named text x marks) (x .map)
+    at14 : noneTwice (sameIn text) (named text (reverseModel (sameIn text) s x) marks)
+        (reverseModel (sameIn text) s x .map) ≡ noneTwice (sameIn text) (named text x marks) (x .map)
     at14 = unfold reverseModel in ends-reversed (sameIn text) s (x .map) marks
 
 -- ---- a sound map that passes, reversed
-module _ (text : List ℕ) (s : Span → Bool) (S : Steady (sameIn text) s) (x : Model) (h : SoundModel text x) (f : Fine (wordsOf text x)) where
+module _ (text : List ℕ) (s : Span → Bool) (S : Steady (sameIn text) s) (x : Model) (h : SoundModel text x)
+    (f : Fine (wordsOf text x)) where
   pub fine-reversed : Fine (wordsOf text (reverseModel (sameIn text) s x))
   fine-reversed = record {
-    sizes = ap₂ (λ a b. a && b) (ap₂ (λ a b. a && b) (mapSized-even (wordsOf text (reverseModel (sameIn text) s x)) (wordsOf text x) e 16384) (lanesSized-even (wordsOf text (reverseModel (sameIn text) s x)) (wordsOf text x) e))
+    sizes =
+        ap₂ (λ a b. a && b) (ap₂ (λ a b. a && b)
+        (mapSized-even (wordsOf text (reverseModel (sameIn text) s x)) (wordsOf text x) e 16384)
+        (lanesSized-even (wordsOf text (reverseModel (sameIn text) s x)) (wordsOf text x) e))
         (edgesSized-even (wordsOf text (reverseModel (sameIn text) s x)) (wordsOf text x) e) ∙ f .sizes;
-    rest = passed text (reverseModel (sameIn text) s x .map) (reverseModel (sameIn text) s x .edged) (sound-model text s S x h);
+    rest = passed text (reverseModel (sameIn text) s x .map) (reverseModel (sameIn text) s x .edged)
+        (sound-model text s S x h);
   }
     where
       e : Even (wordsOf text (reverseModel (sameIn text) s x)) (wordsOf text x)
       e = even-model text s S x h
 
   -- a call is refused on the reversed map as on the map
-  pub refusal-reversed : (marks lengths : List ℕ) → reversalRefusal (wordsOf text (reverseModel (sameIn text) s x)) marks lengths ≡ reversalRefusal (wordsOf text x) marks lengths
+  pub refusal-reversed : (marks lengths : List ℕ)
+      → reversalRefusal (wordsOf text (reverseModel (sameIn text) s x)) marks lengths
+      ≡ reversalRefusal (wordsOf text x) marks lengths
   refusal-reversed marks lengths =
       refusal-split (wordsOf text (reverseModel (sameIn text) s x)) marks lengths
-      ∙ broken-append (tableRules (wordsOf text (reverseModel (sameIn text) s x))) (callRules (wordsOf text (reverseModel (sameIn text) s x)) marks lengths) (fine-rules (wordsOf text (reverseModel (sameIn text) s x)) fine-reversed)
-      ∙ ap firstBroken (callRules-are text (reverseModel (sameIn text) s x) (sound-model text s S x h) marks lengths ∙ modelRules-reversed text s S x h marks lengths ∙ sym (callRules-are text x h marks lengths))
-      ∙ sym (broken-append (tableRules (wordsOf text x)) (callRules (wordsOf text x) marks lengths) (fine-rules (wordsOf text x) f))
+      ∙ broken-append (tableRules (wordsOf text (reverseModel (sameIn text) s x)))
+      (callRules (wordsOf text (reverseModel (sameIn text) s x)) marks lengths)
+      (fine-rules (wordsOf text (reverseModel (sameIn text) s x)) fine-reversed)
+      ∙ ap firstBroken (callRules-are text (reverseModel (sameIn text) s x) (sound-model text s S x h) marks
+      lengths
+      ∙ modelRules-reversed text s S x h marks lengths
+      ∙ sym (callRules-are text x h marks lengths))
+      ∙ sym (broken-append (tableRules (wordsOf text x)) (callRules (wordsOf text x) marks lengths)
+      (fine-rules (wordsOf text x) f))
       ∙ sym (refusal-split (wordsOf text x) marks lengths)
 
 -- ---- what a call leaves
@@ -310,32 +421,61 @@ module _ (text : List ℕ) (y : Model) (six : Each Six (y .edged)) (o : Reversal
   pub rows-back : reversedRows (reversalCounts (reversedOf y)) (putReversed (reversedOf y) o) ≡ reversedOf y
   unfolding reversedRows reversalCounts putReversed reversedOf
   rows-back = λ i. record {
-    roads = take-written (roadWords (y .map .roads)) (o .roads) (length (roadWords (y .map .roads)) / 20 * 20) (whole-count 20 (length (roadWords (y .map .roads))) (length (y .map .roads)) (omega arith) (length-roads (y .map .roads))) i;
-    sections = take-written (sectionWords (y .map .roads)) (o .sections) (length (sectionWords (y .map .roads))) refl i;
-    connections = take-written (connectionWords (y .map .junctions)) (o .connections) (length (connectionWords (y .map .junctions)) / 7 * 7) (whole-count 7 (length (connectionWords (y .map .junctions))) (length (allConnections (y .map .junctions))) (omega arith) (length-connections (y .map .junctions))) i;
-    pairs = take-written (pairWords (y .map .junctions)) (o .pairs) (length (pairWords (y .map .junctions)) / 2 * 2) (whole-count 2 (length (pairWords (y .map .junctions))) (length (allPairs (y .map .junctions))) (omega arith) (length-pairs (y .map .junctions))) i;
-    lanes = take-written (laneWords (y .map .lanes)) (o .lanes) (length (laneWords (y .map .lanes)) / 10 * 10) (whole-count 10 (length (laneWords (y .map .lanes))) (length (y .map .lanes)) (omega arith) (length-lanes (y .map .lanes))) i;
-    edges = take-written (edgeWords (y .edged)) (o .edges) (length (edgeWords (y .edged)) / 12 * 12) (whole-count 12 (length (edgeWords (y .edged))) (length (y .edged)) (omega arith) (length-edges (y .edged) six)) i;
+    roads = take-written (roadWords (y .map .roads)) (o .roads) (length (roadWords (y .map .roads)) / 20 * 20)
+        (whole-count 20 (length (roadWords (y .map .roads))) (length (y .map .roads)) (omega arith)
+        (length-roads (y .map .roads))) i;
+    sections = take-written (sectionWords (y .map .roads)) (o .sections) (length (sectionWords (y .map .roads)))
+        refl i;
+    connections = take-written (connectionWords (y .map .junctions)) (o .connections)
+        (length (connectionWords (y .map .junctions)) / 7 * 7)
+        (whole-count 7 (length (connectionWords (y .map .junctions))) (length (allConnections (y .map .junctions)))
+        (omega arith) (length-connections (y .map .junctions))) i;
+    pairs = take-written (pairWords (y .map .junctions)) (o .pairs)
+        (length (pairWords (y .map .junctions)) / 2 * 2)
+        (whole-count 2 (length (pairWords (y .map .junctions))) (length (allPairs (y .map .junctions)))
+        (omega arith) (length-pairs (y .map .junctions))) i;
+    lanes = take-written (laneWords (y .map .lanes)) (o .lanes) (length (laneWords (y .map .lanes)) / 10 * 10)
+        (whole-count 10 (length (laneWords (y .map .lanes))) (length (y .map .lanes)) (omega arith)
+        (length-lanes (y .map .lanes))) i;
+    edges = take-written (edgeWords (y .edged)) (o .edges) (length (edgeWords (y .edged)) / 12 * 12)
+        (whole-count 12 (length (edgeWords (y .edged))) (length (y .edged)) (omega arith)
+        (length-edges (y .edged) six)) i;
   }
 
 -- an accepted call's rows are the map reversed by its marks; a refused one leaves the tables
-pub accepted-leaves : (text : List ℕ) (x : Model) → SoundModel text x → (c : Call) → reversalRefusal (wordsOf text x) (c .marks) (reversalLengths (c .outs)) ≡ none → after (wordsOf text x) c ≡ reversedOnceBy (c .marks) (wordsOf text x)
+pub accepted-leaves : (text : List ℕ) (x : Model) → SoundModel text x → (c : Call)
+    → reversalRefusal (wordsOf text x) (c .marks) (reversalLengths (c .outs)) ≡ none
+    → after (wordsOf text x) c ≡ reversedOnceBy (c .marks) (wordsOf text x)
 unfolding after reversalCall reversedOnceBy
 accepted-leaves text x h c q =
-    ap (λ r. next (wordsOf text x) (settled r (reversalCounts (reversalContent (wordsOf text x) (c .marks))) (putReversed (reversalContent (wordsOf text x) (c .marks)) (c .outs)) (c .outs) .answer)
-    (settled r (reversalCounts (reversalContent (wordsOf text x) (c .marks))) (putReversed (reversalContent (wordsOf text x) (c .marks)) (c .outs)) (c .outs) .outs)) q
-    ∙ ap (withReversed (wordsOf text x)) (ap (λ r. reversedRows (reversalCounts r) (putReversed r (c .outs))) e ∙ rows-back text y six (c .outs) ∙ sym e)
+    ap (λ r.
+    next (wordsOf text x) (settled r (reversalCounts (reversalContent (wordsOf text x) (c .marks)))
+    (putReversed (reversalContent (wordsOf text x) (c .marks)) (c .outs)) (c .outs) .answer)
+    (settled r (reversalCounts (reversalContent (wordsOf text x) (c .marks)))
+    (putReversed (reversalContent (wordsOf text x) (c .marks)) (c .outs)) (c .outs) .outs)) q
+    ∙ ap (withReversed (wordsOf text x))
+    (ap (λ r. reversedRows (reversalCounts r) (putReversed r (c .outs))) e
+    ∙ rows-back text y six (c .outs)
+    ∙ sym e)
   where
     y : Model
     y = reverseModel (sameIn text) (named text x (c .marks)) x
 
-    e : reversalContent (wordsOf text x) (c .marks) ≡ reversedOf (reverseModel (sameIn text) (named text x (c .marks)) x)
+    e : reversalContent (wordsOf text x) (c .marks)
+        ≡ reversedOf (reverseModel (sameIn text) (named text x (c .marks)) x)
     e = content-is text x h (c .marks)
 
     six : Each Six (reverseModel (sameIn text) (named text x (c .marks)) x .edged)
-    six = sound-model text (named text x (c .marks)) (marked-steady (sameIn text) (alike-in text) (x .map .roads) (c .marks)) x h .six
+    six =
+        sound-model text (named text x (c .marks))
+        (marked-steady (sameIn text) (alike-in text) (x .map .roads) (c .marks)) x h .six
 
-pub refused-leaves : (t : Tables) (c : Call) (k : ℕ) → reversalRefusal t (c .marks) (reversalLengths (c .outs)) ≡ some k → after t c ≡ t
+pub refused-leaves : (t : Tables) (c : Call) (k : ℕ)
+    → reversalRefusal t (c .marks) (reversalLengths (c .outs)) ≡ some k → after t c ≡ t
 unfolding after reversalCall
-refused-leaves t c k q = ap (λ r. next t (settled r (reversalCounts (reversalContent t (c .marks))) (putReversed (reversalContent t (c .marks)) (c .outs)) (c .outs) .answer)
-    (settled r (reversalCounts (reversalContent t (c .marks))) (putReversed (reversalContent t (c .marks)) (c .outs)) (c .outs) .outs)) q
+refused-leaves t c k q =
+    ap (λ r.
+    next t (settled r (reversalCounts (reversalContent t (c .marks)))
+    (putReversed (reversalContent t (c .marks)) (c .outs)) (c .outs) .answer)
+    (settled r (reversalCounts (reversalContent t (c .marks)))
+    (putReversed (reversalContent t (c .marks)) (c .outs)) (c .outs) .outs)) q

@@ -11,7 +11,8 @@ use Rattle.model.specs.Rules.{edgesSized, lanesSized, mapSized}
 use Rattle.model.specs.Tables.{Tables, allPairs, edgedLanesOf, mapOf, sectionWords, tablesOf}
 use Rattle.model.specs.Text.{sameIn}
 use Rattle.laws.proofs.Admitted.{sized-most, sizes-of}
-use Rattle.laws.proofs.AllWords.{MapW, TablesW, connections-written, lanes-written, means-words, pairs-written, roads-written, sections-written}
+use Rattle.laws.proofs.AllWords.{MapW, TablesW, connections-written, lanes-written, means-words}
+use Rattle.laws.proofs.AllWords.{pairs-written, roads-written, sections-written}
 use Rattle.laws.proofs.Decoded.{and3}
 use Rattle.laws.proofs.Numbers.{Word}
 use Rattle.laws.proofs.RulesReversed.{good-valid}
@@ -36,10 +37,15 @@ module _ (t : Tables) (f : Fine t) (w : TablesW t) (marks : List ℕ) where
   reversed-words : MapW (reverseMap (sameIn (t .text)) (markedBy t marks) (mapOf t))
   reversed-words = reverse-words (sameIn (t .text)) (markedBy t marks) (mapOf t) valid (means-words t w)
 
-  limits : (length (t .sections) ≤ 16384 * 1) × (length (t .connections) ≤ 16384 * 7) × (length (t .pairs) ≤ 16384 * 2)
+  limits : (length (t .sections) ≤ 16384 * 1)
+      × (length (t .connections) ≤ 16384 * 7)
+      × (length (t .pairs) ≤ 16384 * 2)
   limits =
-      let p = sizes-of 16384 t (and3 (mapSized 16384 t) (lanesSized t) (edgesSized t) (f .sizes) .0) in
-      (sized-most 1 16384 (length (t .sections)) (p .2), sized-most 7 16384 (length (t .connections)) (p .4), sized-most 2 16384 (length (t .pairs)) (p .5))
+      let p = sizes-of 16384 t (and3 (mapSized 16384 t) (lanesSized t) (edgesSized t) (f .sizes) .0) in (
+        sized-most 1 16384 (length (t .sections)) (p .2),
+        sized-most 7 16384 (length (t .connections)) (p .4),
+        sized-most 2 16384 (length (t .pairs)) (p .5),
+      )
 
   words-are : tablesOf (t .text) (mapOf t) (edgedLanesOf t) ≡ t
   unfolding modelOf
@@ -57,9 +63,13 @@ module _ (t : Tables) (f : Fine t) (w : TablesW t) (marks : List ℕ) where
   pub reversal-words : ReversedW (reversalContent t marks)
   unfolding reversalContent
   reversal-words = record {
-    roads = roads-written n reversed-words (let a = counted-reversed (sameIn (t .text)) (markedBy t marks) (mapOf t) (edgedLanesOf t) .sections in let b = sections-are in let c = limits .0 in omega arith);
+    roads = roads-written n reversed-words
+        (let a = counted-reversed (sameIn (t .text)) (markedBy t marks) (mapOf t) (edgedLanesOf t) .sections in
+        let b = sections-are in let c = limits .0 in omega arith);
     sections = sections-written n reversed-words;
-    connections = connections-written n reversed-words (let a = counted-reversed (sameIn (t .text)) (markedBy t marks) (mapOf t) (edgedLanesOf t) .pairs in let b = pairs-are in let c = limits .2 in omega arith);
+    connections = connections-written n reversed-words
+        (let a = counted-reversed (sameIn (t .text)) (markedBy t marks) (mapOf t) (edgedLanesOf t) .pairs in
+        let b = pairs-are in let c = limits .2 in omega arith);
     pairs = pairs-written n reversed-words;
     lanes = lanes-written n reversed-words;
   }

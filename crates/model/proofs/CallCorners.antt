@@ -1,4 +1,5 @@
--- Corner cases of the calls over words, each worked out by antt: every word that an accepted call writes, the words after them, and outputs that are too short.
+-- Corner cases of the calls over words, each worked out by antt: every word that an accepted call writes, the
+-- words after them, and outputs that are too short.
 use mathlib.Core.Path.{_≡_, refl}
 use mathlib.Core.Bool.{true, false}
 use mathlib.Core.Option.{none, some}
@@ -6,10 +7,12 @@ use mathlib.Core.List.{List, [], _∷_, _++_}
 use Prim.Native.Nat.{ℕ}
 use lib.ListN.{replicate}
 use Rattle.geometry.specs.declared.gap.Direction.the-variants.{Forward}
-use Rattle.model.specs.Calls.{ListOutputs, Outcome, RepairOutputs, ReversalOutputs, gapCall, refused, repairCall, reversalCall, successionCall, wrote}
+use Rattle.model.specs.Calls.{ListOutputs, Outcome, RepairOutputs, ReversalOutputs, gapCall, refused}
+use Rattle.model.specs.Calls.{repairCall, reversalCall, successionCall, wrote}
 use Rattle.model.specs.Records.{Lane, common, virtual}
 use Rattle.model.specs.Tables.{Tables, absentStart, tablesOf}
-use Rattle.model.proofs.CardMaps.{a, apart, b, bits, connection, endAt, junction, lane, minus1, noLanes, pair, road, straight, tablesFor, text, toRoad}
+use Rattle.model.proofs.CardMaps.{a, apart, b, bits, connection, endAt, junction, lane, minus1, noLanes}
+use Rattle.model.proofs.CardMaps.{pair, road, straight, tablesFor, text, toRoad}
 use Rattle.model.proofs.Computed.{broken}
 
 -- words that a call finds in an output
@@ -45,11 +48,13 @@ endOfA = 1 ∷ 0 ∷ 0 ∷ 1 ∷ 1 ∷ 1 ∷ 0 ∷ []
 abbrev jAtEnd : List ℕ
 jAtEnd = 1 ∷ 1 ∷ 3 ∷ 1 ∷ 1 ∷ 1 ∷ 0 ∷ []
 
--- "An accepted call returns the rows written to each output and leaves the words after them untouched": two roads, two junctions, a connection, a pair and a warning
+-- "An accepted call returns the rows written to each output and leaves the words after them untouched": two
+-- roads, two junctions, a connection, a pair and a warning
 pub repair-writes : repairCall lacking (repairOutputs 41 12 8 4 6) ≡ record {
   answer = wrote (2 ∷ 2 ∷ 1 ∷ 1 ∷ 1 ∷ []);
   outs = record {
-    roads = (1 ∷ 1 ∷ absentStart ∷ 0 ∷ []) ++ endOfA ++ vacant ++ (0 ∷ 1 ∷ []) ++ (0 ∷ 1 ∷ absentStart ∷ 0 ∷ []) ++ vacant ++ jAtEnd ++ (1 ∷ 1 ∷ []) ++ (5 ∷ []);
+    roads = (1 ∷ 1 ∷ absentStart ∷ 0 ∷ []) ++ endOfA ++ vacant ++ (0 ∷ 1 ∷ []) ++ (0 ∷ 1 ∷ absentStart ∷ 0 ∷ [])
+        ++ vacant ++ jAtEnd ++ (1 ∷ 1 ∷ []) ++ (5 ∷ []);
     junctions = 3 ∷ 1 ∷ 2 ∷ 0 ∷ 0 ∷ 3 ∷ 1 ∷ 0 ∷ 0 ∷ 1 ∷ 5 ∷ 5 ∷ [];
     connections = 0 ∷ 1 ∷ 1 ∷ 1 ∷ 0 ∷ 0 ∷ 1 ∷ 5 ∷ [];
     pairs = 1 ∷ 2 ∷ 5 ∷ 5 ∷ [];
@@ -74,13 +79,16 @@ unfolding broken
 repair-short = (refl, refl, refl, refl, refl, refl)
 
 -- an output need hold no more than its content: a map with nothing in it is repaired into empty outputs
-pub nothing-to-write : repairCall (tablesFor noLanes) (repairOutputs 0 0 0 0 0) ≡ record { answer = wrote (0 ∷ 0 ∷ 0 ∷ 0 ∷ 0 ∷ []); outs = repairOutputs 0 0 0 0 0 }
+pub nothing-to-write : repairCall (tablesFor noLanes) (repairOutputs 0 0 0 0 0)
+    ≡ record { answer = wrote (0 ∷ 0 ∷ 0 ∷ 0 ∷ 0 ∷ []); outs = repairOutputs 0 0 0 0 0 }
 unfolding broken
 nothing-to-write = refl
 
 -- ---- succession
 abbrev listOutputs : (successorOffsets successorIds predecessorOffsets predecessorIds : ℕ) → ListOutputs
-listOutputs so si po pi = record { successorOffsets = lent so; successorIds = lent si; predecessorOffsets = lent po; predecessorIds = lent pi }
+listOutputs so si po pi =
+    record
+    { successorOffsets = lent so; successorIds = lent si; predecessorOffsets = lent po; predecessorIds = lent pi }
 
 -- "offsets (lanes + 1 words, the first 0) and the identities packed in lane row order"
 pub succession-writes : successionCall (tablesFor straight) (listOutputs 5 4 4 2) ≡ record {
@@ -105,19 +113,23 @@ succession-short = (refl, refl, refl, refl)
 
 -- ---- the gap check
 -- lanes 7 and 9 lie 2 apart: a row, and the word after it; no room for the row; and a link named twice
-pub gap-rows : (gapCall (apart 0x4000_0000) (0 ∷ 1 ∷ 1 ∷ []) (9 ∷ []) (lent 4) ≡ record { answer = wrote (1 ∷ []); outs = 0 ∷ 1 ∷ 0x4000_0000 ∷ 5 ∷ [] })
+pub gap-rows : (gapCall (apart 0x4000_0000) (0 ∷ 1 ∷ 1 ∷ []) (9 ∷ []) (lent 4)
+    ≡ record { answer = wrote (1 ∷ []); outs = 0 ∷ 1 ∷ 0x4000_0000 ∷ 5 ∷ [] })
     × Refuses (gapCall (apart 0x4000_0000) (0 ∷ 1 ∷ 1 ∷ []) (9 ∷ []) (lent 2)) 9 (lent 2)
-    × (gapCall (apart 0x4000_0000) (0 ∷ 2 ∷ 2 ∷ []) (9 ∷ 9 ∷ []) (lent 6) ≡ record { answer = wrote (2 ∷ []); outs = 0 ∷ 1 ∷ 0x4000_0000 ∷ 0 ∷ 1 ∷ 0x4000_0000 ∷ [] })
+    × (gapCall (apart 0x4000_0000) (0 ∷ 2 ∷ 2 ∷ []) (9 ∷ 9 ∷ []) (lent 6)
+    ≡ record { answer = wrote (2 ∷ []); outs = 0 ∷ 1 ∷ 0x4000_0000 ∷ 0 ∷ 1 ∷ 0x4000_0000 ∷ [] })
 unfolding broken
 gap-rows = (refl, refl, refl)
 
 -- lane 9 lies nowhere, and the row has the bits of infinity
-pub nan-row : gapCall (apart 0x7fc0_0000) (0 ∷ 1 ∷ 1 ∷ []) (9 ∷ []) (lent 3) ≡ record { answer = wrote (1 ∷ []); outs = 0 ∷ 1 ∷ 0x7f80_0000 ∷ [] }
+pub nan-row : gapCall (apart 0x7fc0_0000) (0 ∷ 1 ∷ 1 ∷ []) (9 ∷ []) (lent 3)
+    ≡ record { answer = wrote (1 ∷ []); outs = 0 ∷ 1 ∷ 0x7f80_0000 ∷ [] }
 unfolding broken
 nan-row = refl
 
 -- ---- reversal
--- road a has sections 0, 1 and 5 and ends at b's end; junction j leads from b into a's start; lane 7 of section 1 is linked onward
+-- road a has sections 0, 1 and 5 and ends at b's end; junction j leads from b into a's start; lane 7 of section
+-- 1 is linked onward
 abbrev lane7 : Lane
 lane7 = lane 7 a 1 1 Forward (some 2)
 
@@ -149,7 +161,8 @@ endOfB = 1 ∷ 0 ∷ 1 ∷ 1 ∷ 1 ∷ 1 ∷ 0 ∷ []
 pub reversal-writes : reversalCall threeSections (1 ∷ 0 ∷ []) (reversalOutputs 41 5 8 3 11 13) ≡ record {
   answer = wrote (2 ∷ 4 ∷ 1 ∷ 1 ∷ 1 ∷ 1 ∷ []);
   outs = record {
-    roads = (0 ∷ 1 ∷ absentStart ∷ 0 ∷ []) ++ endOfB ++ vacant ++ (0 ∷ 3 ∷ []) ++ (1 ∷ 1 ∷ absentStart ∷ 0 ∷ []) ++ vacant ++ vacant ++ (3 ∷ 1 ∷ []) ++ (5 ∷ []);
+    roads = (0 ∷ 1 ∷ absentStart ∷ 0 ∷ []) ++ endOfB ++ vacant ++ (0 ∷ 3 ∷ []) ++ (1 ∷ 1 ∷ absentStart ∷ 0 ∷ [])
+        ++ vacant ++ vacant ++ (3 ∷ 1 ∷ []) ++ (5 ∷ []);
     sections = 0 ∷ 4 ∷ 5 ∷ 0 ∷ 5 ∷ [];
     connections = 1 ∷ 1 ∷ 0 ∷ 1 ∷ 1 ∷ 0 ∷ 1 ∷ 5 ∷ [];
     pairs = 1 ∷ minus2 ∷ 5 ∷ [];
@@ -161,17 +174,24 @@ unfolding broken
 reversal-writes = refl
 
 -- each of the six outputs shorter by a word
-pub reversal-short : Refuses (reversalCall threeSections (1 ∷ 0 ∷ []) (reversalOutputs 39 4 7 2 10 12)) 9 (reversalOutputs 39 4 7 2 10 12)
-    × Refuses (reversalCall threeSections (1 ∷ 0 ∷ []) (reversalOutputs 40 3 7 2 10 12)) 9 (reversalOutputs 40 3 7 2 10 12)
-    × Refuses (reversalCall threeSections (1 ∷ 0 ∷ []) (reversalOutputs 40 4 6 2 10 12)) 9 (reversalOutputs 40 4 6 2 10 12)
-    × Refuses (reversalCall threeSections (1 ∷ 0 ∷ []) (reversalOutputs 40 4 7 1 10 12)) 9 (reversalOutputs 40 4 7 1 10 12)
-    × Refuses (reversalCall threeSections (1 ∷ 0 ∷ []) (reversalOutputs 40 4 7 2 9 12)) 9 (reversalOutputs 40 4 7 2 9 12)
-    × Refuses (reversalCall threeSections (1 ∷ 0 ∷ []) (reversalOutputs 40 4 7 2 10 11)) 9 (reversalOutputs 40 4 7 2 10 11)
+pub reversal-short : Refuses (reversalCall threeSections (1 ∷ 0 ∷ []) (reversalOutputs 39 4 7 2 10 12)) 9
+    (reversalOutputs 39 4 7 2 10 12)
+    × Refuses (reversalCall threeSections (1 ∷ 0 ∷ []) (reversalOutputs 40 3 7 2 10 12)) 9
+    (reversalOutputs 40 3 7 2 10 12)
+    × Refuses (reversalCall threeSections (1 ∷ 0 ∷ []) (reversalOutputs 40 4 6 2 10 12)) 9
+    (reversalOutputs 40 4 6 2 10 12)
+    × Refuses (reversalCall threeSections (1 ∷ 0 ∷ []) (reversalOutputs 40 4 7 1 10 12)) 9
+    (reversalOutputs 40 4 7 1 10 12)
+    × Refuses (reversalCall threeSections (1 ∷ 0 ∷ []) (reversalOutputs 40 4 7 2 9 12)) 9
+    (reversalOutputs 40 4 7 2 9 12)
+    × Refuses (reversalCall threeSections (1 ∷ 0 ∷ []) (reversalOutputs 40 4 7 2 10 11)) 9
+    (reversalOutputs 40 4 7 2 10 11)
 unfolding broken
 reversal-short = (refl, refl, refl, refl, refl, refl)
 
 -- another refusal comes before 9: marks for one road of two, and outputs that hold nothing
-pub before-nine : Refuses (reversalCall threeSections (1 ∷ []) (reversalOutputs 0 0 0 0 0 0)) 12 (reversalOutputs 0 0 0 0 0 0)
+pub before-nine : Refuses (reversalCall threeSections (1 ∷ []) (reversalOutputs 0 0 0 0 0 0)) 12
+    (reversalOutputs 0 0 0 0 0 0)
     × Refuses (gapCall (apart 0x4000_0000) (0 ∷ 1 ∷ 1 ∷ []) (8 ∷ []) []) 11 []
 unfolding broken
 before-nine = (refl, refl)

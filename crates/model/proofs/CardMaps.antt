@@ -1,4 +1,5 @@
--- The maps of the bench cards, by their records, and their tables. The text is "abcjk": roads a, b and c, and junctions j and k.
+-- The maps of the bench cards, by their records, and their tables. The text is "abcjk": roads a, b and c, and
+-- junctions j and k.
 use mathlib.Core.Bool.{Bool, true, false}
 use mathlib.Core.Option.{Option, none, some}
 use mathlib.Core.List.{List, [], _∷_, map}
@@ -6,7 +7,8 @@ use Prim.Native.Nat.{ℕ}
 use lib.Ieee.{Float, binary32, ofBits}
 use Rattle.geometry.specs.declared.gap.Direction.{Direction}
 use Rattle.geometry.specs.declared.gap.Direction.the-variants.{Both, Forward}
-use Rattle.model.specs.Records.{Connection, EdgedLane, Junction, JunctionKind, Lane, Map, Pair, Road, Span, Target, common}
+use Rattle.model.specs.Records.{Connection, EdgedLane, Junction, JunctionKind, Lane, Map, Pair, Road}
+use Rattle.model.specs.Records.{Span, Target, common}
 use Rattle.model.specs.Tables.{Tables, tablesOf}
 
 abbrev pub text : List ℕ
@@ -42,7 +44,8 @@ abbrev pub jAt : Bool → Option Target
 jAt contact = some (record { isJunction = true; name = j; contact = contact; given = true; along = false })
 
 abbrev pub road : Span → Option Target → Option Target → List ℕ → Road
-road n before after sections = record { name = n; junction = none; predecessor = before; successor = after; sections = sections }
+road n before after sections =
+    record { name = n; junction = none; predecessor = before; successor = after; sections = sections }
 
 -- a lane with a link onward and none back
 abbrev pub lane : ℕ → Span → ℕ → ℕ → Direction → Option ℕ → Lane
@@ -60,7 +63,8 @@ abbrev pub pair : ℕ → ℕ → Pair
 pair from to = record { from = from; to = to }
 
 abbrev pub connection : Span → Span → Bool → List Pair → Connection
-connection incoming connecting contact pairs = record { incoming = incoming; connecting = connecting; contact = contact; pairs = pairs }
+connection incoming connecting contact pairs =
+    record { incoming = incoming; connecting = connecting; contact = contact; pairs = pairs }
 
 abbrev pub junction : JunctionKind → List Connection → Junction
 junction kind connections = record { name = j; kind = kind; connections = connections }
@@ -83,12 +87,14 @@ tablesFor m = tablesOf text m (map (edgedAt 0) (m .lanes))
 abbrev pub noLanes : Map
 noLanes = record { roads = []; junctions = []; lanes = [] }
 
--- "Road a (section 0), successor b at start; b (0, 1); forward lanes numbered -1: 7 on a, 3 and 5 on b, links -1 onward"
+-- "Road a (section 0), successor b at start; b (0, 1); forward lanes numbered -1: 7 on a, 3 and 5 on b, links
+-- -1 onward"
 abbrev pub straight : Map
 straight = record {
   roads = road a none (toRoad b false) (0 ∷ []) ∷ road b none none (0 ∷ 1 ∷ []) ∷ [];
   junctions = [];
-  lanes = lane 7 a 0 minus1 Forward (some minus1) ∷ lane 3 b 0 minus1 Forward (some minus1) ∷ lane 5 b 1 minus1 Forward (some minus1) ∷ [];
+  lanes = lane 7 a 0 minus1 Forward (some minus1) ∷ lane 3 b 0 minus1 Forward (some minus1)
+      ∷ lane 5 b 1 minus1 Forward (some minus1) ∷ [];
 }
 
 -- "Two pairs to lane 9 from 7"

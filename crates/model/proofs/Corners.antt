@@ -1,4 +1,5 @@
--- Corner cases of repair, succession and reversal together: why rule 14 stands, what a later row of a name hides, and where repair and reversal differ in a word.
+-- Corner cases of repair, succession and reversal together: why rule 14 stands, what a later row of a name
+-- hides, and where repair and reversal differ in a word.
 use mathlib.Core.Path.{_≡_, refl}
 use mathlib.Core.Bool.{Bool, true, false}
 use mathlib.Core.Option.{none}
@@ -31,9 +32,12 @@ pub both-ends : (onward (repaired (twoEnds (junction direct fromAtoB ∷ []))) �
 unfolding repaired turned onward
 both-ends = (refl, refl)
 
--- A direct row that a later common row of its name hides: the lists are the same, and rule 14, which speaks of any direct junction, refuses all the same.
-pub hidden-row : (onward (repaired (twoEnds (junction direct fromAtoB ∷ junction common fromAtoB ∷ []))) ≡ [] ∷ (20 ∷ []) ∷ [] ∷ [])
-    × (onward (repaired (turned marksA (twoEnds (junction direct fromAtoB ∷ junction common fromAtoB ∷ [])))) ≡ [] ∷ (20 ∷ []) ∷ [] ∷ [])
+-- A direct row that a later common row of its name hides: the lists are the same, and rule 14, which speaks of
+-- any direct junction, refuses all the same.
+pub hidden-row : (onward (repaired (twoEnds (junction direct fromAtoB ∷ junction common fromAtoB ∷ [])))
+    ≡ [] ∷ (20 ∷ []) ∷ [] ∷ [])
+    × (onward (repaired (turned marksA (twoEnds (junction direct fromAtoB ∷ junction common fromAtoB ∷ []))))
+    ≡ [] ∷ (20 ∷ []) ∷ [] ∷ [])
 unfolding repaired turned onward
 hidden-row = (refl, refl)
 
@@ -45,8 +49,11 @@ lacking = record {
   lanes = [];
 }
 
--- Repair and reversal differ in the contact of the target that repair adds, which nothing reads: repaired first it has contact end and keeps it, reversed first it has contact start.
-pub in-either-order : (map (reverseRoad marksA) (repaired lacking .roads) ≡ road a (jAt true) none (0 ∷ []) ∷ road b (toRoad a false) none (0 ∷ []) ∷ [])
-    × (repaired (turned marksA lacking) .roads ≡ road a (jAt false) none (0 ∷ []) ∷ road b (toRoad a false) none (0 ∷ []) ∷ [])
+-- Repair and reversal differ in the contact of the target that repair adds, which nothing reads: repaired first
+-- it has contact end and keeps it, reversed first it has contact start.
+pub in-either-order : (map (reverseRoad marksA) (repaired lacking .roads)
+    ≡ road a (jAt true) none (0 ∷ []) ∷ road b (toRoad a false) none (0 ∷ []) ∷ [])
+    × (repaired (turned marksA lacking) .roads
+    ≡ road a (jAt false) none (0 ∷ []) ∷ road b (toRoad a false) none (0 ∷ []) ∷ [])
 unfolding repaired turned
 in-either-order = (refl, refl)

@@ -13,8 +13,13 @@ use Rattle.model.specs.Lookup.{offsetsFrom, packed, listsIn}
 use Rattle.model.specs.Gaps.{GapRow, linkGaps}
 use Rattle.model.specs.Reversal.{reverseMap, reverseEdged, marked}
 use Rattle.model.specs.Rows.{written}
-use Rattle.model.specs.Tables.{Tables, roadWidth, junctionWidth, connectionWidth, pairWidth, laneWidth, edgeWidth, bit, roadsOf, mapOf, edgedLanesOf, roadWords, sectionWords, junctionWords, connectionWords, pairWords, laneWords, edgeWords}
-use Rattle.model.specs.Rules.{Rule, rule, firstBroken, fits, same, mapSized, lanesSized, edgesSized, listsSized, mapWorded, lanesWorded, roadsOnce, sectionsFit, connectionsFit, identitiesOnce, lanesListed, keysOnce, edgesFit, listsFit, marksFit, numbersTurn, oneEnded}
+use Rattle.model.specs.Tables.{Tables, roadWidth, junctionWidth, connectionWidth, pairWidth, laneWidth}
+use Rattle.model.specs.Tables.{edgeWidth, bit, roadsOf, mapOf, edgedLanesOf, roadWords, sectionWords}
+use Rattle.model.specs.Tables.{junctionWords, connectionWords, pairWords, laneWords, edgeWords}
+use Rattle.model.specs.Rules.{Rule, rule, firstBroken, fits, same, mapSized, lanesSized, edgesSized}
+use Rattle.model.specs.Rules.{listsSized, mapWorded, lanesWorded, roadsOnce, sectionsFit, connectionsFit}
+use Rattle.model.specs.Rules.{identitiesOnce, lanesListed, keysOnce, edgesFit, listsFit, marksFit}
+use Rattle.model.specs.Rules.{numbersTurn, oneEnded}
 
 -- "An accepted call returns the rows written to each output"; "a refusal returns its number alone"
 pub data Answer : Type 0 where
@@ -33,7 +38,8 @@ settled none counts new old = record { answer = wrote counts; outs = new }
 
 -- 1 to 5, where 1 and 2 look at the tables that the call reads
 unfoldable pub rulesTo5 : Bool → Bool → Tables → List Rule
-rulesTo5 sizes words t = rule 1 sizes ∷ rule 2 words ∷ rule 3 (roadsOnce t) ∷ rule 4 (sectionsFit t) ∷ rule 5 (connectionsFit t) ∷ []
+rulesTo5 sizes words t =
+    rule 1 sizes ∷ rule 2 words ∷ rule 3 (roadsOnce t) ∷ rule 4 (sectionsFit t) ∷ rule 5 (connectionsFit t) ∷ []
 
 -- 6 to 8
 unfoldable pub laneRules : Tables → List Rule
@@ -58,11 +64,15 @@ warningWidth = 4
 
 -- the outputs' lengths in words
 unfoldable pub repairLengths : RepairOutputs → List ℕ
-repairLengths o = length (o .roads) ∷ length (o .junctions) ∷ length (o .connections) ∷ length (o .pairs) ∷ length (o .warnings) ∷ []
+repairLengths o =
+    length (o .roads) ∷ length (o .junctions) ∷ length (o .connections) ∷ length (o .pairs)
+    ∷ length (o .warnings) ∷ []
 
 -- how many rows that is
 unfoldable pub repairCounts : RepairOutputs → List ℕ
-repairCounts o = length (o .roads) / roadWidth ∷ length (o .junctions) / junctionWidth ∷ length (o .connections) / connectionWidth
+repairCounts o =
+    length (o .roads) / roadWidth ∷ length (o .junctions) / junctionWidth
+    ∷ length (o .connections) / connectionWidth
     ∷ length (o .pairs) / pairWidth ∷ length (o .warnings) / warningWidth ∷ []
 
 -- the outputs with content c written to them
@@ -120,7 +130,9 @@ pub record ListOutputs : Type 0 where
   pub predecessorIds : List ℕ
 
 unfoldable pub listLengths : ListOutputs → List ℕ
-listLengths o = length (o .successorOffsets) ∷ length (o .successorIds) ∷ length (o .predecessorOffsets) ∷ length (o .predecessorIds) ∷ []
+listLengths o =
+    length (o .successorOffsets) ∷ length (o .successorIds) ∷ length (o .predecessorOffsets)
+    ∷ length (o .predecessorIds) ∷ []
 
 unfoldable pub putLists : ListOutputs → ListOutputs → ListOutputs
 putLists c o = record {
@@ -165,16 +177,20 @@ unfoldable pub gapContent : Tables → (offsets ids : List ℕ) → List ℕ
 gapContent t offsets ids = gather gapWords (linkGaps (edgedLanesOf t) (listsIn offsets ids))
 
 unfoldable pub gapRules : Tables → (offsets ids : List ℕ) → List Rule
-gapRules t offsets ids = rulesTo5 (mapSized 16384 t && lanesSized t && edgesSized t && listsSized offsets ids) (mapWorded t && lanesWorded t) t
+gapRules t offsets ids =
+    rulesTo5 (mapSized 16384 t && lanesSized t && edgesSized t && listsSized offsets ids)
+    (mapWorded t && lanesWorded t) t
     ++ laneRules t ++ (rule 10 (edgesFit t) ∷ rule 11 (listsFit t offsets ids) ∷ [])
 
 -- "Gaps: 1 to 8; 10 .. 11 .. 9"
 unfoldable pub gapRefusal : Tables → (offsets ids : List ℕ) → ℕ → Option ℕ
-gapRefusal t offsets ids room = firstBroken (gapRules t offsets ids ++ longEnough (length (gapContent t offsets ids) ∷ []) (room ∷ []))
+gapRefusal t offsets ids room =
+    firstBroken (gapRules t offsets ids ++ longEnough (length (gapContent t offsets ids) ∷ []) (room ∷ []))
 
 -- THE GAP CHECK'S WHOLE OUTCOME
 unfoldable pub gapCall : Tables → (offsets ids : List ℕ) → List ℕ → Outcome (List ℕ)
-gapCall t offsets ids o = settled (gapRefusal t offsets ids (length o)) (length (gapContent t offsets ids) / gapWidth ∷ [])
+gapCall t offsets ids o =
+    settled (gapRefusal t offsets ids (length o)) (length (gapContent t offsets ids) / gapWidth ∷ [])
     (written (gapContent t offsets ids) o) o
 
 -- ---- Reversal
@@ -188,11 +204,14 @@ pub record ReversalOutputs : Type 0 where
   pub edges : List Float
 
 unfoldable pub reversalLengths : ReversalOutputs → List ℕ
-reversalLengths o = length (o .roads) ∷ length (o .sections) ∷ length (o .connections) ∷ length (o .pairs) ∷ length (o .lanes)
+reversalLengths o =
+    length (o .roads) ∷ length (o .sections) ∷ length (o .connections) ∷ length (o .pairs) ∷ length (o .lanes)
     ∷ length (o .edges) ∷ []
 
 unfoldable pub reversalCounts : ReversalOutputs → List ℕ
-reversalCounts o = length (o .roads) / roadWidth ∷ length (o .sections) ∷ length (o .connections) / connectionWidth ∷ length (o .pairs) / pairWidth
+reversalCounts o =
+    length (o .roads) / roadWidth ∷ length (o .sections) ∷ length (o .connections) / connectionWidth
+    ∷ length (o .pairs) / pairWidth
     ∷ length (o .lanes) / laneWidth ∷ length (o .edges) / edgeWidth ∷ []
 
 unfoldable pub putReversed : ReversalOutputs → ReversalOutputs → ReversalOutputs
@@ -238,9 +257,11 @@ reversalRules t marks = tableRules t ++ markRules t marks
 
 -- "Reversal: 1 to 8; 10; 12 .. 13 .. 14 .. 9"
 unfoldable pub reversalRefusal : Tables → (marks lengths : List ℕ) → Option ℕ
-reversalRefusal t marks lengths = firstBroken (reversalRules t marks ++ longEnough (reversalLengths (reversalContent t marks)) lengths)
+reversalRefusal t marks lengths =
+    firstBroken (reversalRules t marks ++ longEnough (reversalLengths (reversalContent t marks)) lengths)
 
 -- REVERSAL'S WHOLE OUTCOME
 unfoldable pub reversalCall : Tables → List ℕ → ReversalOutputs → Outcome ReversalOutputs
-reversalCall t marks o = settled (reversalRefusal t marks (reversalLengths o)) (reversalCounts (reversalContent t marks))
+reversalCall t marks o =
+    settled (reversalRefusal t marks (reversalLengths o)) (reversalCounts (reversalContent t marks))
     (putReversed (reversalContent t marks) o) o

@@ -10,8 +10,11 @@ use Rattle.model.specs.Rows.{table, word}
 use Rattle.model.specs.Tables.{Tables, laneWidth}
 use Rattle.model.specs.Lookup.{listsIn}
 use Rattle.model.specs.Rules.{fits}
-use Rattle.model.specs.Calls.{Answer, wrote, warningWidth, ListOutputs, ReversalOutputs, repairContent, repairRefusal, listContent, successionCall, gapContent, reversalLengths, reversalContent, reversalCall}
-use Rattle.model.specs.Sequence.{Call, after, run, answers, emptySet, toggledMark, reversedBy, setAfter, answersBySet, isAccepted, anyAccepted, oddMarks, Buffers, found}
+use Rattle.model.specs.Calls.{Answer, wrote, warningWidth, ListOutputs, ReversalOutputs, repairContent}
+use Rattle.model.specs.Calls.{repairRefusal, listContent, successionCall, gapContent, reversalLengths}
+use Rattle.model.specs.Calls.{reversalContent, reversalCall}
+use Rattle.model.specs.Sequence.{Call, after, run, answers, emptySet, toggledMark, reversedBy, setAfter}
+use Rattle.model.specs.Sequence.{answersBySet, isAccepted, anyAccepted, oddMarks, Buffers, found}
 
 -- the tables with what repair writes in place of what it read
 unfoldable pub repairedTables : Tables → Tables
@@ -47,12 +50,16 @@ isTwoWay lanes i = eqb (word (getD (table laneWidth lanes) i []) 5) 2
 abbrev pub listAt : List ℕ → List ℕ → ℕ → List ℕ
 listAt offsets ids i = getD (listsIn offsets ids) i []
 
--- The lanes before are the lanes onward read the other way, as often. Of two two-way lanes each lists the other or neither does.
+-- The lanes before are the lanes onward read the other way, as often. Of two two-way lanes each lists the other
+-- or neither does.
 pub record Mutual (lanes : List ℕ) (l : ListOutputs) : Type 0 where
   pub converse : (i j : ℕ) → i < length lanes / laneWidth → j < length lanes / laneWidth →
-      count (identityAt lanes j) (listAt (l .successorOffsets) (l .successorIds) i) ≡ count (identityAt lanes i) (listAt (l .predecessorOffsets) (l .predecessorIds) j)
-  pub two-way : (i j : ℕ) → i < length lanes / laneWidth → j < length lanes / laneWidth → isTwoWay lanes i ≡ true → isTwoWay lanes j ≡ true →
-      member (identityAt lanes j) (listAt (l .successorOffsets) (l .successorIds) i) ≡ member (identityAt lanes i) (listAt (l .successorOffsets) (l .successorIds) j)
+      count (identityAt lanes j) (listAt (l .successorOffsets) (l .successorIds) i)
+      ≡ count (identityAt lanes i) (listAt (l .predecessorOffsets) (l .predecessorIds) j)
+  pub two-way : (i j : ℕ) → i < length lanes / laneWidth → j < length lanes / laneWidth
+      → isTwoWay lanes i ≡ true → isTwoWay lanes j ≡ true →
+      member (identityAt lanes j) (listAt (l .successorOffsets) (l .successorIds) i)
+      ≡ member (identityAt lanes i) (listAt (l .successorOffsets) (l .successorIds) j)
 
 -- a warning row with the end turned where its road is in the set
 unfoldable pub reversedWarning : List ℕ → List ℕ → List ℕ
@@ -63,7 +70,8 @@ module _ (t : Tables) (cs : List Call) where
   abbrev pub theSet : List ℕ
   theSet = setAfter t (emptySet t) cs
 
-  -- THE CLAIM, on any tables and any sequence of reversals, refused ones included, with outputs of any content and length
+  -- THE CLAIM, on any tables and any sequence of reversals, refused ones included, with outputs of any content
+  -- and length
   pub record Claim : Type 0 where
     -- each call answers as the reversal of the first map reversed by the set so far
     pub said : answers t cs ≡ answersBySet t (emptySet t) cs
@@ -72,16 +80,21 @@ module _ (t : Tables) (cs : List Call) where
     -- the set is the roads chosen an odd number of times in the accepted calls
     pub odd : theSet ≡ oddMarks (emptySet t) (answers t cs) cs
     -- if any call was accepted, so is one reversal by the set, outputs long enough, and it leaves the same tables
-    pub at-once : anyAccepted (answers t cs) ≡ true → (outs : ReversalOutputs) → fits (reversalLengths (reversalContent t theSet)) (reversalLengths outs) ≡ true →
-        (isAccepted (reversalCall t theSet outs .answer) ≡ true) × (after t (record { marks = theSet; outs = outs }) ≡ run t cs)
+    pub at-once : anyAccepted (answers t cs) ≡ true → (outs : ReversalOutputs)
+        → fits (reversalLengths (reversalContent t theSet)) (reversalLengths outs) ≡ true →
+        (isAccepted (reversalCall t theSet outs .answer) ≡ true)
+        × (after t (record { marks = theSet; outs = outs }) ≡ run t cs)
     -- repair answers alike, and its warnings differ only in the end of a road of the set
     pub repairs : (lengths : List ℕ) → repairRefusal (run t cs) lengths ≡ repairRefusal t lengths
-    pub warned : table warningWidth (repairContent (run t cs) .warnings) ≡ map (reversedWarning theSet) (table warningWidth (repairContent t .warnings))
+    pub warned : table warningWidth (repairContent (run t cs) .warnings)
+        ≡ map (reversedWarning theSet) (table warningWidth (repairContent t .warnings))
     -- repair, succession and the gap check, with whatever outputs, give the same answers, lists and gap rows
     pub alike : (q : Buffers) → found q (run t cs) ≡ found q t
     -- the lists and the gap rows themselves, whatever outputs they are written to
     pub same-lists : listContent (repairedTables (run t cs)) ≡ listContent (repairedTables t)
-    pub same-gaps : (offsets ids : List ℕ) → gapContent (repairedTables (run t cs)) offsets ids ≡ gapContent (repairedTables t) offsets ids
+    pub same-gaps : (offsets ids : List ℕ)
+        → gapContent (repairedTables (run t cs)) offsets ids ≡ gapContent (repairedTables t) offsets ids
     -- and the lists are each other's converse
-    pub converse : (o : ListOutputs) (counts : List ℕ) → successionCall (repairedTables (run t cs)) o .answer ≡ wrote counts →
+    pub converse : (o : ListOutputs) (counts : List ℕ)
+        → successionCall (repairedTables (run t cs)) o .answer ≡ wrote counts →
         Mutual (run t cs .lanes) (listRows counts (successionCall (repairedTables (run t cs)) o .outs))

@@ -1,4 +1,5 @@
--- "Gap check": the lane links whose ends do not meet. The distance, the ends where a lane is left and entered, and the decision are the geometry's. Definitions only.
+-- "Gap check": the lane links whose ends do not meet. The distance, the ends where a lane is left and entered,
+-- and the decision are the geometry's. Definitions only.
 use mathlib.Core.Option.{Option, none, some}
 use mathlib.Core.Bool.{cond}
 use mathlib.Core.List.{List, [], _∷_, _++_, map}
@@ -42,8 +43,10 @@ gapRow i a b = map (λ g. record { laneRow = i; nextRow = b .0; gap = g }) (rowB
 abbrev pub gapsFrom : List EdgedLane → ℕ → List EdgedLane → List (List ℕ) → List GapRow
 gapsFrom ls i [] ns = []
 gapsFrom ls i (a ∷ more) [] = []
-gapsFrom ls i (a ∷ more) (n ∷ ns) = gather (λ k. listO (rowOfIdentity k 0 ls) (gapRow i a)) n ++ gapsFrom ls (suc i) more ns
+gapsFrom ls i (a ∷ more) (n ∷ ns) =
+    gather (λ k. listO (rowOfIdentity k 0 ls) (gapRow i a)) n ++ gapsFrom ls (suc i) more ns
 
--- THE GAP ROWS of the lanes, each with its list of successors: "lanes in row order, successors in list order, duplicates again"
+-- THE GAP ROWS of the lanes, each with its list of successors: "lanes in row order, successors in list order,
+-- duplicates again"
 unfoldable pub linkGaps : List EdgedLane → List (List ℕ) → List GapRow
 linkGaps ls ns = gapsFrom ls 0 ls ns

@@ -1,4 +1,5 @@
--- "Length check (`road_length`): the f64 sum of the last start and last length, more than 0.01 off the road's length, is reported and returned; no geometry or a NaN difference is not." Definitions only.
+-- "Length check (`road_length`): the f64 sum of the last start and last length, more than 0.01 off the road's
+-- length, is reported and returned; no geometry or a NaN difference is not." Definitions only.
 use mathlib.Core.Bool.{Bool, false, cond}
 use mathlib.Core.Option.{Option, none, some}
 use mathlib.Core.List.{List, [], _∷_}
@@ -40,4 +41,5 @@ report roadLength (some sum) = cond (farOff roadLength sum) (reported sum) fine
 
 -- THE LENGTH CHECK'S WHOLE OUTCOME. "Length: 16 starts and lengths differ in count."
 unfoldable pub lengthCall : (starts lengths : List Float) → Float → Checked
-lengthCall starts lengths roadLength = cond (evenCounts starts lengths) (report roadLength (planView starts lengths)) (uneven 16)
+lengthCall starts lengths roadLength =
+    cond (evenCounts starts lengths) (report roadLength (planView starts lengths)) (uneven 16)

@@ -1,5 +1,7 @@
--- What a call means, in the order of document 01: the tables and the map that their words mean; repair; succession and list lookup; the gap check; reversal; how each call
--- refuses; each call's whole outcome; attribute reading and the length check; sequences of reversals; and the claim about every sequence.
+-- What a call means, in the order of document 01: the tables and the map that their words mean; repair;
+-- succession and list lookup; the gap check; reversal; how each call
+-- refuses; each call's whole outcome; attribute reading and the length check; sequences of reversals; and the
+-- claim about every sequence.
 pub mod Lists
 pub mod Records
 pub mod Text

@@ -27,12 +27,17 @@ listsIn (o ∷ os) ids = listsAfter ids o os
 
 -- do the two offsets of a row stand in the list, and not fall or pass the end?
 unfoldable pub rowListed : (offsets ids : List ℕ) → ℕ → Bool
-rowListed offsets ids row = ltb (suc row) (length offsets) && leb (word offsets row) (word offsets (suc row)) && leb (word offsets (suc row)) (length ids)
+rowListed offsets ids row =
+    ltb (suc row) (length offsets) && leb (word offsets row) (word offsets (suc row)) && leb
+    (word offsets (suc row)) (length ids)
 
 -- "A row outside the list, or its two offsets falling or passing the end, gives the empty part."
 unfoldable pub listPart : (offsets ids : List ℕ) → ℕ → List ℕ
-listPart offsets ids row = cond (rowListed offsets ids row) (part (word offsets row) (word offsets (suc row) - word offsets row) ids) []
+listPart offsets ids row =
+    cond (rowListed offsets ids row) (part (word offsets row) (word offsets (suc row) - word offsets row) ids)
+    []
 
 -- "for a lane row and a direction, the lanes onward or the lanes before": true asks the lanes before
-unfoldable pub listLookup : (successorOffsets successorIds predecessorOffsets predecessorIds : List ℕ) → ℕ → Bool → List ℕ
+unfoldable pub listLookup : (successorOffsets successorIds predecessorOffsets predecessorIds : List ℕ) → ℕ
+    → Bool → List ℕ
 listLookup so si po pi row before = pick before (listPart so si row) (listPart po pi row)

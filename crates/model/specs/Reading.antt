@@ -1,4 +1,5 @@
--- "Attribute reading": lane numbers, targets, a lane's links, and junctions with their connections, pairs and warnings, from attributes as a file has them. Definitions only.
+-- "Attribute reading": lane numbers, targets, a lane's links, and junctions with their connections, pairs and
+-- warnings, from attributes as a file has them. Definitions only.
 use mathlib.Core.Bool.{Bool, false, _&&_, _||_, cond}
 use mathlib.Core.Option.{Option, none, some}
 use mathlib.Core.List.{List, [], _∷_, _++_, map}
@@ -34,7 +35,8 @@ abbrev pub upTo : ℕ → Option ℕ → Option ℕ
 upTo most none = none
 upTo most (some v) = cond (leb v most) (some v) none
 
--- "an optional + or -, then one or more digits, within -2,147,483,648 to 2,147,483,647; else none": its word. 43 is "+", 45 is "-"
+-- "an optional + or -, then one or more digits, within -2,147,483,648 to 2,147,483,647; else none": its word.
+-- 43 is "+", 45 is "-"
 unfoldable pub laneNumber : List ℕ → Option ℕ
 laneNumber [] = none
 laneNumber (b ∷ bs) = cond (eqb b 45) (mapO negated (upTo 2147483648 (digits bs)))
@@ -75,7 +77,8 @@ module _ (text : List ℕ) where
   abbrev pub kindRead : Option Span → JunctionKind
   kindRead o = cond (reads directText o) direct (cond (reads virtualText o) virtual common)
 
-  -- "Raw target: element flag and elementType, elementId, contactPoint, elementS"; flag 0 and "absent elementId gives no target. contactPoint "end" is end, all else start; given means the attribute is there"
+  -- "Raw target: element flag and elementType, elementId, contactPoint, elementS"; flag 0 and "absent elementId
+  -- gives no target. contactPoint "end" is end, all else start; given means the attribute is there"
   unfoldable pub readTarget : List ℕ → Option Target
   readTarget r = cond (flag (word r 0)) (mapO (λ n. record {
     isJunction = reads junctionText (nameIn r 1);
@@ -153,10 +156,12 @@ module _ (t : RawTables) where
   unfoldable pub readPair : ℕ → Option Pair
   readPair l = pairOf (numberOf (t .text) (nameIn (rawLaneLink l) 0)) (numberOf (t .text) (nameIn (rawLaneLink l) 2))
 
-  -- is connection c of junction j passed over? `is_virtual && (c.attribute("type") == Some("virtual") || from_main)` of `junctions`
+  -- is connection c of junction j passed over? `is_virtual && (c.attribute("type") == Some("virtual") ||
+  -- from_main)` of `junctions`
   unfoldable pub passedOver : (j c : ℕ) → Bool
   passedOver j c = isVirtual (kindAt j)
-      && (reads (t .text) virtualText (nameIn (rawConnection c) 2) || sameNames (t .text) (nameIn (rawConnection c) 4) (nameIn (rawJunction j) 4))
+      && (reads (t .text) virtualText (nameIn (rawConnection c) 2) || sameNames (t .text)
+      (nameIn (rawConnection c) 4) (nameIn (rawJunction j) 4))
 
   -- its connecting road: linkedRoad in a direct junction, connectingRoad in any other
   unfoldable pub leadsInto : (j c : ℕ) → Option Span
@@ -181,14 +186,20 @@ module _ (t : RawTables) where
 
   -- its warnings: 1 where a road is absent, and else those of its lane links
   unfoldable pub connectionWarnings : (j c : ℕ) → List ReadWarning
-  connectionWarnings j c = cond (passedOver j c) [] (cond (isSome (readConnection j c)) (gather (laneLinkWarnings j c) (laneLinksAt c)) (connectionDropped j c ∷ []))
+  connectionWarnings j c =
+      cond (passedOver j c) [] (cond (isSome (readConnection j c))
+      (gather (laneLinkWarnings j c) (laneLinksAt c)) (connectionDropped j c ∷ []))
 
   -- "a junction without id gives no row and one warning for each connection"
   unfoldable pub readJunction : ℕ → Option Junction
-  readJunction j = mapO (λ n. record { name = n; kind = kindAt j; connections = gather (keptConnections j) (connectionsAt j) }) (nameIn (rawJunction j) 0)
+  readJunction j =
+      mapO (λ n. record { name = n; kind = kindAt j; connections = gather (keptConnections j) (connectionsAt j) })
+      (nameIn (rawJunction j) 0)
 
   unfoldable pub junctionWarnings : ℕ → List ReadWarning
-  junctionWarnings j = cond (isSome (nameIn (rawJunction j) 0)) (gather (connectionWarnings j) (connectionsAt j)) (map (connectionDropped j) (connectionsAt j))
+  junctionWarnings j =
+      cond (isSome (nameIn (rawJunction j) 0)) (gather (connectionWarnings j) (connectionsAt j))
+      (map (connectionDropped j) (connectionsAt j))
 
   -- the rows of the raw junctions
   abbrev pub junctionRows : List ℕ

@@ -8,7 +8,8 @@ use lib.ListN.{length}
 use Rattle.model.specs.Lists.{every, gather}
 use Rattle.model.specs.Text.{placed}
 use Rattle.model.specs.Rows.{table, word, partsFit, written}
-use Rattle.model.specs.Tables.{flag, isAbsent, spanIn, junctionWidth, connectionWidth, pairWidth, targetWords, junctionWords, connectionWords, pairWords}
+use Rattle.model.specs.Tables.{flag, isAbsent, spanIn, junctionWidth, connectionWidth, pairWidth}
+use Rattle.model.specs.Tables.{targetWords, junctionWords, connectionWords, pairWords}
 use Rattle.model.specs.Rules.{Rule, rule, firstBroken, sized}
 use Rattle.model.specs.Calls.{Outcome, settled, longEnough, warningWidth}
 use Rattle.model.specs.Reading.{readTarget, readLane, RawTables, readJunctions, readWarnings, readWarningRow}
@@ -33,7 +34,8 @@ rawLaneLinkWidth = 4
 abbrev pub rawLaneWidth : ℕ
 rawLaneWidth = 4
 
--- ---- 1 an input's length is no whole number of rows or above its limit: "Text is at most 1,048,576 bytes; each table at most 16,384 rows"
+-- ---- 1 an input's length is no whole number of rows or above its limit: "Text is at most 1,048,576 bytes;
+-- each table at most 16,384 rows"
 unfoldable pub rawSized : (text : List ℕ) → (w n : ℕ) → Bool
 rawSized text w n = leb (length text) 1048576 && sized w 16384 n
 
@@ -50,7 +52,8 @@ namesWorded text (suc n) r k = nameWorded text r k && namesWorded text n r (k + 
 -- "flag 0 has all four names absent"
 unfoldable pub rawTargetWorded : List ℕ → List ℕ → Bool
 rawTargetWorded text r = leb (word r 0) 1 && namesWorded text 4 r 1
-    && (flag (word r 0) || (isAbsent (word r 1) (word r 2) && isAbsent (word r 3) (word r 4) && isAbsent (word r 5) (word r 6) && isAbsent (word r 7) (word r 8)))
+    && (flag (word r 0) || (isAbsent (word r 1) (word r 2) && isAbsent (word r 3) (word r 4) && isAbsent
+    (word r 5) (word r 6) && isAbsent (word r 7) (word r 8)))
 
 -- rows that begin with n names, and have no other rule on their words
 abbrev pub rowsNamed : List ℕ → (w n : ℕ) → List ℕ → Bool
@@ -63,12 +66,16 @@ rawPartsFit t = partsFit 6 7 0 (length (t .connections) / rawConnectionWidth) (t
 
 -- the outcome of a call that writes one table of w words a row
 unfoldable pub oneTable : List Rule → ℕ → (content out : List ℕ) → Outcome (List ℕ)
-oneTable rules w content out = settled (firstBroken (rules ++ longEnough (length content ∷ []) (length out ∷ []))) (length content / w ∷ [])
+oneTable rules w content out =
+    settled (firstBroken (rules ++ longEnough (length content ∷ []) (length out ∷ [])))
+    (length content / w ∷ [])
     (written content out) out
 
 -- ---- targets
 unfoldable pub targetRules : (text raw : List ℕ) → List Rule
-targetRules text raw = rule 1 (rawSized text rawTargetWidth (length raw)) ∷ rule 2 (every (rawTargetWorded text) (table rawTargetWidth raw)) ∷ []
+targetRules text raw =
+    rule 1 (rawSized text rawTargetWidth (length raw))
+    ∷ rule 2 (every (rawTargetWorded text) (table rawTargetWidth raw)) ∷ []
 
 unfoldable pub targetContent : (text raw : List ℕ) → List ℕ
 targetContent text raw = gather (λ r. targetWords (readTarget text r)) (table rawTargetWidth raw)
@@ -79,7 +86,8 @@ readTargetsCall text raw out = oneTable (targetRules text raw) targetWidth (targ
 
 -- ---- lanes
 unfoldable pub rawLaneRules : (text raw : List ℕ) → List Rule
-rawLaneRules text raw = rule 1 (rawSized text rawLaneWidth (length raw)) ∷ rule 2 (rowsNamed text rawLaneWidth 2 raw) ∷ []
+rawLaneRules text raw =
+    rule 1 (rawSized text rawLaneWidth (length raw)) ∷ rule 2 (rowsNamed text rawLaneWidth 2 raw) ∷ []
 
 unfoldable pub rawLaneContent : (text raw : List ℕ) → List ℕ
 rawLaneContent text raw = gather (readLane text) (table rawLaneWidth raw)
@@ -101,7 +109,9 @@ junctionLengths o = length (o .junctions) ∷ length (o .connections) ∷ length
 
 -- how many rows that is
 unfoldable pub junctionCounts : JunctionOutputs → List ℕ
-junctionCounts o = length (o .junctions) / junctionWidth ∷ length (o .connections) / connectionWidth ∷ length (o .pairs) / pairWidth ∷ length (o .warnings) / warningWidth ∷ []
+junctionCounts o =
+    length (o .junctions) / junctionWidth ∷ length (o .connections) / connectionWidth
+    ∷ length (o .pairs) / pairWidth ∷ length (o .warnings) / warningWidth ∷ []
 
 -- the outputs with content c written to them
 unfoldable pub putJunctions : JunctionOutputs → JunctionOutputs → JunctionOutputs
@@ -122,14 +132,20 @@ junctionContent t = record {
 }
 
 unfoldable pub rawJunctionRules : RawTables → List Rule
-rawJunctionRules t = rule 1 (rawSized (t .text) rawJunctionWidth (length (t .junctions)) && sized rawConnectionWidth 16384 (length (t .connections)) && sized rawLaneLinkWidth 16384 (length (t .laneLinks)))
-    ∷ rule 2 (rowsNamed (t .text) rawJunctionWidth 3 (t .junctions) && rowsNamed (t .text) rawConnectionWidth 6 (t .connections) && rowsNamed (t .text) rawLaneLinkWidth 2 (t .laneLinks))
+rawJunctionRules t =
+    rule 1 (rawSized (t .text) rawJunctionWidth (length (t .junctions)) && sized rawConnectionWidth 16384
+    (length (t .connections)) && sized rawLaneLinkWidth 16384 (length (t .laneLinks)))
+    ∷ rule 2 (rowsNamed (t .text) rawJunctionWidth 3 (t .junctions) && rowsNamed (t .text) rawConnectionWidth 6
+    (t .connections) && rowsNamed (t .text) rawLaneLinkWidth 2 (t .laneLinks))
     ∷ rule 5 (rawPartsFit t) ∷ []
 
 -- "Reading: 1, 2, 5, 9"
 unfoldable pub readJunctionsRefusal : RawTables → List ℕ → Option ℕ
-readJunctionsRefusal t lengths = firstBroken (rawJunctionRules t ++ longEnough (junctionLengths (junctionContent t)) lengths)
+readJunctionsRefusal t lengths =
+    firstBroken (rawJunctionRules t ++ longEnough (junctionLengths (junctionContent t)) lengths)
 
 -- THE READING OF JUNCTIONS, ITS WHOLE OUTCOME
 unfoldable pub readJunctionsCall : RawTables → JunctionOutputs → Outcome JunctionOutputs
-readJunctionsCall t o = settled (readJunctionsRefusal t (junctionLengths o)) (junctionCounts (junctionContent t)) (putJunctions (junctionContent t) o) o
+readJunctionsCall t o =
+    settled (readJunctionsRefusal t (junctionLengths o)) (junctionCounts (junctionContent t))
+    (putJunctions (junctionContent t) o) o

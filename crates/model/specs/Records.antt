@@ -12,7 +12,8 @@ pub record Span : Type 0 where
   pub start : ℕ
   pub size : ℕ
 
--- What a road is linked to at one of its ends, a road or a junction. In OpenDRIVE the contact point says which end of the linked road is met: here false is its start, true its end.
+-- What a road is linked to at one of its ends, a road or a junction. In OpenDRIVE the contact point says which
+-- end of the linked road is met: here false is its start, true its end.
 pub record Target : Type 0 where
   pub isJunction : Bool
   pub name : Span
@@ -33,7 +34,8 @@ pub record Road : Type 0 where
 pub data JunctionKind : Type 0 where
   common direct virtual : JunctionKind
 
--- OpenDRIVE's lane link of a connection: lane number from on the incoming road leads to lane number to on the connecting road.
+-- OpenDRIVE's lane link of a connection: lane number from on the incoming road leads to lane number to on the
+-- connecting road.
 pub record Pair : Type 0 where
   pub from : ℕ
   pub to : ℕ
@@ -50,7 +52,8 @@ pub record Junction : Type 0 where
   pub kind : JunctionKind
   pub connections : List Connection
 
--- A lane. Its links are OpenDRIVE's lane link: the number of the lane before or after it, in the next section of its road or else on the road that the road's target names.
+-- A lane. Its links are OpenDRIVE's lane link: the number of the lane before or after it, in the next section
+-- of its road or else on the road that the road's target names.
 pub record Lane : Type 0 where
   pub identity : ℕ
   pub road : Span

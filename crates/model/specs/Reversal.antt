@@ -7,7 +7,8 @@ use lib.Dec.{eqb, ltb}
 use Rattle.geometry.specs.declared.gap.Direction.{Direction}
 use Rattle.geometry.specs.Gap.{flipped}
 use Rattle.model.specs.Lists.{_⊕_, pick, headOr, lastOr, mapO, bindO}
-use Rattle.model.specs.Records.{Span, Target, Road, Pair, Connection, Junction, Map, Lane, EdgedLane, targetAt, linkAt}
+use Rattle.model.specs.Records.{Span, Target, Road, Pair, Connection, Junction, Map, Lane, EdgedLane}
+use Rattle.model.specs.Records.{targetAt, linkAt}
 use Rattle.model.specs.Repair.{roadOf, Warning}
 use Rattle.model.specs.Succession.{sectionsOf, nextSection}
 
@@ -90,7 +91,8 @@ module _ (same : Span → Span → Bool) where
   unfoldable pub roadward : List Road → Span → Bool → Option Span
   roadward rs n e = bindO (bindO (roadOf same rs n) (targetAt e)) roadNamed
 
-  -- "the road it leads to (its own road if a further section lies that way, else the road that end's target names, if of kind road)"
+  -- "the road it leads to (its own road if a further section lies that way, else the road that end's target
+  -- names, if of kind road)"
   abbrev pub leadsBy : List Road → Lane → Bool → Option ℕ → Option Span
   leadsBy rs l e (some s) = some (l .road)
   leadsBy rs l e none = roadward rs (l .road) e
@@ -109,7 +111,8 @@ module _ (same : Span → Span → Bool) where
     unfoldable pub reverseLink : List Road → Lane → Bool → Option ℕ
     reverseLink rs l e = mapO (signed (marks mk (leadsTo rs l e))) (linkAt e l)
 
-    -- "its lanes' sections follow; forward and backward swap; successor and predecessor links swap; lane numbers change sign"
+    -- "its lanes' sections follow; forward and backward swap; successor and predecessor links swap; lane
+    -- numbers change sign"
     unfoldable pub reverseLane : List Road → Lane → Lane
     reverseLane rs l = record {
       identity = l .identity;

@@ -1,4 +1,5 @@
--- "How each call refuses": one test for each number, true where the number does not apply. Each is over what it reads; the rule on the tables is its abbreviation. Definitions only.
+-- "How each call refuses": one test for each number, true where the number does not apply. Each is over what it
+-- reads; the rule on the tables is its abbreviation. Definitions only.
 use mathlib.Core.Bool.{Bool, true, false, not, _&&_, _||_, cond}
 use mathlib.Core.Option.{Option, none, some}
 use mathlib.Core.List.{List, [], _∷_, _++_, map}
@@ -14,7 +15,8 @@ use Rattle.model.specs.Repair.{namesJunction}
 use Rattle.model.specs.Succession.{sectionsOf}
 use Rattle.model.specs.Reversal.{marked}
 use Rattle.model.specs.Rows.{table, word, partsFit}
-use Rattle.model.specs.Tables.{Tables, roadWidth, junctionWidth, connectionWidth, pairWidth, laneWidth, edgeWidth, flag, isAbsent, spanIn, roadsOf, junctionsOf, pairsOf, lanesOf}
+use Rattle.model.specs.Tables.{Tables, roadWidth, junctionWidth, connectionWidth, pairWidth, laneWidth}
+use Rattle.model.specs.Tables.{edgeWidth, flag, isAbsent, spanIn, roadsOf, junctionsOf, pairsOf, lanesOf}
 
 -- ---- "The first that applies is given, and only then."
 -- a refusal's number, and whether the call passes it
@@ -72,9 +74,12 @@ targetWorded text p k s n c g a = leb p 1 && cond (flag p)
 
 -- the target from word k of a row on
 abbrev pub targetWordedAt : List ℕ → List ℕ → ℕ → Bool
-targetWordedAt text r k = targetWorded text (word r k) (word r (k + 1)) (word r (k + 2)) (word r (k + 3)) (word r (k + 4)) (word r (k + 5)) (word r (k + 6))
+targetWordedAt text r k =
+    targetWorded text (word r k) (word r (k + 1)) (word r (k + 2)) (word r (k + 3)) (word r (k + 4))
+    (word r (k + 5)) (word r (k + 6))
 
--- "junction name (may be absent)"; "Names not said to be absent are present", and the absent name lies in no text that 1 lets pass
+-- "junction name (may be absent)"; "Names not said to be absent are present", and the absent name lies in no
+-- text that 1 lets pass
 unfoldable pub roadWorded : List ℕ → List ℕ → Bool
 roadWorded text r = placed text (spanIn r 0) && (isAbsent (word r 2) (word r 3) || placed text (spanIn r 2))
     && targetWordedAt text r 4 && targetWordedAt text r 11
@@ -90,7 +95,9 @@ unfoldable pub linkWorded : ℕ → ℕ → Bool
 linkWorded f n = leb f 1 && (flag f || eqb n 0)
 
 unfoldable pub laneWorded : List ℕ → List ℕ → Bool
-laneWorded text r = placed text (spanIn r 1) && leb (word r 5) 2 && linkWorded (word r 6) (word r 7) && linkWorded (word r 8) (word r 9)
+laneWorded text r =
+    placed text (spanIn r 1) && leb (word r 5) 2 && linkWorded (word r 6) (word r 7) && linkWorded (word r 8)
+    (word r 9)
 
 -- sections, pairs and edges have no rule on their words
 unfoldable pub mapWorded : Tables → Bool
@@ -120,7 +127,8 @@ sectionsFit t = sectionPartsFit (t .sections) (t .roads) && sectionsAscend (road
 
 -- ---- 5 a connection or pair part misplaced
 unfoldable pub connectionPartsFit : (connections junctions : List ℕ) → Bool
-connectionPartsFit connections junctions = partsFit 3 4 0 (length connections / connectionWidth) (table junctionWidth junctions)
+connectionPartsFit connections junctions =
+    partsFit 3 4 0 (length connections / connectionWidth) (table junctionWidth junctions)
 
 unfoldable pub pairPartsFit : (pairs connections : List ℕ) → Bool
 pairPartsFit pairs connections = partsFit 5 6 0 (length pairs / pairWidth) (table connectionWidth connections)
@@ -179,7 +187,9 @@ unfoldable pub borne : List Lane → ℕ → Bool
 borne ls i = some? (λ l. eqb (l .identity) i) ls
 
 unfoldable pub listsFit : Tables → List ℕ → List ℕ → Bool
-listsFit t offsets ids = eqb (length offsets) (suc (length (t .lanes) / laneWidth)) && climbs (length ids) offsets && every (borne (lanesOf t)) ids
+listsFit t offsets ids =
+    eqb (length offsets) (suc (length (t .lanes) / laneWidth)) && climbs (length ids) offsets && every
+    (borne (lanesOf t)) ids
 
 -- ---- 12 marks not one 0 or 1 for each road
 unfoldable pub marksFit : (roads marks : List ℕ) → Bool

@@ -1,4 +1,5 @@
--- Sequences of reversals: "each reads what the last accepted one wrote"; the set of roads that tells their answers; and the three calls on what they leave. Definitions only.
+-- Sequences of reversals: "each reads what the last accepted one wrote"; the set of roads that tells their
+-- answers; and the three calls on what they leave. Definitions only.
 use mathlib.Core.Bool.{Bool, true, false, _||_, cond}
 use mathlib.Core.Option.{Option, none, some}
 use mathlib.Core.List.{List, [], _∷_, map}
@@ -7,15 +8,19 @@ use lib.Dec.{eqb}
 use lib.ListN.{take}
 use Rattle.model.specs.Lists.{every}
 use Rattle.model.specs.Rows.{word}
-use Rattle.model.specs.Tables.{Tables, roadWidth, junctionWidth, connectionWidth, pairWidth, laneWidth, edgeWidth, roadsOf}
-use Rattle.model.specs.Calls.{Answer, refused, wrote, Outcome, RepairOutputs, repairCall, ListOutputs, successionCall, gapCall, ReversalOutputs, reversalLengths, reversalContent, reversalRefusal, reversalCall}
+use Rattle.model.specs.Tables.{Tables, roadWidth, junctionWidth, connectionWidth, pairWidth, laneWidth}
+use Rattle.model.specs.Tables.{edgeWidth, roadsOf}
+use Rattle.model.specs.Calls.{Answer, refused, wrote, Outcome, RepairOutputs, repairCall, ListOutputs}
+use Rattle.model.specs.Calls.{successionCall, gapCall, ReversalOutputs, reversalLengths, reversalContent}
+use Rattle.model.specs.Calls.{reversalRefusal, reversalCall}
 
 -- a reversal call of a sequence: its marks, and six outputs of any content and length
 pub record Call : Type 0 where
   pub marks : List ℕ
   pub outs : ReversalOutputs
 
--- the tables with other rows in place of those that a reversal writes; "a table that a call doesn't write goes on as it was read"
+-- the tables with other rows in place of those that a reversal writes; "a table that a call doesn't write goes
+-- on as it was read"
 unfoldable pub withReversed : Tables → ReversalOutputs → Tables
 withReversed t c = record {
   text = t .text;
@@ -84,7 +89,8 @@ reversedOnceBy set t = withReversed t (reversalContent t set)
 unfoldable pub reversedBy : List ℕ → Tables → Tables
 reversedBy set t = cond (isEmpty set) t (reversedOnceBy set t)
 
--- "A reversal that the rules of refusal below refuse .. leaves the set; any other puts in each marked road, or takes it out"
+-- "A reversal that the rules of refusal below refuse .. leaves the set; any other puts in each marked road, or
+-- takes it out"
 abbrev pub setBy : Option ℕ → List ℕ → List ℕ → List ℕ
 setBy (some k) set marks = set
 setBy none set marks = toggledMarks set marks
@@ -101,7 +107,9 @@ setAfter t set (c ∷ cs) = setAfter t (fed t set (c .marks) (reversalLengths (c
 -- what the set tells that each call answers: the reversal's answer on the first map reversed by the set so far
 abbrev pub answersBySet : Tables → List ℕ → List Call → List Answer
 answersBySet t set [] = []
-answersBySet t set (c ∷ cs) = reversalCall (reversedBy set t) (c .marks) (c .outs) .answer ∷ answersBySet t (fed t set (c .marks) (reversalLengths (c .outs))) cs
+answersBySet t set (c ∷ cs) =
+    reversalCall (reversedBy set t) (c .marks) (c .outs) .answer
+    ∷ answersBySet t (fed t set (c .marks) (reversalLengths (c .outs))) cs
 
 -- is a call accepted? is any of a sequence?
 abbrev pub isAccepted : Answer → Bool
@@ -124,7 +132,8 @@ pub record Buffers : Type 0 where
   pub forLists : ListOutputs
   pub forGaps : List ℕ
 
--- What they come to. "A refusal is the same by its number, and after one by succession there are no lists and the gap check isn't called."
+-- What they come to. "A refusal is the same by its number, and after one by succession there are no lists and
+-- the gap check isn't called."
 pub data Found : Type 0 where
   noRepair : ℕ → Found
   noLists : List ℕ → ℕ → Found

@@ -9,7 +9,8 @@ use lib.ListN.{length, take, drop}
 use Rattle.geometry.specs.declared.gap.Direction.{Direction}
 use Rattle.geometry.specs.declared.gap.Direction.the-variants.{Forward, Backward, Both}
 use Rattle.model.specs.Lists.{isSome, gather}
-use Rattle.model.specs.Records.{Span, Target, Road, JunctionKind, common, direct, virtual, Pair, Connection, Junction, Lane, Map, EdgedLane}
+use Rattle.model.specs.Records.{Span, Target, Road, JunctionKind, common, direct, virtual, Pair}
+use Rattle.model.specs.Records.{Connection, Junction, Lane, Map, EdgedLane}
 use Rattle.model.specs.Rows.{table, part, word, rowsFrom}
 
 -- the tables as lent: text in bytes, edges in f32, the others in words
@@ -23,7 +24,8 @@ pub record Tables : Type 0 where
   pub lanes : List ℕ
   pub edges : List Float
 
--- the tables of a call that reads no lanes and no edges, and of one that reads no edges: what a call does not read is no part of its outcome
+-- the tables of a call that reads no lanes and no edges, and of one that reads no edges: what a call does not
+-- read is no part of its outcome
 abbrev pub mapTables : (text roads sections junctions connections pairs : List ℕ) → Tables
 mapTables text roads sections junctions connections pairs = record {
   text = text;
@@ -133,7 +135,9 @@ targetOf p k s n c g a = cond (flag p) (some (record {
 
 -- the target from word k of a row on
 abbrev pub targetIn : List ℕ → ℕ → Option Target
-targetIn r k = targetOf (word r k) (word r (k + 1)) (word r (k + 2)) (word r (k + 3)) (word r (k + 4)) (word r (k + 5)) (word r (k + 6))
+targetIn r k =
+    targetOf (word r k) (word r (k + 1)) (word r (k + 2)) (word r (k + 3)) (word r (k + 4)) (word r (k + 5))
+    (word r (k + 6))
 
 -- "Where present is 0 the other six words are 0"
 abbrev pub targetWord : (Target → ℕ) → Option Target → ℕ
@@ -204,7 +208,8 @@ roadIn sections r = record {
 
 -- a road's row; its part begins at section row first
 unfoldable pub roadRow : ℕ → Road → List ℕ
-roadRow first r = spanWords (r .name) ++ nameWords (r .junction) ++ targetWords (r .predecessor) ++ targetWords (r .successor)
+roadRow first r =
+    spanWords (r .name) ++ nameWords (r .junction) ++ targetWords (r .predecessor) ++ targetWords (r .successor)
     ++ (first ∷ length (r .sections) ∷ [])
 
 -- "Pair: two lane numbers, from and to"
@@ -226,17 +231,20 @@ connectionIn pairs r = record {
 
 -- a connection's row; its part begins at pair row first
 unfoldable pub connectionRow : ℕ → Connection → List ℕ
-connectionRow first c = spanWords (c .incoming) ++ spanWords (c .connecting) ++ (bit (c .contact) ∷ first ∷ length (c .pairs) ∷ [])
+connectionRow first c =
+    spanWords (c .incoming) ++ spanWords (c .connecting) ++ (bit (c .contact) ∷ first ∷ length (c .pairs) ∷ [])
 
 -- "Junction, 5 words: name, kind (0 common, 1 direct, 2 virtual), connection part"
 unfoldable pub junctionIn : List Connection → List ℕ → Junction
-junctionIn connections r = record { name = spanIn r 0; kind = kindOf (word r 2); connections = part (word r 3) (word r 4) connections }
+junctionIn connections r =
+    record { name = spanIn r 0; kind = kindOf (word r 2); connections = part (word r 3) (word r 4) connections }
 
 -- a junction's row; its part begins at connection row first
 unfoldable pub junctionRow : ℕ → Junction → List ℕ
 junctionRow first j = spanWords (j .name) ++ (kindWord (j .kind) ∷ first ∷ length (j .connections) ∷ [])
 
--- "Lane, 10 words: identity, road name, section, number, direction, successor flag and number, predecessor flag and number"
+-- "Lane, 10 words: identity, road name, section, number, direction, successor flag and number, predecessor flag
+-- and number"
 unfoldable pub laneIn : List ℕ → Lane
 laneIn r = record {
   identity = word r 0;
@@ -274,7 +282,8 @@ unfoldable pub connectionsIn : (pairs connections : List ℕ) → List Connectio
 connectionsIn pairs connections = map (connectionIn (pairsIn pairs)) (table connectionWidth connections)
 
 unfoldable pub junctionsIn : (pairs connections junctions : List ℕ) → List Junction
-junctionsIn pairs connections junctions = map (junctionIn (connectionsIn pairs connections)) (table junctionWidth junctions)
+junctionsIn pairs connections junctions =
+    map (junctionIn (connectionsIn pairs connections)) (table junctionWidth junctions)
 
 unfoldable pub lanesIn : (lanes : List ℕ) → List Lane
 lanesIn lanes = map laneIn (table laneWidth lanes)

@@ -25,6 +25,7 @@ sameIn text a b = equalBytes (bytesOf text a) (bytesOf text b)
 unfoldable pub placed : List ℕ → Span → Bool
 placed text n = leb (n .start + n .size) (length text)
 
--- "a name's bytes are handed back as a part of the text (empty for an absent or misplaced name)". The absent name, 4,294,967,295 and 0, lies in no text within the limit.
+-- "a name's bytes are handed back as a part of the text (empty for an absent or misplaced name)". The absent
+-- name, 4,294,967,295 and 0, lies in no text within the limit.
 unfoldable pub nameBytes : List ℕ → Span → List ℕ
 nameBytes text n = cond (placed text n) (bytesOf text n) []

@@ -22,11 +22,14 @@ use Rattle.reading.specs.declared.numbers.Link.{Link}
 use Rattle.reading.proofs.NameLaws.{name-of}
 use Rattle.reading.proofs.RowLaws.{numbered-rows, part-even}
 
-pub lane-row : (text raw : List ℕ) (i : ℕ) {a b : Link} → a ≡ linkRead (numberOf text (nameIn raw (i * 4))) → b ≡ linkRead (numberOf text (nameIn raw (i * 4 + 2))) →
+pub lane-row : (text raw : List ℕ) (i : ℕ) {a b : Link} → a ≡ linkRead (numberOf text (nameIn raw (i * 4)))
+    → b ≡ linkRead (numberOf text (nameIn raw (i * 4 + 2))) →
     a .flag ∷ a .number ∷ b .flag ∷ b .number ∷ [] ≡ readLane text (rowAt 4 raw i)
 unfolding readLane
 lane-row text raw i {a} {b} e f = ap₂ (λ (x y : Link). x .flag ∷ x .number ∷ y .flag ∷ y .number ∷ []) e f
-    ∙ ap₂ (λ (x y : Option Span). linkWords (numberOf text x) ++ linkWords (numberOf text y)) (ap (nameIn raw) (sym (add-zero (i * 4))) ∙ sym (name-of 4 i raw 0 (omega arith))) (sym (name-of 4 i raw 2 (omega arith)))
+    ∙ ap₂ (λ (x y : Option Span). linkWords (numberOf text x) ++ linkWords (numberOf text y))
+    (ap (nameIn raw) (sym (add-zero (i * 4))) ∙ sym (name-of 4 i raw 0 (omega arith)))
+    (sym (name-of 4 i raw 2 (omega arith)))
 
 -- the row of lane k
 abbrev pub laneAt : (text raw : List ℕ) → ℕ → List ℕ
@@ -36,12 +39,14 @@ pub lane-four : (text raw : List ℕ) (k : ℕ) → length (laneAt text raw k) �
 unfolding readLane
 lane-four text raw k = refl
 
-pub lanes-content : (text raw : List ℕ) → rawLaneContent text raw ≡ gather (laneAt text raw) (partRows 0 (length raw / 4))
+pub lanes-content : (text raw : List ℕ)
+    → rawLaneContent text raw ≡ gather (laneAt text raw) (partRows 0 (length raw / 4))
 unfolding rawLaneContent
 lanes-content text raw = numbered-rows (readLane text) 4 raw
 
 pub lanes-length : (text raw : List ℕ) → length (rawLaneContent text raw) ≡ length raw / 4 * 4
-lanes-length text raw = ap length (lanes-content text raw) ∙ part-even (laneAt text raw) 4 (lane-four text raw) 0 (length raw / 4)
+lanes-length text raw =
+    ap length (lanes-content text raw) ∙ part-even (laneAt text raw) 4 (lane-four text raw) 0 (length raw / 4)
 
 -- ---- refusals
 module _ (text raw : List ℕ) where
@@ -49,14 +54,19 @@ module _ (text raw : List ℕ) where
   unfolding rawLaneRules
   lanes-1 a = rw a
 
-  pub lanes-2 : rawSized text 4 (length raw) ≡ true → rowsNamed text 4 2 raw ≡ false → some 2 ≡ firstBroken (rawLaneRules text raw)
+  pub lanes-2 : rawSized text 4 (length raw) ≡ true → rowsNamed text 4 2 raw ≡ false
+      → some 2 ≡ firstBroken (rawLaneRules text raw)
   unfolding rawLaneRules
   lanes-2 a b = rw (a, b)
 
-  pub lanes-0 : rawSized text 4 (length raw) ≡ true → rowsNamed text 4 2 raw ≡ true → none ≡ firstBroken (rawLaneRules text raw)
+  pub lanes-0 : rawSized text 4 (length raw) ≡ true → rowsNamed text 4 2 raw ≡ true
+      → none ≡ firstBroken (rawLaneRules text raw)
   unfolding rawLaneRules
   lanes-0 a b = rw (a, b)
 
   pub lanes-few : none ≡ firstBroken (rawLaneRules text raw) → length raw / 4 ≤ 16384
   unfolding rawLaneRules rawSized
-  lanes-few e = sized-few 4 16384 (length raw) (right-on (leb (length text) 1048576) (sized 4 16384 (length raw)) (all-pass (rawLaneRules text raw) (sym e) .0))
+  lanes-few e =
+      sized-few 4 16384 (length raw)
+      (right-on (leb (length text) 1048576) (sized 4 16384 (length raw))
+      (all-pass (rawLaneRules text raw) (sym e) .0))

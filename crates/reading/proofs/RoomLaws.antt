@@ -22,7 +22,8 @@ pub record Room (connections links : List ℕ) (c n p w : ℕ) : Type 0 where
   pub warnings : w + getD connections (c * 14 + 13) 0 < 32768
   pub kept : n < 16384
 
-pub room : {junctions connections links : List ℕ} {c n p w : ℕ} → Ready junctions connections links → c < length connections / 14 → Low connections c n p w → Room connections links c n p w
+pub room : {junctions connections links : List ℕ} {c n p w : ℕ} → Ready junctions connections links
+    → c < length connections / 14 → Low connections c n p w → Room connections links c n p w
 room {junctions} {connections} {links} {c} {n} {p} {w} r h l =
     let a = row-fits (length connections / 14) 14 c h in
     let b = rows-in (length connections) 14 in
@@ -36,7 +37,9 @@ room {junctions} {connections} {links} {c} {n} {p} {w} r h l =
     record { row = omega arith; small = omega arith; part = d; few = omega arith; pairs = omega arith; warnings = omega arith; kept = omega arith }
 
 -- one connection more
-pub low-more : {connections : List ℕ} {c n p w : ℕ} (n′ p′ w′ : ℕ) → Low connections c n p w → n′ ≤ n + 1 → p′ ≤ p + getD connections (c * 14 + 13) 0 → w′ ≤ w + getD connections (c * 14 + 13) 0 + 1 → Low connections (c + 1) n′ p′ w′
+pub low-more : {connections : List ℕ} {c n p w : ℕ} (n′ p′ w′ : ℕ) → Low connections c n p w → n′ ≤ n + 1
+    → p′ ≤ p + getD connections (c * 14 + 13) 0 → w′ ≤ w + getD connections (c * 14 + 13) 0 + 1
+    → Low connections (c + 1) n′ p′ w′
 low-more {connections} {c} n′ p′ w′ l a b d =
     let e = total-more c (counts 14 13 connections) in
     let x = l .connections-low in
@@ -45,7 +48,8 @@ low-more {connections} {c} n′ p′ w′ l a b d =
     record { connections-low = omega arith; pairs-low = omega arith; warnings-low = omega arith }
 
 -- several that add no connection, no pair and a warning each
-pub low-dropped : {connections : List ℕ} {c n p w : ℕ} (k : ℕ) → Low connections c n p w → Low connections (c + k) n p (w + k)
+pub low-dropped : {connections : List ℕ} {c n p w : ℕ} (k : ℕ) → Low connections c n p w
+    → Low connections (c + k) n p (w + k)
 low-dropped {connections} {c} k l =
     let e = total-le c (c + k) (counts 14 13 connections) (omega arith) in
     let x = l .connections-low in
@@ -64,7 +68,10 @@ pub record Ground (junctions connections : List ℕ) (j first count n p w : ℕ)
   pub warnings : w + count ≤ 32768
   pub next : first + count ≡ total (j + 1) (counts 8 7 junctions)
 
-pub ground : {junctions connections links : List ℕ} {j first count n p w : ℕ} → Ready junctions connections links → j < length junctions / 8 → Low connections (total j (counts 8 7 junctions)) n p w → first ≡ getD junctions (j * 8 + 6) 0 → count ≡ getD junctions (j * 8 + 7) 0 →
+pub ground : {junctions connections links : List ℕ} {j first count n p w : ℕ}
+    → Ready junctions connections links → j < length junctions / 8
+    → Low connections (total j (counts 8 7 junctions)) n p w → first ≡ getD junctions (j * 8 + 6) 0
+    → count ≡ getD junctions (j * 8 + 7) 0 →
     Ground junctions connections j first count n p w
 ground {junctions} {connections} {links} {j} {first} {count} {n} {p} {w} r h l f g =
     let a = row-fits (length junctions / 8) 8 j h in
@@ -84,4 +91,5 @@ ground {junctions} {connections} {links} {j} {first} {count} {n} {p} {w} r h l f
 
 -- before the first junction, and after the last
 pub low-begin : (junctions connections : List ℕ) → Low connections (total 0 (counts 8 7 junctions)) 0 0 0
-low-begin junctions connections = record { connections-low = omega arith; pairs-low = omega arith; warnings-low = omega arith }
+low-begin junctions connections =
+    record { connections-low = omega arith; pairs-low = omega arith; warnings-low = omega arith }

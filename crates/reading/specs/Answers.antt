@@ -1,4 +1,5 @@
--- What the readings of targets and lanes and the length check answer, with document 01's number and values for each case. Definitions only.
+-- What the readings of targets and lanes and the length check answer, with document 01's number and values for
+-- each case. Definitions only.
 use mathlib.Core.List.{List, [], _∷_}
 use Prim.Native.Nat.{ℕ}
 use Rattle.model.specs.Calls.{Answer, Outcome, refused, wrote}

@@ -1,4 +1,5 @@
--- What the reading of junctions answers, with document 01's number and values for each case, and its outputs. Definitions only.
+-- What the reading of junctions answers, with document 01's number and values for each case, and its outputs.
+-- Definitions only.
 use mathlib.Core.List.{List, [], _∷_}
 use Prim.Native.Nat.{ℕ}
 use Rattle.model.specs.Calls.{Answer, Outcome, refused, wrote}
@@ -15,7 +16,8 @@ answerOf (Refused v) = refused (refusalWord (refusalOf v))
 
 -- the four outputs
 abbrev pub outs : (junctions connections pairs warnings : List ℕ) → JunctionOutputs
-outs junctions connections pairs warnings = record { junctions = junctions; connections = connections; pairs = pairs; warnings = warnings }
+outs junctions connections pairs warnings =
+    record { junctions = junctions; connections = connections; pairs = pairs; warnings = warnings }
 
 -- the answer, and the outputs after the call
 abbrev pub outcome : ReadJunctions → JunctionOutputs → Outcome JunctionOutputs

@@ -1,4 +1,5 @@
--- What the readers of lane links, connections and junctions have done: rows counted, and their words put where an output has room for them. Definitions only.
+-- What the readers of lane links, connections and junctions have done: rows counted, and their words put where
+-- an output has room for them. Definitions only.
 use mathlib.Core.Path.{_≡_}
 use mathlib.Core.List.{List, []}
 use Prim.Native.Nat.{ℕ, _+_, _*_, _/_, _≤_}
@@ -13,7 +14,8 @@ use Rattle.rules.specs.Parts.{Fit, counts}
 
 -- the raw tables of a call
 abbrev pub rawTables : (text junctions connections laneLinks : List ℕ) → RawTables
-rawTables text junctions connections laneLinks = record { text = text; junctions = junctions; connections = connections; laneLinks = laneLinks }
+rawTables text junctions connections laneLinks =
+    record { text = text; junctions = junctions; connections = connections; laneLinks = laneLinks }
 
 -- the pair that a lane link gives, and its warning, by what they read
 unfoldable pub pairsAt : (text laneLinks : List ℕ) → ℕ → List Pair
@@ -59,7 +61,8 @@ pub record Ready (junctions connections laneLinks : List ℕ) : Type 0 where
   pub connection-parts : Fit 8 6 7 junctions (length connections / 14)
   pub link-parts : Fit 14 12 13 connections (length laneLinks / 4)
 
--- no more than the rows before connection c give: c connections, as many pairs as they have lane links, and a warning for each of both
+-- no more than the rows before connection c give: c connections, as many pairs as they have lane links, and a
+-- warning for each of both
 pub record Low (connections : List ℕ) (c n p w : ℕ) : Type 0 where
   pub connections-low : n ≤ c
   pub pairs-low : p ≤ total c (counts 14 13 connections)

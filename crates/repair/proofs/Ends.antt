@@ -28,24 +28,42 @@ pub one-is : (x : ℕ) → (x ≡ 1 → ⊥) → 0 ≡ bit (eqb x 1)
 one-is x n = sym (ap bit (borrow.Author.Tests.ne-eqb x 1 n))
 
 -- the words of an end that was given junction row w - 2
-pub words-linked : (w : ℕ) (roads junctions : List ℕ) (a e : ℕ) → (w ≡ 0 → ⊥) → (w ≡ 1 → ⊥) → 1 ∷ 1 ∷ getD junctions ((w - 2) * 5) 0 ∷ getD junctions ((w - 2) * 5 + 1) 0 ∷ e ∷ 1 ∷ 0 ∷ [] ≡ nowWords w roads junctions a e
+pub words-linked : (w : ℕ) (roads junctions : List ℕ) (a e : ℕ) → (w ≡ 0 → ⊥) → (w ≡ 1 → ⊥)
+    → 1 ∷ 1 ∷ getD junctions ((w - 2) * 5) 0 ∷ getD junctions ((w - 2) * 5 + 1) 0 ∷ e ∷ 1 ∷ 0 ∷ []
+    ≡ nowWords w roads junctions a e
 words-linked zero roads junctions a e n m = absurd (n refl)
 words-linked (suc zero) roads junctions a e n m = absurd (m refl)
-words-linked (suc (suc k)) roads junctions a e n m = let z : suc (suc k) - 2 ≡ k = omega arith in ap (λ (i : ℕ). 1 ∷ 1 ∷ getD junctions (i * 5) 0 ∷ getD junctions (i * 5 + 1) 0 ∷ e ∷ 1 ∷ 0 ∷ []) z
+words-linked (suc (suc k)) roads junctions a e n m =
+    let z : suc (suc k) - 2 ≡ k = omega arith in
+    ap (λ (i : ℕ). 1 ∷ 1 ∷ getD junctions (i * 5) 0 ∷ getD junctions (i * 5 + 1) 0 ∷ e ∷ 1 ∷ 0 ∷ []) z
 
 -- ---- what they mean
 module _ (ws : List ℕ) (a k : ℕ) where
   shift : (j : ℕ) → getD ws (a + k + j) 0 ≡ getD (drop a ws) (k + j) 0
   shift j = ap (λ (m : ℕ). getD ws m 0) (add-assoc a k j) ∙ sym (getD-drop a ws (k + j) 0)
 
-  as-read : targetOf (getD ws (a + k) 0) (getD ws (a + k + 1) 0) (getD ws (a + k + 2) 0) (getD ws (a + k + 3) 0) (getD ws (a + k + 4) 0) (getD ws (a + k + 5) 0) (getD ws (a + k + 6) 0) ≡ targetIn (drop a ws) k
-  as-read = λ i. targetOf (sym (getD-drop a ws k 0) i) (shift 1 i) (shift 2 i) (shift 3 i) (shift 4 i) (shift 5 i) (shift 6 i)
+  as-read : targetOf (getD ws (a + k) 0) (getD ws (a + k + 1) 0) (getD ws (a + k + 2) 0) (getD ws (a + k + 3) 0)
+      (getD ws (a + k + 4) 0) (getD ws (a + k + 5) 0) (getD ws (a + k + 6) 0) ≡ targetIn (drop a ws) k
+  as-read =
+      λ i.
+      targetOf (sym (getD-drop a ws k 0) i) (shift 1 i) (shift 2 i) (shift 3 i) (shift 4 i) (shift 5 i)
+      (shift 6 i)
 
-means-at : (w : ℕ) (roads junctions : List ℕ) (r : ℕ) (b : Bool) → targetIn (nowWords w roads junctions (r * 20 + pick b 4 11) (bit b)) 0 ≡ endNow w (targetIn (from 20 roads r) (pick b 4 11)) (λ k. linked (nameAt 5 0 junctions k) b)
+means-at : (w : ℕ) (roads junctions : List ℕ) (r : ℕ) (b : Bool)
+    → targetIn (nowWords w roads junctions (r * 20 + pick b 4 11) (bit b)) 0
+    ≡ endNow w (targetIn (from 20 roads r) (pick b 4 11)) (λ k. linked (nameAt 5 0 junctions k) b)
 unfolding linked
 means-at zero roads junctions r b = as-read roads (r * 20) (pick b 4 11)
 means-at (suc zero) roads junctions r b = refl
-means-at (suc (suc k)) roads junctions r b = λ i. some (record { isJunction = true; name = span (getD junctions (flat (k * 5) i) 0) (getD junctions (flat1 (k * 5) i) 0); contact = flag-bit b i; given = true; along = false })
+means-at (suc (suc k)) roads junctions r b =
+    λ i.
+    some (record {
+      isJunction = true;
+      name = span (getD junctions (flat (k * 5) i) 0) (getD junctions (flat1 (k * 5) i) 0);
+      contact = flag-bit b i;
+      given = true;
+      along = false;
+    })
   where
     flat : (m : ℕ) → m ≡ m + 0
     flat m = omega arith
@@ -53,34 +71,57 @@ means-at (suc (suc k)) roads junctions r b = λ i. some (record { isJunction = t
     flat1 : (m : ℕ) → m + 1 ≡ m + 0 + 1
     flat1 m = omega arith
 
-pub now-means : (roads junctions ends : List ℕ) (r e : ℕ) → e ≤ 1 → targetIn (nowWords (getD ends (r * 2 + e) 0) roads junctions (r * 20 + 4 + e * 7) e) 0 ≡ targetNow roads junctions ends r (eqb e 1)
+pub now-means : (roads junctions ends : List ℕ) (r e : ℕ) → e ≤ 1
+    → targetIn (nowWords (getD ends (r * 2 + e) 0) roads junctions (r * 20 + 4 + e * 7) e) 0
+    ≡ targetNow roads junctions ends r (eqb e 1)
 unfolding targetNow
-now-means roads junctions ends r zero h = (let z : r * 20 + 4 + 0 * 7 ≡ r * 20 + 4 = omega arith in ap (λ (a : ℕ). targetIn (nowWords (getD ends (r * 2 + 0) 0) roads junctions a 0) 0) z) ∙ means-at (getD ends (r * 2 + 0) 0) roads junctions r false
-now-means roads junctions ends r (suc zero) h = (let z : r * 20 + 4 + 1 * 7 ≡ r * 20 + 11 = omega arith in ap (λ (a : ℕ). targetIn (nowWords (getD ends (r * 2 + 1) 0) roads junctions a 1) 0) z) ∙ means-at (getD ends (r * 2 + 1) 0) roads junctions r true
+now-means roads junctions ends r zero h =
+    (let z : r * 20 + 4 + 0 * 7 ≡ r * 20 + 4 = omega arith in
+    ap (λ (a : ℕ). targetIn (nowWords (getD ends (r * 2 + 0) 0) roads junctions a 0) 0) z)
+    ∙ means-at (getD ends (r * 2 + 0) 0) roads junctions r false
+now-means roads junctions ends r (suc zero) h =
+    (let z : r * 20 + 4 + 1 * 7 ≡ r * 20 + 11 = omega arith in
+    ap (λ (a : ℕ). targetIn (nowWords (getD ends (r * 2 + 1) 0) roads junctions a 1) 0) z)
+    ∙ means-at (getD ends (r * 2 + 1) 0) roads junctions r true
 now-means roads junctions ends r (suc (suc e)) h = absurd (omega arith)
 
 -- ---- tests of a target's words
-pub names-is : (same : Span → Span → Bool) (j : Span) (p k s n c g a : ℕ) → (eqb p 1 && eqb k 1) && same (span s n) j ≡ namesJunction same j (targetOf p k s n c g a)
+pub names-is : (same : Span → Span → Bool) (j : Span) (p k s n c g a : ℕ)
+    → (eqb p 1 && eqb k 1) && same (span s n) j ≡ namesJunction same j (targetOf p k s n c g a)
 names-is same j p k s n c g a = go (eqb p 1)
   where
-    go : (b : Bool) → (b && eqb k 1) && same (span s n) j ≡ namesJunction same j (cond b (some (record { isJunction = eqb k 1; name = span s n; contact = eqb c 1; given = eqb g 1; along = eqb a 1 })) none)
+    go : (b : Bool)
+        → (b && eqb k 1) && same (span s n) j
+        ≡ namesJunction same j (cond b (some
+        (record { isJunction = eqb k 1; name = span s n; contact = eqb c 1; given = eqb g 1; along = eqb a 1 }))
+        none)
     go true = refl
     go false = refl
 
 module _ (same : Span → Span → Bool) (m : Span) (p k s n c g a : ℕ) where
-  pub back-none : ((eqb p 1 && not (eqb k 1)) && same (span s n) m) && eqb g 1 ≡ false → none ≡ bindO (targetOf p k s n c g a) (backEnd same m)
+  pub back-none : ((eqb p 1 && not (eqb k 1)) && same (span s n) m) && eqb g 1 ≡ false
+      → none ≡ bindO (targetOf p k s n c g a) (backEnd same m)
   unfolding backEnd
   back-none e = go (eqb p 1) e
     where
-      go : (b : Bool) → ((b && not (eqb k 1)) && same (span s n) m) && eqb g 1 ≡ false → none ≡ bindO {A = Target} (cond b (some (record { isJunction = eqb k 1; name = span s n; contact = eqb c 1; given = eqb g 1; along = eqb a 1 })) none) (λ t. cond (not (t .isJunction) && same (t .name) m && t .given) (some (t .contact)) none)
+      go : (b : Bool) → ((b && not (eqb k 1)) && same (span s n) m) && eqb g 1 ≡ false
+          → none
+          ≡ bindO {A = Target} (cond b (some (record
+          { isJunction = eqb k 1; name = span s n; contact = eqb c 1; given = eqb g 1; along = eqb a 1 })) none)
+          (λ t. cond (not (t .isJunction) && same (t .name) m && t .given) (some (t .contact)) none)
       go true e = sym (ap (λ b. cond b (some (eqb c 1)) none) e)
       go false e = refl
 
-  pub back-some : ((eqb p 1 && not (eqb k 1)) && same (span s n) m) && eqb g 1 ≡ true → some (eqb c 1) ≡ bindO (targetOf p k s n c g a) (backEnd same m)
+  pub back-some : ((eqb p 1 && not (eqb k 1)) && same (span s n) m) && eqb g 1 ≡ true
+      → some (eqb c 1) ≡ bindO (targetOf p k s n c g a) (backEnd same m)
   unfolding backEnd
   back-some e = go (eqb p 1) e
     where
-      go : (b : Bool) → ((b && not (eqb k 1)) && same (span s n) m) && eqb g 1 ≡ true → some (eqb c 1) ≡ bindO {A = Target} (cond b (some (record { isJunction = eqb k 1; name = span s n; contact = eqb c 1; given = eqb g 1; along = eqb a 1 })) none) (λ t. cond (not (t .isJunction) && same (t .name) m && t .given) (some (t .contact)) none)
+      go : (b : Bool) → ((b && not (eqb k 1)) && same (span s n) m) && eqb g 1 ≡ true
+          → some (eqb c 1)
+          ≡ bindO {A = Target} (cond b (some (record
+          { isJunction = eqb k 1; name = span s n; contact = eqb c 1; given = eqb g 1; along = eqb a 1 })) none)
+          (λ t. cond (not (t .isJunction) && same (t .name) m && t .given) (some (t .contact)) none)
       go true e = sym (ap (λ b. cond b (some (eqb c 1)) none) e)
       go false e = absurd (mathlib.Core.Bool.false≢true e)
 
@@ -96,27 +137,37 @@ end-one c = go (eqb c 1)
 pub present-is : (p k s n c g a : ℕ) → isSome (targetOf p k s n c g a) ≡ eqb p 1
 present-is p k s n c g a = go (eqb p 1)
   where
-    go : (b : Bool) → isSome {A = Target} (cond b (some (record { isJunction = eqb k 1; name = span s n; contact = eqb c 1; given = eqb g 1; along = eqb a 1 })) none) ≡ b
+    go : (b : Bool)
+        → isSome {A = Target} (cond b (some
+        (record { isJunction = eqb k 1; name = span s n; contact = eqb c 1; given = eqb g 1; along = eqb a 1 }))
+        none) ≡ b
     go true = refl
     go false = refl
 
 -- the target at an end of a road now
-pub at-end : (ss roads junctions ends : List ℕ) (r : ℕ) (e : Bool) → targetAt e (roadNow ss roads junctions ends r) ≡ targetNow roads junctions ends r e
+pub at-end : (ss roads junctions ends : List ℕ) (r : ℕ) (e : Bool)
+    → targetAt e (roadNow ss roads junctions ends r) ≡ targetNow roads junctions ends r e
 unfolding roadNow
 at-end ss roads junctions ends r true = refl
 at-end ss roads junctions ends r false = refl
 
 module _ (ss roads junctions ends : List ℕ) (r : ℕ) where
-  pub vacant-is : (e : ℕ) (b : Bool) → isSome (targetNow roads junctions ends r (eqb e 1)) ≡ b → cond b none (some (eqb e 1)) ≡ bindO (endOpt (suc e)) (vacantEnd (roadNow ss roads junctions ends r))
+  pub vacant-is : (e : ℕ) (b : Bool) → isSome (targetNow roads junctions ends r (eqb e 1)) ≡ b
+      → cond b none (some (eqb e 1)) ≡ bindO (endOpt (suc e)) (vacantEnd (roadNow ss roads junctions ends r))
   unfolding vacantEnd
-  vacant-is e b h = ap (λ x. cond x none (some (eqb e 1))) (sym (ap isSome (at-end ss roads junctions ends r (eqb e 1)) ∙ h))
+  vacant-is e b h =
+      ap (λ x. cond x none (some (eqb e 1))) (sym (ap isSome (at-end ss roads junctions ends r (eqb e 1)) ∙ h))
 
   module _ (same : Span → Span → Bool) (j : Span) where
-    pub meets-is : meets same j (roadNow ss roads junctions ends r) ≡ namesJunction same j (targetNow roads junctions ends r false) || namesJunction same j (targetNow roads junctions ends r true)
+    pub meets-is : meets same j (roadNow ss roads junctions ends r)
+        ≡ namesJunction same j (targetNow roads junctions ends r false) || namesJunction same j
+        (targetNow roads junctions ends r true)
     unfolding meets roadNow
     meets-is = refl
 
-    pub meeting-is : meetingEnd same j (roadNow ss roads junctions ends r) ≡ cond (namesJunction same j (targetNow roads junctions ends r true)) (some true) (cond (namesJunction same j (targetNow roads junctions ends r false)) (some false) none)
+    pub meeting-is : meetingEnd same j (roadNow ss roads junctions ends r)
+        ≡ cond (namesJunction same j (targetNow roads junctions ends r true)) (some true)
+        (cond (namesJunction same j (targetNow roads junctions ends r false)) (some false) none)
     unfolding meetingEnd roadNow
     meeting-is = refl
 

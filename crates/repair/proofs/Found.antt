@@ -30,47 +30,80 @@ foundRoad F (suc r) = some (F r)
 
 -- ---- the first that passes, changed; and its row
 module _ {A : Type 0} (p : A → Bool) (d : A) where
-  amend-at : (g : A → A) (xs : List A) (r : ℕ) → r < length xs → p (getD xs r d) ≡ true → ((i : ℕ) → i < r → p (getD xs i d) ≡ false) → amend p g xs ≡ set xs r (g (getD xs r d))
+  amend-at : (g : A → A) (xs : List A) (r : ℕ) → r < length xs → p (getD xs r d) ≡ true
+      → ((i : ℕ) → i < r → p (getD xs i d) ≡ false) → amend p g xs ≡ set xs r (g (getD xs r d))
   amend-at g [] r l h k = absurd (not-suc-le-zero l)
   amend-at g (x ∷ xs) zero l h k = ap (λ b. cond b (g x ∷ xs) (x ∷ amend p g xs)) h
-  amend-at g (x ∷ xs) (suc r) l h k = ap (λ b. cond b (g x ∷ xs) (x ∷ amend p g xs)) (k 0 (omega arith)) ∙ ap {B = List A} (λ l. x ∷ l) (amend-at g xs r (le-of-suc-le-suc l) h (λ i q. k (suc i) (omega arith)))
+  amend-at g (x ∷ xs) (suc r) l h k =
+      ap (λ b. cond b (g x ∷ xs) (x ∷ amend p g xs)) (k 0 (omega arith))
+      ∙ ap {B = List A} (λ l. x ∷ l) (amend-at g xs r (le-of-suc-le-suc l) h (λ i q. k (suc i) (omega arith)))
 
 -- one row of a list by rows changed
-set-tab : {A : Type 0} (n : ℕ) (F G : ℕ → A) (r : ℕ) (v : A) → r < n → v ≡ G r → ((i : ℕ) → (i ≡ r → ⊥) → F i ≡ G i) → set (tab n F) r v ≡ tab n G
-set-tab n F G r v l e h = ext-getD v (set (tab n F) r v) (tab n G) (length-set (tab n F) r v ∙ tab-length n F ∙ sym (tab-length n G)) go
+set-tab : {A : Type 0} (n : ℕ) (F G : ℕ → A) (r : ℕ) (v : A) → r < n → v ≡ G r
+    → ((i : ℕ) → (i ≡ r → ⊥) → F i ≡ G i) → set (tab n F) r v ≡ tab n G
+set-tab n F G r v l e h =
+    ext-getD v (set (tab n F) r v) (tab n G) (length-set (tab n F) r v ∙ tab-length n F ∙ sym (tab-length n G))
+    go
   where
     go : (i : ℕ) → i < length (set (tab n F) r v) → getD (set (tab n F) r v) i v ≡ getD (tab n G) i v
-    go i li = let len = length-set (tab n F) r v ∙ tab-length n F in let lt : i < n = omega arith in pick-one (eqb i r) refl lt
+    go i li =
+        let len = length-set (tab n F) r v ∙ tab-length n F in
+        let lt : i < n = omega arith in pick-one (eqb i r) refl lt
       where
         pick-one : (b : Bool) → eqb i r ≡ b → i < n → getD (set (tab n F) r v) i v ≡ getD (tab n G) i v
-        pick-one true q lt = let z = borrow.Author.Tests.eqb-true i r q in ap (λ (k : ℕ). getD (set (tab n F) r v) k v) z ∙ getD-set-same (tab n F) r v v (let y = tab-length n F in omega arith) ∙ e ∙ sym (tab-at n G r v l) ∙ ap (λ (k : ℕ). getD (tab n G) k v) (sym z)
-        pick-one false q lt = let ne = borrow.Author.Tests.eqb-false i r q in getD-set-other (tab n F) r i v v ne ∙ tab-at n F i v lt ∙ h i ne ∙ sym (tab-at n G i v lt)
+        pick-one true q lt =
+            let z = borrow.Author.Tests.eqb-true i r q in
+            ap (λ (k : ℕ). getD (set (tab n F) r v) k v) z
+            ∙ getD-set-same (tab n F) r v v (let y = tab-length n F in omega arith)
+            ∙ e
+            ∙ sym (tab-at n G r v l)
+            ∙ ap (λ (k : ℕ). getD (tab n G) k v) (sym z)
+        pick-one false q lt =
+            let ne = borrow.Author.Tests.eqb-false i r q in
+            getD-set-other (tab n F) r i v v ne ∙ tab-at n F i v lt ∙ h i ne ∙ sym (tab-at n G i v lt)
 
 -- the row of the only road of a name
-row-at : (alike : Span → Span → Bool) (rs : List Road) (m : Span) (d : Road) (r : ℕ) → r < length rs → alike (getD rs r d .name) m ≡ true → ((i : ℕ) → i < r → alike (getD rs i d .name) m ≡ false) → rowNamed alike rs m ≡ r
+row-at : (alike : Span → Span → Bool) (rs : List Road) (m : Span) (d : Road) (r : ℕ) → r < length rs
+    → alike (getD rs r d .name) m ≡ true → ((i : ℕ) → i < r → alike (getD rs i d .name) m ≡ false)
+    → rowNamed alike rs m ≡ r
 row-at alike [] m d r l h k = absurd (not-suc-le-zero l)
 row-at alike (x ∷ rs) m d zero l h k = ap (λ b. cond b 0 (suc (rowNamed alike rs m))) h
-row-at alike (x ∷ rs) m d (suc r) l h k = ap (λ b. cond b 0 (suc (rowNamed alike rs m))) (k 0 (omega arith)) ∙ ap suc (row-at alike rs m d r (le-of-suc-le-suc l) h (λ i q. k (suc i) (omega arith)))
+row-at alike (x ∷ rs) m d (suc r) l h k =
+    ap (λ b. cond b 0 (suc (rowNamed alike rs m))) (k 0 (omega arith))
+    ∙ ap suc (row-at alike rs m d r (le-of-suc-le-suc l) h (λ i q. k (suc i) (omega arith)))
 
 module _ (text roads : List ℕ) (m : Span) (once : any (length roads / 20) (nameBefore text 20 0 roads) ≡ false) where
   -- no two rows bear one name
-  alone : (i j : ℕ) → i < length roads / 20 → j < i → bears text 20 0 roads m i ≡ true → bears text 20 0 roads m j ≡ false
+  alone : (i j : ℕ) → i < length roads / 20 → j < i → bears text 20 0 roads m i ≡ true
+      → bears text 20 0 roads m j ≡ false
   unfolding nameBefore
   alone i j li lj q = go (bears text 20 0 roads m j) refl
     where
       go : (b : Bool) → bears text 20 0 roads m j ≡ b → bears text 20 0 roads m j ≡ false
       go false z = z
-      go true z = absurd (true≢false (sym (two-alike text roads m i j q z) ∙ any-at i j (bears text 20 0 roads (nameAt 20 0 roads i)) (any-at (length roads / 20) i (nameBefore text 20 0 roads) once li) lj))
+      go true z =
+          absurd (true≢false (sym (two-alike text roads m i j q z)
+          ∙ any-at i j (bears text 20 0 roads (nameAt 20 0 roads i))
+          (any-at (length roads / 20) i (nameBefore text 20 0 roads) once li) lj))
 
   module _ (F : ℕ → Road) (named : (i : ℕ) → F i .name ≡ nameAt 20 0 roads i) where
     test : (i : ℕ) → sameIn text (F i .name) m ≡ bears text 20 0 roads m i
     unfolding bears
     test i = ap (λ (n : Span). sameIn text n m) (named i)
 
-    pub road-found : (f : ℕ) → f ≡ lastOf (length roads / 20) (bears text 20 0 roads m) → roadOf (sameIn text) (tab (length roads / 20) F) m ≡ foundRoad F f
+    pub road-found : (f : ℕ) → f ≡ lastOf (length roads / 20) (bears text 20 0 roads m)
+        → roadOf (sameIn text) (tab (length roads / 20) F) m ≡ foundRoad F f
     unfolding roadOf
-    road-found zero e = first-none (λ r. sameIn text (r .name) m) (length roads / 20) F (λ i lt. test i ∙ any-at (length roads / 20) i (bears text 20 0 roads m) (last-any (length roads / 20) (bears text 20 0 roads m) (sym e)) lt)
-    road-found (suc r) e = first-last (λ r. sameIn text (r .name) m) (length roads / 20) F (λ i j li lj q. test j ∙ alone i j li lj (sym (test i) ∙ q)) r (last-same (length roads / 20) (λ i. sameIn text (F i .name) m) (bears text 20 0 roads m) test ∙ sym e)
+    road-found zero e =
+        first-none (λ r. sameIn text (r .name) m) (length roads / 20) F
+        (λ i lt.
+        test i
+        ∙ any-at (length roads / 20) i (bears text 20 0 roads m)
+        (last-any (length roads / 20) (bears text 20 0 roads m) (sym e)) lt)
+    road-found (suc r) e =
+        first-last (λ r. sameIn text (r .name) m) (length roads / 20) F
+        (λ i j li lj q. test j ∙ alone i j li lj (sym (test i) ∙ q)) r
+        (last-same (length roads / 20) (λ i. sameIn text (F i .name) m) (bears text 20 0 roads m) test ∙ sym e)
 
     module _ (r : ℕ) (e : suc r ≡ lastOf (length roads / 20) (bears text 20 0 roads m)) where
       inside : r < length roads / 20
@@ -82,12 +115,17 @@ module _ (text roads : List ℕ) (m : Span) (once : any (length roads / 20) (nam
       miss : (i : ℕ) → i < r → sameIn text (F i .name) m ≡ false
       miss i lt = test i ∙ alone r i inside lt (last-has (length roads / 20) r (bears text 20 0 roads m) (sym e))
 
-      pub amend-row : (g : Road → Road) (G : ℕ → Road) → g (F r) ≡ G r → ((i : ℕ) → (i ≡ r → ⊥) → F i ≡ G i) → amend (λ x. sameIn text (x .name) m) g (tab (length roads / 20) F) ≡ tab (length roads / 20) G
+      pub amend-row : (g : Road → Road) (G : ℕ → Road) → g (F r) ≡ G r → ((i : ℕ) → (i ≡ r → ⊥) → F i ≡ G i)
+          → amend (λ x. sameIn text (x .name) m) g (tab (length roads / 20) F) ≡ tab (length roads / 20) G
       amend-row g G h k =
           let n = length roads / 20 in
           let len = tab-length n F in
           let at : getD (tab n F) r (F r) ≡ F r = tab-at n F r (F r) inside in
-          amend-at (λ x. sameIn text (x .name) m) (F r) g (tab n F) r (let z = inside in omega arith) (ap (λ (x : Road). sameIn text (x .name) m) at ∙ hit) (λ i lt. ap (λ (x : Road). sameIn text (x .name) m) (tab-at n F i (F r) (let z = inside in omega arith)) ∙ miss i lt)
+          amend-at (λ x. sameIn text (x .name) m) (F r) g (tab n F) r (let z = inside in omega arith)
+          (ap (λ (x : Road). sameIn text (x .name) m) at ∙ hit)
+          (λ i lt.
+          ap (λ (x : Road). sameIn text (x .name) m) (tab-at n F i (F r) (let z = inside in omega arith))
+          ∙ miss i lt)
           ∙ ap (λ (x : Road). set (tab n F) r (g x)) at
           ∙ set-tab n F G r (g (F r)) inside h k
 
@@ -95,7 +133,11 @@ module _ (text roads : List ℕ) (m : Span) (once : any (length roads / 20) (nam
       row-found =
           let n = length roads / 20 in
           let len = tab-length n F in
-          row-at (sameIn text) (tab n F) m (F r) r (let z = inside in omega arith) (ap (λ (x : Road). sameIn text (x .name) m) (tab-at n F r (F r) inside) ∙ hit) (λ i lt. ap (λ (x : Road). sameIn text (x .name) m) (tab-at n F i (F r) (let z = inside in omega arith)) ∙ miss i lt)
+          row-at (sameIn text) (tab n F) m (F r) r (let z = inside in omega arith)
+          (ap (λ (x : Road). sameIn text (x .name) m) (tab-at n F r (F r) inside) ∙ hit)
+          (λ i lt.
+          ap (λ (x : Road). sameIn text (x .name) m) (tab-at n F i (F r) (let z = inside in omega arith))
+          ∙ miss i lt)
 
 -- ---- the roads now
 module _ (ss roads junctions ends : List ℕ) where
@@ -108,13 +150,20 @@ module _ (ss roads junctions ends : List ℕ) where
     abbrev pub ends′ : List ℕ
     ends′ = set ends (r * 2 + bit b) (k + 2)
 
-    other-end : (i : ℕ) (c : Bool) → (i * 2 + bit c ≡ r * 2 + bit b → ⊥) → targetNow roads junctions ends i c ≡ targetNow roads junctions ends′ i c
+    other-end : (i : ℕ) (c : Bool) → (i * 2 + bit c ≡ r * 2 + bit b → ⊥)
+        → targetNow roads junctions ends i c ≡ targetNow roads junctions ends′ i c
     unfolding targetNow
-    other-end i c ne = ap (λ (w : ℕ). endNow w (targetIn (from 20 roads i) (pick c 4 11)) (λ k. linked (nameAt 5 0 junctions k) c)) (sym (getD-set-other ends (r * 2 + bit b) (i * 2 + bit c) (k + 2) 0 ne))
+    other-end i c ne =
+        ap (λ (w : ℕ).
+        endNow w (targetIn (from 20 roads i) (pick c 4 11)) (λ k. linked (nameAt 5 0 junctions k) c))
+        (sym (getD-set-other ends (r * 2 + bit b) (i * 2 + bit c) (k + 2) 0 ne))
 
     this-end : some (linked (nameAt 5 0 junctions k) b) ≡ targetNow roads junctions ends′ r b
     unfolding targetNow
-    this-end = ap (λ (w : ℕ). endNow w (targetIn (from 20 roads r) (pick b 4 11)) (λ k. linked (nameAt 5 0 junctions k) b)) (two ∙ sym (getD-set-same ends (r * 2 + bit b) (k + 2) 0 (small b)))
+    this-end =
+        ap (λ (w : ℕ).
+        endNow w (targetIn (from 20 roads r) (pick b 4 11)) (λ k. linked (nameAt 5 0 junctions k) b))
+        (two ∙ sym (getD-set-same ends (r * 2 + bit b) (k + 2) 0 (small b)))
       where
         small : (b : Bool) → r * 2 + bit b < length ends
         small true = omega arith
@@ -125,7 +174,15 @@ module _ (ss roads junctions ends : List ℕ) where
 
     pub other-roads : (i : ℕ) → (i ≡ r → ⊥) → roadNow ss roads junctions ends i ≡ roadNow ss roads junctions ends′ i
     unfolding roadNow
-    other-roads i ne = λ x. record { name = spanIn (from 20 roads i) 0; junction = nameIn (from 20 roads i) 2; predecessor = other-end i false (apart b) x; successor = other-end i true (apart1 b) x; sections = part (word (from 20 roads i) 18) (word (from 20 roads i) 19) ss }
+    other-roads i ne =
+        λ x.
+        record {
+          name = spanIn (from 20 roads i) 0;
+          junction = nameIn (from 20 roads i) 2;
+          predecessor = other-end i false (apart b) x;
+          successor = other-end i true (apart1 b) x;
+          sections = part (word (from 20 roads i) 18) (word (from 20 roads i) 19) ss;
+        }
       where
         apart : (b : Bool) → i * 2 + 0 ≡ r * 2 + bit b → ⊥
         apart true e = omega arith
@@ -136,7 +193,26 @@ module _ (ss roads junctions ends : List ℕ) where
         apart1 false e = omega arith
 
 -- that road
-pub this-road : (ss roads junctions ends : List ℕ) (r k : ℕ) (b : Bool) (len : length ends ≡ 32768) (few : r < 16384) → putTarget b (linked (nameAt 5 0 junctions k) b) (roadNow ss roads junctions ends r) ≡ roadNow ss roads junctions (set ends (r * 2 + bit b) (k + 2)) r
+pub this-road : (ss roads junctions ends : List ℕ) (r k : ℕ) (b : Bool) (len : length ends ≡ 32768)
+    (few : r < 16384)
+    → putTarget b (linked (nameAt 5 0 junctions k) b) (roadNow ss roads junctions ends r)
+    ≡ roadNow ss roads junctions (set ends (r * 2 + bit b) (k + 2)) r
 unfolding roadNow putTarget
-this-road ss roads junctions ends r k true len few = λ x. record { name = spanIn (from 20 roads r) 0; junction = nameIn (from 20 roads r) 2; predecessor = other-end ss roads junctions ends r k true len few r false (λ e. omega arith) x; successor = this-end ss roads junctions ends r k true len few x; sections = part (word (from 20 roads r) 18) (word (from 20 roads r) 19) ss }
-this-road ss roads junctions ends r k false len few = λ x. record { name = spanIn (from 20 roads r) 0; junction = nameIn (from 20 roads r) 2; predecessor = this-end ss roads junctions ends r k false len few x; successor = other-end ss roads junctions ends r k false len few r true (λ e. omega arith) x; sections = part (word (from 20 roads r) 18) (word (from 20 roads r) 19) ss }
+this-road ss roads junctions ends r k true len few =
+    λ x.
+    record {
+      name = spanIn (from 20 roads r) 0;
+      junction = nameIn (from 20 roads r) 2;
+      predecessor = other-end ss roads junctions ends r k true len few r false (λ e. omega arith) x;
+      successor = this-end ss roads junctions ends r k true len few x;
+      sections = part (word (from 20 roads r) 18) (word (from 20 roads r) 19) ss;
+    }
+this-road ss roads junctions ends r k false len few =
+    λ x.
+    record {
+      name = spanIn (from 20 roads r) 0;
+      junction = nameIn (from 20 roads r) 2;
+      predecessor = this-end ss roads junctions ends r k false len few x;
+      successor = other-end ss roads junctions ends r k false len few r true (λ e. omega arith) x;
+      sections = part (word (from 20 roads r) 18) (word (from 20 roads r) 19) ss;
+    }

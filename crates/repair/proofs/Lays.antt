@@ -23,73 +23,125 @@ use Rattle.repair.proofs.Ends.{end-bit}
 use Rattle.repair.specs.Laying.{Laid, Small, pairAt, rowWords, turnedConnection, turnedPair}
 
 -- ---- lists by row numbers
-pub gather-tab : {A B : Type 0} (f : A → List B) (g : ℕ → A) (i : ℕ) → gather f (tab (i + 1) g) ≡ gather f (tab i g) ++ f (g i)
-gather-tab {B = B} f g i = ap (gather f) (tab-more i g) ∙ gather-append f (tab i g) (g i ∷ []) ∙ ap (λ (l : List B). gather f (tab i g) ++ l) (append-nil (f (g i)))
+pub gather-tab : {A B : Type 0} (f : A → List B) (g : ℕ → A) (i : ℕ)
+    → gather f (tab (i + 1) g) ≡ gather f (tab i g) ++ f (g i)
+gather-tab {B = B} f g i =
+    ap (gather f) (tab-more i g)
+    ∙ gather-append f (tab i g) (g i ∷ [])
+    ∙ ap (λ (l : List B). gather f (tab i g) ++ l) (append-nil (f (g i)))
 
 -- words after those of the rows so far
-pub grown-more : {A : Type 0} (f : A → List ℕ) (g : ℕ → A) (i : ℕ) (start : List ℕ) {words words′ : List ℕ} → words ≡ start ++ gather f (tab i g) → words′ ≡ words ++ f (g i) → words′ ≡ start ++ gather f (tab (i + 1) g)
-grown-more f g i start e h = h ∙ ap (λ (l : List ℕ). l ++ f (g i)) e ∙ append-assoc start (gather f (tab i g)) (f (g i)) ∙ ap (λ (l : List ℕ). start ++ l) (sym (gather-tab f g i))
+pub grown-more : {A : Type 0} (f : A → List ℕ) (g : ℕ → A) (i : ℕ) (start : List ℕ) {words words′ : List ℕ}
+    → words ≡ start ++ gather f (tab i g) → words′ ≡ words ++ f (g i)
+    → words′ ≡ start ++ gather f (tab (i + 1) g)
+grown-more f g i start e h =
+    h
+    ∙ ap (λ (l : List ℕ). l ++ f (g i)) e
+    ∙ append-assoc start (gather f (tab i g)) (f (g i))
+    ∙ ap (λ (l : List ℕ). start ++ l) (sym (gather-tab f g i))
 
 -- a part of a list by rows
 pub part-tab : {A : Type 0} (n : ℕ) (g : ℕ → A) (f m : ℕ) → f + m ≤ n → part f m (tab n g) ≡ run g f m
 part-tab n g f m h = ext-getD (g f) (part f m (tab n g)) (run g f m) (len ∙ sym (tab-length m (λ j. g (f + j)))) go
   where
     len : length (part f m (tab n g)) ≡ m
-    len = length-take-le m (drop f (tab n g)) (let d = length-drop f (tab n g) in let e = tab-length n g in omega arith)
+    len =
+        length-take-le m (drop f (tab n g))
+        (let d = length-drop f (tab n g) in let e = tab-length n g in omega arith)
 
     go : (i : ℕ) → i < length (part f m (tab n g)) → getD (part f m (tab n g)) i (g f) ≡ getD (run g f m) i (g f)
     go i l = let lt : i < m = subst (λ (k : ℕ). i < k) len l in
-        getD-take m (drop f (tab n g)) i (g f) lt ∙ getD-drop f (tab n g) i (g f) ∙ tab-at n g (f + i) (g f) (omega arith) ∙ sym (tab-at m (λ j. g (f + j)) i (g f) lt)
+        getD-take m (drop f (tab n g)) i (g f) lt
+        ∙ getD-drop f (tab n g) i (g f)
+        ∙ tab-at n g (f + i) (g f) (omega arith)
+        ∙ sym (tab-at m (λ j. g (f + j)) i (g f) lt)
 
 -- ---- pairs
-pub pair-plain : (pairs : List ℕ) (q b : ℕ) → b ≡ 0 → getD pairs (q * 2) 0 ∷ getD pairs (q * 2 + 1) 0 ∷ [] ≡ pairRow (turnedPair b (pairAt pairs q))
+pub pair-plain : (pairs : List ℕ) (q b : ℕ) → b ≡ 0
+    → getD pairs (q * 2) 0 ∷ getD pairs (q * 2 + 1) 0 ∷ [] ≡ pairRow (turnedPair b (pairAt pairs q))
 unfolding pairRow pairAt pairIn
-pair-plain pairs q b e = ap₂ (λ (x y : ℕ). x ∷ y ∷ []) (ap (λ (k : ℕ). getD pairs k 0) (sym (add-zero (q * 2))) ∙ sym (getD-drop (q * 2) pairs 0 0)) (sym (getD-drop (q * 2) pairs 1 0)) ∙ ap (λ (k : ℕ). pairRow (turnedPair k (pairAt pairs q))) (sym e)
+pair-plain pairs q b e =
+    ap₂ (λ (x y : ℕ). x ∷ y ∷ [])
+    (ap (λ (k : ℕ). getD pairs k 0) (sym (add-zero (q * 2))) ∙ sym (getD-drop (q * 2) pairs 0 0))
+    (sym (getD-drop (q * 2) pairs 1 0))
+    ∙ ap (λ (k : ℕ). pairRow (turnedPair k (pairAt pairs q))) (sym e)
 
-pub pair-turned : (pairs : List ℕ) (q b : ℕ) → (b ≡ 0 → ⊥) → getD pairs (q * 2 + 1) 0 ∷ getD pairs (q * 2) 0 ∷ [] ≡ pairRow (turnedPair b (pairAt pairs q))
+pub pair-turned : (pairs : List ℕ) (q b : ℕ) → (b ≡ 0 → ⊥)
+    → getD pairs (q * 2 + 1) 0 ∷ getD pairs (q * 2) 0 ∷ [] ≡ pairRow (turnedPair b (pairAt pairs q))
 unfolding pairRow pairAt pairIn swapped
 pair-turned pairs q zero n = absurd (n refl)
-pair-turned pairs q (suc e) n = ap₂ (λ (x y : ℕ). x ∷ y ∷ []) (sym (getD-drop (q * 2) pairs 1 0)) (ap (λ (k : ℕ). getD pairs k 0) (sym (add-zero (q * 2))) ∙ sym (getD-drop (q * 2) pairs 0 0))
+pair-turned pairs q (suc e) n =
+    ap₂ (λ (x y : ℕ). x ∷ y ∷ []) (sym (getD-drop (q * 2) pairs 1 0))
+    (ap (λ (k : ℕ). getD pairs k 0) (sym (add-zero (q * 2))) ∙ sym (getD-drop (q * 2) pairs 0 0))
 
 pairs-tab : (pairs : List ℕ) → pairsIn pairs ≡ tab (length pairs / 2) (pairAt pairs)
 unfolding pairsIn pairAt pairIn
 pairs-tab pairs = map-rows 2 pairs pairIn (λ l. simp (short 2 l))
 
 -- ---- a connection's row and its pairs
-pub row-turned : (e : ℕ) (ws : List ℕ) (c p b : ℕ) → (b ≡ 0 → ⊥) → e ≡ b - 1 → getD ws (c * 7 + 2) 0 ∷ getD ws (c * 7 + 3) 0 ∷ getD ws (c * 7) 0 ∷ getD ws (c * 7 + 1) 0 ∷ e ∷ p ∷ getD ws (c * 7 + 6) 0 ∷ [] ≡ rowWords b ws c p
+pub row-turned : (e : ℕ) (ws : List ℕ) (c p b : ℕ) → (b ≡ 0 → ⊥) → e ≡ b - 1
+    → getD ws (c * 7 + 2) 0 ∷ getD ws (c * 7 + 3) 0 ∷ getD ws (c * 7) 0 ∷ getD ws (c * 7 + 1) 0 ∷ e ∷ p
+    ∷ getD ws (c * 7 + 6) 0 ∷ [] ≡ rowWords b ws c p
 row-turned e ws c p zero n h = absurd (n refl)
-row-turned e ws c p (suc b) n h = let z : e ≡ b = omega arith in ap (λ (k : ℕ). getD ws (c * 7 + 2) 0 ∷ getD ws (c * 7 + 3) 0 ∷ getD ws (c * 7) 0 ∷ getD ws (c * 7 + 1) 0 ∷ k ∷ p ∷ getD ws (c * 7 + 6) 0 ∷ []) z
+row-turned e ws c p (suc b) n h =
+    let z : e ≡ b = omega arith in
+    ap (λ (k : ℕ).
+    getD ws (c * 7 + 2) 0 ∷ getD ws (c * 7 + 3) 0 ∷ getD ws (c * 7) 0 ∷ getD ws (c * 7 + 1) 0 ∷ k ∷ p
+    ∷ getD ws (c * 7 + 6) 0 ∷ []) z
 
 module _ (pairs ws : List ℕ) (s : Small pairs ws) (c : ℕ) (h : c < length ws / 7) where
   own-pairs : connectionAt pairs ws c .pairs ≡ run (pairAt pairs) (getD ws (c * 7 + 5) 0) (getD ws (c * 7 + 6) 0)
   unfolding connectionAt connectionIn
-  own-pairs = ap₂ (λ (a b : ℕ). part a b (pairsIn pairs)) (getD-drop (c * 7) ws 5 0) (getD-drop (c * 7) ws 6 0) ∙ ap (part (getD ws (c * 7 + 5) 0) (getD ws (c * 7 + 6) 0)) (pairs-tab pairs)
-      ∙ part-tab (length pairs / 2) (pairAt pairs) (getD ws (c * 7 + 5) 0) (getD ws (c * 7 + 6) 0) (fit-in 7 5 6 ws (length pairs / 2) (s .fit) c h)
+  own-pairs =
+      ap₂ (λ (a b : ℕ). part a b (pairsIn pairs)) (getD-drop (c * 7) ws 5 0) (getD-drop (c * 7) ws 6 0)
+      ∙ ap (part (getD ws (c * 7 + 5) 0) (getD ws (c * 7 + 6) 0)) (pairs-tab pairs)
+      ∙ part-tab (length pairs / 2) (pairAt pairs) (getD ws (c * 7 + 5) 0) (getD ws (c * 7 + 6) 0)
+      (fit-in 7 5 6 ws (length pairs / 2) (s .fit) c h)
 
-  turned-pairs : (b : ℕ) → turnedConnection b (connectionAt pairs ws c) .pairs ≡ run (λ q. turnedPair b (pairAt pairs q)) (getD ws (c * 7 + 5) 0) (getD ws (c * 7 + 6) 0)
+  turned-pairs : (b : ℕ)
+      → turnedConnection b (connectionAt pairs ws c) .pairs
+      ≡ run (λ q. turnedPair b (pairAt pairs q)) (getD ws (c * 7 + 5) 0) (getD ws (c * 7 + 6) 0)
   unfolding backAt
   turned-pairs zero = own-pairs
-  turned-pairs (suc e) = ap (map swapped) own-pairs ∙ map-tab swapped (getD ws (c * 7 + 6) 0) (λ j. pairAt pairs (getD ws (c * 7 + 5) 0 + j))
+  turned-pairs (suc e) =
+      ap (map swapped) own-pairs
+      ∙ map-tab swapped (getD ws (c * 7 + 6) 0) (λ j. pairAt pairs (getD ws (c * 7 + 5) 0 + j))
 
   turned-count : (b : ℕ) → length (turnedConnection b (connectionAt pairs ws c) .pairs) ≡ getD ws (c * 7 + 6) 0
-  turned-count b = ap length (turned-pairs b) ∙ tab-length (getD ws (c * 7 + 6) 0) (λ j. turnedPair b (pairAt pairs (getD ws (c * 7 + 5) 0 + j)))
+  turned-count b =
+      ap length (turned-pairs b)
+      ∙ tab-length (getD ws (c * 7 + 6) 0) (λ j. turnedPair b (pairAt pairs (getD ws (c * 7 + 5) 0 + j)))
 
   first-word : getD (drop (c * 7) ws) 0 0 ≡ getD ws (c * 7) 0
   first-word = getD-drop (c * 7) ws 0 0 ∙ ap (λ (k : ℕ). getD ws k 0) (add-zero (c * 7))
 
   turned-row : (b p : ℕ) → b ≤ 2 → connectionRow p (turnedConnection b (connectionAt pairs ws c)) ≡ rowWords b ws c p
   unfolding connectionRow connectionAt connectionIn backAt
-  turned-row zero p l = λ i. first-word i ∷ getD-drop (c * 7) ws 1 0 i ∷ getD-drop (c * 7) ws 2 0 i ∷ getD-drop (c * 7) ws 3 0 i ∷ bit (eqb (getD-drop (c * 7) ws 4 0 i) 1) ∷ p ∷ turned-count 0 i ∷ []
-  turned-row (suc e) p l = λ i. getD-drop (c * 7) ws 2 0 i ∷ getD-drop (c * 7) ws 3 0 i ∷ first-word i ∷ getD-drop (c * 7) ws 1 0 i ∷ end-bit e (omega arith) i ∷ p ∷ turned-count (suc e) i ∷ []
+  turned-row zero p l =
+      λ i.
+      first-word i ∷ getD-drop (c * 7) ws 1 0 i ∷ getD-drop (c * 7) ws 2 0 i ∷ getD-drop (c * 7) ws 3 0 i
+      ∷ bit (eqb (getD-drop (c * 7) ws 4 0 i) 1) ∷ p ∷ turned-count 0 i ∷ []
+  turned-row (suc e) p l =
+      λ i.
+      getD-drop (c * 7) ws 2 0 i ∷ getD-drop (c * 7) ws 3 0 i ∷ first-word i ∷ getD-drop (c * 7) ws 1 0 i
+      ∷ end-bit e (omega arith) i ∷ p ∷ turned-count (suc e) i ∷ []
 
   -- one connection laid
-  pub lay-one : (b n p f m : ℕ) (cs ps : List ℕ) {cs′ ps′ : List ℕ} → b ≤ 2 → f ≡ getD ws (c * 7 + 5) 0 → m ≡ getD ws (c * 7 + 6) 0 → take ((n + 1) * 7) cs′ ≡ take (n * 7) cs ++ rowWords b ws c p →
-      take ((p + m) * 2) ps′ ≡ take (p * 2) ps ++ gather pairRow (run (λ q. turnedPair b (pairAt pairs q)) f m) → Laid (turnedConnection b (connectionAt pairs ws c) ∷ []) n p (n + 1) (p + m) cs ps cs′ ps′
+  pub lay-one : (b n p f m : ℕ) (cs ps : List ℕ) {cs′ ps′ : List ℕ} → b ≤ 2 → f ≡ getD ws (c * 7 + 5) 0
+      → m ≡ getD ws (c * 7 + 6) 0 → take ((n + 1) * 7) cs′ ≡ take (n * 7) cs ++ rowWords b ws c p →
+      take ((p + m) * 2) ps′ ≡ take (p * 2) ps ++ gather pairRow (run (λ q. turnedPair b (pairAt pairs q)) f m)
+      → Laid (turnedConnection b (connectionAt pairs ws c) ∷ []) n p (n + 1) (p + m) cs ps cs′ ps′
   lay-one b n p f m cs ps l ef em e g = record {
     rows = omega arith;
-    pair-rows = ap (λ (k : ℕ). p + k) (em ∙ sym (ap length (append-nil (turnedConnection b (connectionAt pairs ws c) .pairs)) ∙ turned-count b));
-    words = e ∙ ap (λ (x : List ℕ). take (n * 7) cs ++ x) (sym (append-nil (connectionRow p (turnedConnection b (connectionAt pairs ws c))) ∙ turned-row b p l));
-    pair-words = g ∙ ap (λ (x : List Pair). take (p * 2) ps ++ gather pairRow x) (ap₂ (run (λ q. turnedPair b (pairAt pairs q))) ef em ∙ sym (append-nil (turnedConnection b (connectionAt pairs ws c) .pairs) ∙ turned-pairs b));
+    pair-rows = ap (λ (k : ℕ). p + k)
+        (em ∙ sym (ap length (append-nil (turnedConnection b (connectionAt pairs ws c) .pairs)) ∙ turned-count b));
+    words = e
+        ∙ ap (λ (x : List ℕ). take (n * 7) cs ++ x)
+        (sym (append-nil (connectionRow p (turnedConnection b (connectionAt pairs ws c))) ∙ turned-row b p l));
+    pair-words = g
+        ∙ ap (λ (x : List Pair). take (p * 2) ps ++ gather pairRow x)
+        (ap₂ (run (λ q. turnedPair b (pairAt pairs q))) ef em
+        ∙ sym (append-nil (turnedConnection b (connectionAt pairs ws c) .pairs) ∙ turned-pairs b));
   }
 
 pub row-width : (b : ℕ) (ws : List ℕ) (c p : ℕ) → length (rowWords b ws c p) ≡ 7
@@ -100,42 +152,74 @@ row-width (suc e) ws c p = refl
 abbrev pairsOf : Connection → List Pair
 pairsOf c = c .pairs
 
-pub rows-append : {X A : Type 0} (row : ℕ → X → List ℕ) (f : X → List A) (i : ℕ) (xs ys : List X) → rowsFrom row f i (xs ++ ys) ≡ rowsFrom row f i xs ++ rowsFrom row f (i + length (gather f xs)) ys
+pub rows-append : {X A : Type 0} (row : ℕ → X → List ℕ) (f : X → List A) (i : ℕ) (xs ys : List X)
+    → rowsFrom row f i (xs ++ ys) ≡ rowsFrom row f i xs ++ rowsFrom row f (i + length (gather f xs)) ys
 rows-append row f i [] ys = ap (λ (k : ℕ). rowsFrom row f k ys) (sym (add-zero i))
 rows-append row f i (x ∷ xs) ys = ap (λ (l : List ℕ). row i x ++ l) (rows-append row f (i + length (f x)) xs ys)
-    ∙ sym (append-assoc (row i x) (rowsFrom row f (i + length (f x)) xs) (rowsFrom row f (i + length (f x) + length (gather f xs)) ys))
-    ∙ ap (λ (k : ℕ). (row i x ++ rowsFrom row f (i + length (f x)) xs) ++ rowsFrom row f k ys) (add-assoc i (length (f x)) (length (gather f xs)) ∙ ap (λ (k : ℕ). i + k) (sym (length-append (f x) (gather f xs))))
+    ∙ sym (append-assoc (row i x) (rowsFrom row f (i + length (f x)) xs)
+    (rowsFrom row f (i + length (f x) + length (gather f xs)) ys))
+    ∙ ap (λ (k : ℕ). (row i x ++ rowsFrom row f (i + length (f x)) xs) ++ rowsFrom row f k ys)
+    (add-assoc i (length (f x)) (length (gather f xs))
+    ∙ ap (λ (k : ℕ). i + k) (sym (length-append (f x) (gather f xs))))
 
 pub laid-none : (n p : ℕ) (cs ps : List ℕ) → Laid [] n p n p cs ps cs ps
-laid-none n p cs ps = record { rows = omega arith; pair-rows = omega arith; words = sym (append-nil (take (n * 7) cs)); pair-words = sym (append-nil (take (p * 2) ps)) }
+laid-none n p cs ps =
+    record {
+      rows = omega arith;
+      pair-rows = omega arith;
+      words = sym (append-nil (take (n * 7) cs));
+      pair-words = sym (append-nil (take (p * 2) ps));
+    }
 
-pub laid-on : (xs ys : List Connection) (n p n₁ p₁ n₂ p₂ : ℕ) (cs ps cs₁ ps₁ cs₂ ps₂ : List ℕ) → Laid xs n p n₁ p₁ cs ps cs₁ ps₁ → Laid ys n₁ p₁ n₂ p₂ cs₁ ps₁ cs₂ ps₂ → Laid (xs ++ ys) n p n₂ p₂ cs ps cs₂ ps₂
+pub laid-on : (xs ys : List Connection) (n p n₁ p₁ n₂ p₂ : ℕ) (cs ps cs₁ ps₁ cs₂ ps₂ : List ℕ)
+    → Laid xs n p n₁ p₁ cs ps cs₁ ps₁ → Laid ys n₁ p₁ n₂ p₂ cs₁ ps₁ cs₂ ps₂
+    → Laid (xs ++ ys) n p n₂ p₂ cs ps cs₂ ps₂
 laid-on xs ys n p n₁ p₁ n₂ p₂ cs ps cs₁ ps₁ cs₂ ps₂ a b = record {
   rows = let e = length-append xs ys in let f = a .rows in let g = b .rows in omega arith;
-  pair-rows = let e = ap length (gather-append pairsOf xs ys) ∙ length-append (gather pairsOf xs) (gather pairsOf ys) in let f = a .pair-rows in let g = b .pair-rows in omega arith;
-  words = b .words ∙ ap₂ (λ (x : List ℕ) (k : ℕ). x ++ rowsFrom connectionRow pairsOf k ys) (a .words) (a .pair-rows) ∙ append-assoc (take (n * 7) cs) (rowsFrom connectionRow pairsOf p xs) (rowsFrom connectionRow pairsOf (p + length (gather pairsOf xs)) ys)
+  pair-rows = let e = ap length (gather-append pairsOf xs ys)
+      ∙ length-append (gather pairsOf xs) (gather pairsOf ys) in let f = a .pair-rows in let g = b .pair-rows in
+      omega arith;
+  words =
+      b .words
+      ∙ ap₂ (λ (x : List ℕ) (k : ℕ). x ++ rowsFrom connectionRow pairsOf k ys) (a .words) (a .pair-rows)
+      ∙ append-assoc (take (n * 7) cs) (rowsFrom connectionRow pairsOf p xs)
+      (rowsFrom connectionRow pairsOf (p + length (gather pairsOf xs)) ys)
       ∙ ap (λ (x : List ℕ). take (n * 7) cs ++ x) (sym (rows-append connectionRow pairsOf p xs ys));
-  pair-words = b .pair-words ∙ ap (λ (x : List ℕ). x ++ gather pairRow (gather pairsOf ys)) (a .pair-words) ∙ append-assoc (take (p * 2) ps) (gather pairRow (gather pairsOf xs)) (gather pairRow (gather pairsOf ys))
-      ∙ ap (λ (x : List ℕ). take (p * 2) ps ++ x) (sym (ap (gather pairRow) (gather-append pairsOf xs ys) ∙ gather-append pairRow (gather pairsOf xs) (gather pairsOf ys)));
+  pair-words =
+      b .pair-words
+      ∙ ap (λ (x : List ℕ). x ++ gather pairRow (gather pairsOf ys)) (a .pair-words)
+      ∙ append-assoc (take (p * 2) ps) (gather pairRow (gather pairsOf xs)) (gather pairRow (gather pairsOf ys))
+      ∙ ap (λ (x : List ℕ). take (p * 2) ps ++ x)
+      (sym (ap (gather pairRow) (gather-append pairsOf xs ys)
+      ∙ gather-append pairRow (gather pairsOf xs) (gather pairsOf ys)));
 }
 
 -- a connection more, as read
-pub laid-own : (f : ℕ → Connection) (i n p p₁ p₂ : ℕ) (cs ps cs₁ ps₁ cs₂ ps₂ : List ℕ) → Laid (tab i f) n p (n + i) p₁ cs ps cs₁ ps₁ → Laid (f i ∷ []) (n + i) p₁ (n + i + 1) p₂ cs₁ ps₁ cs₂ ps₂ → Laid (tab (i + 1) f) n p (n + (i + 1)) p₂ cs ps cs₂ ps₂
+pub laid-own : (f : ℕ → Connection) (i n p p₁ p₂ : ℕ) (cs ps cs₁ ps₁ cs₂ ps₂ : List ℕ)
+    → Laid (tab i f) n p (n + i) p₁ cs ps cs₁ ps₁ → Laid (f i ∷ []) (n + i) p₁ (n + i + 1) p₂ cs₁ ps₁ cs₂ ps₂
+    → Laid (tab (i + 1) f) n p (n + (i + 1)) p₂ cs ps cs₂ ps₂
 laid-own f i n p p₁ p₂ cs ps cs₁ ps₁ cs₂ ps₂ a b =
     let z : n + i + 1 ≡ n + (i + 1) = omega arith in
     subst (λ (k : ℕ). Laid (tab (i + 1) f) n p k p₂ cs ps cs₂ ps₂) z
-    (subst (λ (l : List Connection). Laid l n p (n + i + 1) p₂ cs ps cs₂ ps₂) (sym (tab-more i f)) (laid-on (tab i f) (f i ∷ []) n p (n + i) p₁ (n + i + 1) p₂ cs ps cs₁ ps₁ cs₂ ps₂ a b))
+    (subst (λ (l : List Connection). Laid l n p (n + i + 1) p₂ cs ps cs₂ ps₂) (sym (tab-more i f))
+    (laid-on (tab i f) (f i ∷ []) n p (n + i) p₁ (n + i + 1) p₂ cs ps cs₁ ps₁ cs₂ ps₂ a b))
 
 -- what each gives
-pub laid-more : (F : Connection → List Connection) (f : ℕ → Connection) (i n p n₁ p₁ n₂ p₂ : ℕ) (cs ps cs₁ ps₁ cs₂ ps₂ : List ℕ) {xs : List Connection} → Laid (gather F (tab i f)) n p n₁ p₁ cs ps cs₁ ps₁ → Laid xs n₁ p₁ n₂ p₂ cs₁ ps₁ cs₂ ps₂ → xs ≡ F (f i) →
+pub laid-more : (F : Connection → List Connection) (f : ℕ → Connection) (i n p n₁ p₁ n₂ p₂ : ℕ)
+    (cs ps cs₁ ps₁ cs₂ ps₂ : List ℕ) {xs : List Connection} → Laid (gather F (tab i f)) n p n₁ p₁ cs ps cs₁ ps₁
+    → Laid xs n₁ p₁ n₂ p₂ cs₁ ps₁ cs₂ ps₂ → xs ≡ F (f i) →
     Laid (gather F (tab (i + 1) f)) n p n₂ p₂ cs ps cs₂ ps₂
 laid-more F f i n p n₁ p₁ n₂ p₂ cs ps cs₁ ps₁ cs₂ ps₂ a b e =
-    subst (λ (l : List Connection). Laid l n p n₂ p₂ cs ps cs₂ ps₂) (sym (gather-tab F f i)) (laid-on (gather F (tab i f)) (F (f i)) n p n₁ p₁ n₂ p₂ cs ps cs₁ ps₁ cs₂ ps₂ a (subst (λ (l : List Connection). Laid l n₁ p₁ n₂ p₂ cs₁ ps₁ cs₂ ps₂) e b))
+    subst (λ (l : List Connection). Laid l n p n₂ p₂ cs ps cs₂ ps₂) (sym (gather-tab F f i))
+    (laid-on (gather F (tab i f)) (F (f i)) n p n₁ p₁ n₂ p₂ cs ps cs₁ ps₁ cs₂ ps₂ a
+    (subst (λ (l : List Connection). Laid l n₁ p₁ n₂ p₂ cs₁ ps₁ cs₂ ps₂) e b))
 
-pub laid-same : {xs ys : List Connection} (n p n₁ p₁ : ℕ) (cs ps cs₁ ps₁ : List ℕ) → xs ≡ ys → Laid xs n p n₁ p₁ cs ps cs₁ ps₁ → Laid ys n p n₁ p₁ cs ps cs₁ ps₁
+pub laid-same : {xs ys : List Connection} (n p n₁ p₁ : ℕ) (cs ps cs₁ ps₁ : List ℕ) → xs ≡ ys
+    → Laid xs n p n₁ p₁ cs ps cs₁ ps₁ → Laid ys n p n₁ p₁ cs ps cs₁ ps₁
 laid-same n p n₁ p₁ cs ps cs₁ ps₁ e a = subst (λ (l : List Connection). Laid l n p n₁ p₁ cs ps cs₁ ps₁) e a
 
 -- a connection the other way, by its contact plus 1
-pub back-list : (b : ℕ) (c : Connection) → (b ≡ 0 → ⊥) → turnedConnection b c ∷ [] ≡ listO (endOpt b) (λ e. backAt c e ∷ [])
+pub back-list : (b : ℕ) (c : Connection) → (b ≡ 0 → ⊥)
+    → turnedConnection b c ∷ [] ≡ listO (endOpt b) (λ e. backAt c e ∷ [])
 back-list zero c n = absurd (n refl)
 back-list (suc e) c n = refl

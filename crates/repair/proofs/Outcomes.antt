@@ -10,13 +10,18 @@ use lib.ListN.{length, getD, take}
 use lib.Seq.{getD-drop}
 use lib.Dec.{leb}
 use borrow.Author.Tests.{leb-true}
-use Rattle.model.specs.Calls.{RepairOutputs, longEnough, putRepaired, refused, repairCall, repairContent, repairCounts, repairLengths, repairRefusal, repairRules, rulesTo5, settled, warningRow, wrote}
+use Rattle.model.specs.Calls.{RepairOutputs, longEnough, putRepaired, refused, repairCall, repairContent}
+use Rattle.model.specs.Calls.{repairCounts, repairLengths, repairRefusal, repairRules, rulesTo5, settled}
+use Rattle.model.specs.Calls.{warningRow, wrote}
 use Rattle.model.specs.Lists.{every, gather}
 use Rattle.model.specs.Records.{Connection, Junction, Road}
 use Rattle.model.specs.Repair.{junctionsOver, repair, roadsOver, startRoads, warnOver, warnings, withoutAlong}
 use Rattle.model.specs.Rows.{part, partsFit, rowsFrom, table, word, written}
-use Rattle.model.specs.Rules.{connectionPartsFit, firstBroken, fits, junctionWorded, connectionWorded, mapSized, mapWorded, pairPartsFit, refusalWord, roadWorded, sized}
-use Rattle.model.specs.Tables.{Tables, allConnections, allPairs, connectionIn, connectionRow, connectionWords, connectionsIn, junctionIn, junctionRow, junctionWords, junctionsIn, kindOf, mapOf, mapTables, pairRow, pairWords, pairsIn, roadWords, roadsIn, spanIn}
+use Rattle.model.specs.Rules.{connectionPartsFit, firstBroken, fits, junctionWorded, connectionWorded, mapSized}
+use Rattle.model.specs.Rules.{mapWorded, pairPartsFit, refusalWord, roadWorded, sized}
+use Rattle.model.specs.Tables.{Tables, allConnections, allPairs, connectionIn, connectionRow, connectionWords}
+use Rattle.model.specs.Tables.{connectionsIn, junctionIn, junctionRow, junctionWords, junctionsIn, kindOf}
+use Rattle.model.specs.Tables.{mapOf, mapTables, pairRow, pairWords, pairsIn, roadWords, roadsIn, spanIn}
 use Rattle.model.specs.Text.{placed, sameIn}
 use Rattle.laws.proofs.RulesReversed.{all-pass}
 use Rattle.words.specs.Keys.{nameBefore}
@@ -37,41 +42,80 @@ use Rattle.rules.proofs.Fits.{fit-in, fit-of}
 use Rattle.repair.proofs.RoadWords.{words-now}
 
 -- ---- 9, or all is written
-module _ (A B C D E A₀ B₀ C₀ D₀ E₀ : List ℕ) (a b c d e : ℕ) (la : length A ≡ a * 20) (lb : length B ≡ b * 5) (lc : length C ≡ c * 7) (ld : length D ≡ d * 2) (le : length E ≡ e * 4) where
-  lengths : (x : Bool) → fits (a * 20 ∷ b * 5 ∷ c * 7 ∷ d * 2 ∷ e * 4 ∷ []) (length A₀ ∷ length B₀ ∷ length C₀ ∷ length D₀ ∷ length E₀ ∷ []) ≡ x → fits (length A ∷ length B ∷ length C ∷ length D ∷ length E ∷ []) (length A₀ ∷ length B₀ ∷ length C₀ ∷ length D₀ ∷ length E₀ ∷ []) ≡ x
-  lengths x h = (λ i. fits (la i ∷ lb i ∷ lc i ∷ ld i ∷ le i ∷ []) (length A₀ ∷ length B₀ ∷ length C₀ ∷ length D₀ ∷ length E₀ ∷ [])) ∙ h
+module _ (A B C D E A₀ B₀ C₀ D₀ E₀ : List ℕ) (a b c d e : ℕ) (la : length A ≡ a * 20) (lb : length B ≡ b * 5)
+    (lc : length C ≡ c * 7) (ld : length D ≡ d * 2) (le : length E ≡ e * 4) where
+  lengths : (x : Bool)
+      → fits (a * 20 ∷ b * 5 ∷ c * 7 ∷ d * 2 ∷ e * 4 ∷ [])
+      (length A₀ ∷ length B₀ ∷ length C₀ ∷ length D₀ ∷ length E₀ ∷ []) ≡ x
+      → fits (length A ∷ length B ∷ length C ∷ length D ∷ length E ∷ [])
+      (length A₀ ∷ length B₀ ∷ length C₀ ∷ length D₀ ∷ length E₀ ∷ []) ≡ x
+  lengths x h =
+      (λ i.
+      fits (la i ∷ lb i ∷ lc i ∷ ld i ∷ le i ∷ [])
+      (length A₀ ∷ length B₀ ∷ length C₀ ∷ length D₀ ∷ length E₀ ∷ []))
+      ∙ h
 
   rows-of : (n k w : ℕ) → 0 < w → n ≡ k * w → k ≡ n / w
   rows-of n k w p h = sym (ap (λ (x : ℕ). x / w) h ∙ mul-div-cancel k p)
 
-  pub none-written : fits (a * 20 ∷ b * 5 ∷ c * 7 ∷ d * 2 ∷ e * 4 ∷ []) (length A₀ ∷ length B₀ ∷ length C₀ ∷ length D₀ ∷ length E₀ ∷ []) ≡ false → record { answer = refused 9; outs = outs A₀ B₀ C₀ D₀ E₀ } ≡ putOr9 (outs A B C D E) (outs A₀ B₀ C₀ D₀ E₀)
+  pub none-written : fits (a * 20 ∷ b * 5 ∷ c * 7 ∷ d * 2 ∷ e * 4 ∷ [])
+      (length A₀ ∷ length B₀ ∷ length C₀ ∷ length D₀ ∷ length E₀ ∷ []) ≡ false
+      → record { answer = refused 9; outs = outs A₀ B₀ C₀ D₀ E₀ } ≡ putOr9 (outs A B C D E) (outs A₀ B₀ C₀ D₀ E₀)
   unfolding putOr9 repairLengths
-  none-written h = sym (ap (λ x. settled (cond x none (some 9)) (repairCounts (outs A B C D E)) (putRepaired (outs A B C D E) (outs A₀ B₀ C₀ D₀ E₀)) (outs A₀ B₀ C₀ D₀ E₀)) (lengths false h))
+  none-written h =
+      sym (ap (λ x.
+      settled (cond x none (some 9)) (repairCounts (outs A B C D E))
+      (putRepaired (outs A B C D E) (outs A₀ B₀ C₀ D₀ E₀)) (outs A₀ B₀ C₀ D₀ E₀)) (lengths false h))
 
-  pub all-written : {A′ B′ C′ D′ E′ : List ℕ} → fits (a * 20 ∷ b * 5 ∷ c * 7 ∷ d * 2 ∷ e * 4 ∷ []) (length A₀ ∷ length B₀ ∷ length C₀ ∷ length D₀ ∷ length E₀ ∷ []) ≡ true → A′ ≡ written A A₀ → B′ ≡ written B B₀ → C′ ≡ written C C₀ → D′ ≡ written D D₀ → E′ ≡ written E E₀ →
+  pub all-written : {A′ B′ C′ D′ E′ : List ℕ}
+      → fits (a * 20 ∷ b * 5 ∷ c * 7 ∷ d * 2 ∷ e * 4 ∷ [])
+      (length A₀ ∷ length B₀ ∷ length C₀ ∷ length D₀ ∷ length E₀ ∷ []) ≡ true → A′ ≡ written A A₀
+      → B′ ≡ written B B₀ → C′ ≡ written C C₀ → D′ ≡ written D D₀ → E′ ≡ written E E₀ →
       record { answer = wrote (a ∷ b ∷ c ∷ d ∷ e ∷ []); outs = outs A′ B′ C′ D′ E′ } ≡ putOr9 (outs A B C D E) (outs A₀ B₀ C₀ D₀ E₀)
   unfolding putOr9 repairLengths repairCounts putRepaired
-  all-written h p q r s t = (λ i. record { answer = wrote (rows-of (length A) a 20 (omega arith) la i ∷ rows-of (length B) b 5 (omega arith) lb i ∷ rows-of (length C) c 7 (omega arith) lc i ∷ rows-of (length D) d 2 (omega arith) ld i ∷ rows-of (length E) e 4 (omega arith) le i ∷ []); outs = outs (p i) (q i) (r i) (s i) (t i) })
-      ∙ sym (ap (λ x. settled (cond x none (some 9)) (repairCounts (outs A B C D E)) (putRepaired (outs A B C D E) (outs A₀ B₀ C₀ D₀ E₀)) (outs A₀ B₀ C₀ D₀ E₀)) (lengths true h))
+  all-written h p q r s t =
+      (λ i.
+      record {
+        answer = wrote (rows-of (length A) a 20 (omega arith) la i ∷ rows-of (length B) b 5 (omega arith) lb i
+            ∷ rows-of (length C) c 7 (omega arith) lc i ∷ rows-of (length D) d 2 (omega arith) ld i
+            ∷ rows-of (length E) e 4 (omega arith) le i ∷ []);
+        outs = outs (p i) (q i) (r i) (s i) (t i);
+      })
+      ∙ sym (ap (λ x.
+      settled (cond x none (some 9)) (repairCounts (outs A B C D E))
+      (putRepaired (outs A B C D E) (outs A₀ B₀ C₀ D₀ E₀)) (outs A₀ B₀ C₀ D₀ E₀)) (lengths true h))
 
 -- ---- the junctions by their rows
-connections-tab : (pairs connections : List ℕ) → connectionsIn pairs connections ≡ tab (length connections / 7) (connectionAt pairs connections)
+connections-tab : (pairs connections : List ℕ)
+    → connectionsIn pairs connections ≡ tab (length connections / 7) (connectionAt pairs connections)
 unfolding connectionsIn connectionAt connectionIn
 connections-tab pairs connections = map-rows 7 connections (connectionIn (pairsIn pairs)) (λ l. simp (short 7 l))
 
-junction-one : (pairs connections junctions : List ℕ) → Joined junctions connections → (k : ℕ) → k < length junctions / 5 → junctionIn (connectionsIn pairs connections) (from 5 junctions k) ≡ junctionAt pairs connections junctions k
+junction-one : (pairs connections junctions : List ℕ) → Joined junctions connections → (k : ℕ)
+    → k < length junctions / 5
+    → junctionIn (connectionsIn pairs connections) (from 5 junctions k)
+    ≡ junctionAt pairs connections junctions k
 unfolding junctionIn junctionAt
 junction-one pairs connections junctions j k h =
     let c = ap₂ (λ (a b : ℕ). part a b (connectionsIn pairs connections)) (getD-drop (k * 5) junctions 3 0) (getD-drop (k * 5) junctions 4 0) ∙ ap (part (getD junctions (k * 5 + 3) 0) (getD junctions (k * 5 + 4) 0)) (connections-tab pairs connections)
-    ∙ part-tab (length connections / 7) (connectionAt pairs connections) (getD junctions (k * 5 + 3) 0) (getD junctions (k * 5 + 4) 0) (fit-in 5 3 4 junctions (length connections / 7) (j .fit) k h) in
-    λ i. record { name = name-at 5 0 junctions k i; kind = kindOf (getD-drop (k * 5) junctions 2 0 i); connections = c i }
+    ∙ part-tab (length connections / 7) (connectionAt pairs connections) (getD junctions (k * 5 + 3) 0)
+    (getD junctions (k * 5 + 4) 0) (fit-in 5 3 4 junctions (length connections / 7) (j .fit) k h) in
+    λ i.
+    record
+    { name = name-at 5 0 junctions k i; kind = kindOf (getD-drop (k * 5) junctions 2 0 i); connections = c i }
 
-pub junctions-tab : (pairs connections junctions : List ℕ) → Joined junctions connections → junctionsIn pairs connections junctions ≡ tab (length junctions / 5) (junctionAt pairs connections junctions)
+pub junctions-tab : (pairs connections junctions : List ℕ) → Joined junctions connections
+    → junctionsIn pairs connections junctions
+    ≡ tab (length junctions / 5) (junctionAt pairs connections junctions)
 unfolding junctionsIn junctionIn
-junctions-tab pairs connections junctions j = map-rows 5 junctions (junctionIn (connectionsIn pairs connections)) (λ l. simp (short 5 l))
-    ∙ tab-same (length junctions / 5) (λ k. junctionIn (connectionsIn pairs connections) (from 5 junctions k)) (junctionAt pairs connections junctions) one
+junctions-tab pairs connections junctions j =
+    map-rows 5 junctions (junctionIn (connectionsIn pairs connections)) (λ l. simp (short 5 l))
+    ∙ tab-same (length junctions / 5) (λ k. junctionIn (connectionsIn pairs connections) (from 5 junctions k))
+    (junctionAt pairs connections junctions) one
   where
-    one : (k : ℕ) → k < length junctions / 5 → junctionIn (connectionsIn pairs connections) (from 5 junctions k) ≡ junctionAt pairs connections junctions k
+    one : (k : ℕ) → k < length junctions / 5
+        → junctionIn (connectionsIn pairs connections) (from 5 junctions k)
+        ≡ junctionAt pairs connections junctions k
     one k h = junction-one pairs connections junctions j k h
 
 -- ---- what is written is what repair has to write
@@ -79,43 +123,77 @@ module _ (text roads ss junctions connections pairs : List ℕ) (j : Joined junc
   abbrev t : Tables
   t = mapTables text roads ss junctions connections pairs
 
-  pub start-is : (ends : List ℕ) → roadsNow ss roads junctions ends ≡ map (withoutAlong (sameIn text) (tab (length junctions / 5) (junctionAt pairs connections junctions))) (roadsIn ss roads) → roadsNow ss roads junctions ends ≡ startRoads (sameIn text) (mapOf t)
+  pub start-is : (ends : List ℕ)
+      → roadsNow ss roads junctions ends
+      ≡ map (withoutAlong (sameIn text) (tab (length junctions / 5) (junctionAt pairs connections junctions)))
+      (roadsIn ss roads) → roadsNow ss roads junctions ends ≡ startRoads (sameIn text) (mapOf t)
   unfolding startRoads mapOf
-  start-is ends e = e ∙ ap (λ (js : List Junction). map (withoutAlong (sameIn text) js) (roadsIn ss roads)) (sym (junctions-tab pairs connections junctions j))
+  start-is ends e =
+      e
+      ∙ ap (λ (js : List Junction). map (withoutAlong (sameIn text) js) (roadsIn ss roads))
+      (sym (junctions-tab pairs connections junctions j))
 
   module _ (worded : every (roadWorded text) (table 20 roads) ≡ true) (fit : Fit 20 18 19 roads (length ss)) (ends₀ ends : List ℕ) (n p w : ℕ) (js cs₀ ps₀ cs ps warn : List ℕ)
       (start : roadsNow ss roads junctions ends₀ ≡ startRoads (sameIn text) (mapOf t))
-      (o : Over (sameIn text) (warningRow t) (junctionAt pairs connections junctions) (roadsNow ss roads junctions ends₀) (roadsNow ss roads junctions ends) (length junctions / 5) n p w js cs₀ ps₀ cs ps warn) where
+      (o : Over (sameIn text) (warningRow t) (junctionAt pairs connections junctions)
+      (roadsNow ss roads junctions ends₀) (roadsNow ss roads junctions ends) (length junctions / 5) n p w js
+      cs₀ ps₀ cs ps warn) where
     list : tab (length junctions / 5) (junctionAt pairs connections junctions) ≡ mapOf t .junctions
     unfolding mapOf
     list = sym (junctions-tab pairs connections junctions j)
 
-    after : junctionsOver (sameIn text) (tab (length junctions / 5) (junctionAt pairs connections junctions)) (roadsNow ss roads junctions ends₀) ≡ junctionsOver (sameIn text) (mapOf t .junctions) (startRoads (sameIn text) (mapOf t))
+    after : junctionsOver (sameIn text) (tab (length junctions / 5) (junctionAt pairs connections junctions))
+        (roadsNow ss roads junctions ends₀)
+        ≡ junctionsOver (sameIn text) (mapOf t .junctions) (startRoads (sameIn text) (mapOf t))
     after = ap₂ (junctionsOver (sameIn text)) list start
 
-    pub content-is : outs (gather (roadNowWords roads junctions ends) (tab (length roads / 20) (λ r. r))) (take (length junctions / 5 * 5) js) (take (n * 7) cs) (take (p * 2) ps) (take (w * 4) warn) ≡ repairContent t
+    pub content-is : outs (gather (roadNowWords roads junctions ends) (tab (length roads / 20) (λ r. r)))
+        (take (length junctions / 5 * 5) js) (take (n * 7) cs) (take (p * 2) ps) (take (w * 4) warn)
+        ≡ repairContent t
     unfolding repairContent repair warnings junctionWords connectionWords pairWords allConnections allPairs
     content-is =
-        let a = sym (words-now text ss roads junctions ends worded fit) ∙ ap roadWords (o .roads ∙ ap₂ (roadsOver (sameIn text)) list start) in
+        let a =
+        sym (words-now text ss roads junctions ends worded fit)
+        ∙ ap roadWords (o .roads ∙ ap₂ (roadsOver (sameIn text)) list start) in
         let b = o .rows ∙ ap (rowsFrom junctionRow (λ (x : Junction). x .connections) 0) after in
-        let c = o .laid .words ∙ ap (λ (l : List Junction). rowsFrom connectionRow (λ (x : Connection). x .pairs) 0 (gather (λ (x : Junction). x .connections) l)) after in
-        let d = o .laid .pair-words ∙ ap (λ (l : List Junction). gather pairRow (gather (λ (x : Connection). x .pairs) (gather (λ (x : Junction). x .connections) l))) after in
-        let e = o .warned ∙ ap₂ (λ (l : List Junction) (rs : List Road). gather (warningRow t) (warnOver (sameIn text) 0 l rs)) list start in
+        let c =
+        o .laid .words
+        ∙ ap (λ (l : List Junction).
+        rowsFrom connectionRow (λ (x : Connection). x .pairs) 0
+        (gather (λ (x : Junction). x .connections) l)) after in
+        let d =
+        o .laid .pair-words
+        ∙ ap (λ (l : List Junction).
+        gather pairRow
+        (gather (λ (x : Connection). x .pairs) (gather (λ (x : Junction). x .connections) l))) after in
+        let e =
+        o .warned
+        ∙ ap₂
+        (λ (l : List Junction) (rs : List Road). gather (warningRow t) (warnOver (sameIn text) 0 l rs))
+        list start in
         λ i. outs (a i) (b i) (c i) (d i) (e i)
 
 -- ---- the refusals
 module _ (t : Tables) (o : RepairOutputs) where
-  pub call-refused : (v : Option ℕ) → (v ≡ none → ⊥) → v ≡ firstBroken (repairRules t) → record { answer = refused (refusalWord v); outs = o } ≡ repairCall t o
+  pub call-refused : (v : Option ℕ) → (v ≡ none → ⊥) → v ≡ firstBroken (repairRules t)
+      → record { answer = refused (refusalWord v); outs = o } ≡ repairCall t o
   unfolding repairCall repairRefusal
-  call-refused v n e = go v n ∙ ap (λ x. settled x (repairCounts (repairContent t)) (putRepaired (repairContent t) o) o) (first-stays (repairRules t) (longEnough (repairLengths (repairContent t)) (repairLengths o)) v n e)
+  call-refused v n e =
+      go v n
+      ∙ ap (λ x. settled x (repairCounts (repairContent t)) (putRepaired (repairContent t) o) o)
+      (first-stays (repairRules t) (longEnough (repairLengths (repairContent t)) (repairLengths o)) v n e)
     where
-      go : (v : Option ℕ) → (v ≡ none → ⊥) → record { answer = refused (refusalWord v); outs = o } ≡ settled v (repairCounts (repairContent t)) (putRepaired (repairContent t) o) o
+      go : (v : Option ℕ) → (v ≡ none → ⊥)
+          → record { answer = refused (refusalWord v); outs = o }
+          ≡ settled v (repairCounts (repairContent t)) (putRepaired (repairContent t) o) o
       go none n = absurd (n refl)
       go (some k) n = refl
 
   pub call-admitted : none ≡ firstBroken (repairRules t) → putOr9 (repairContent t) o ≡ repairCall t o
   unfolding repairCall repairRefusal putOr9
-  call-admitted e = ap (λ x. settled x (repairCounts (repairContent t)) (putRepaired (repairContent t) o) o) (then-first (repairRules t) (longEnough (repairLengths (repairContent t)) (repairLengths o)) e refl)
+  call-admitted e =
+      ap (λ x. settled x (repairCounts (repairContent t)) (putRepaired (repairContent t) o) o)
+      (then-first (repairRules t) (longEnough (repairLengths (repairContent t)) (repairLengths o)) e refl)
 
 -- what an admission says
 pub record Ready (t : Tables) : Type 0 where
@@ -134,14 +212,22 @@ sizes t e =
     let s = sized 1 16384 (length (t .sections)) in
     let j = sized 5 16384 (length (t .junctions)) in
     let c = sized 7 8192 (length (t .connections)) in
-    let p = sized 2 8192 (length (t .pairs)) in
-    (sized-few 7 8192 (length (t .connections)) (right-on (a && r && s && j) c (left-on (a && r && s && j && c) p e)), sized-few 2 8192 (length (t .pairs)) (right-on (a && r && s && j && c) p e))
+    let p = sized 2 8192 (length (t .pairs)) in (
+      sized-few 7 8192 (length (t .connections))
+          (right-on (a && r && s && j) c (left-on (a && r && s && j && c) p e)),
+      sized-few 2 8192 (length (t .pairs)) (right-on (a && r && s && j && c) p e),
+    )
 
-kinds-of : (text junctions : List ℕ) → every (junctionWorded text) (table 5 junctions) ≡ true → (k : ℕ) → k < length junctions / 5 → getD junctions (k * 5 + 2) 0 ≤ 2
+kinds-of : (text junctions : List ℕ) → every (junctionWorded text) (table 5 junctions) ≡ true → (k : ℕ)
+    → k < length junctions / 5 → getD junctions (k * 5 + 2) 0 ≤ 2
 unfolding junctionWorded
 kinds-of text junctions e k h =
-    let w : junctionWorded text (from 5 junctions k) ≡ true = all-at (length junctions / 5) k (λ i. junctionWorded text (from 5 junctions i)) (sym (every-rows 5 junctions (junctionWorded text) (junction-local text)) ∙ e) h in
-    let l = leb-true (word (from 5 junctions k) 2) 2 (right-on (placed text (spanIn (from 5 junctions k) 0)) (leb (word (from 5 junctions k) 2) 2) w) in
+    let w : junctionWorded text (from 5 junctions k) ≡ true =
+    all-at (length junctions / 5) k (λ i. junctionWorded text (from 5 junctions i))
+    (sym (every-rows 5 junctions (junctionWorded text) (junction-local text)) ∙ e) h in
+    let l =
+    leb-true (word (from 5 junctions k) 2) 2
+    (right-on (placed text (spanIn (from 5 junctions k) 0)) (leb (word (from 5 junctions k) 2) 2) w) in
     let g = getD-drop (k * 5) junctions 2 0 in
     omega arith
 
@@ -159,14 +245,27 @@ ready t e =
     record {
       few-roads = few 8192 t (omega arith) (p .0) .few-roads;
       once = not-none _ (sym (roads-once (t .text) (t .roads) (t .sections)) ∙ p .1 .1 .0);
-      small = record { few = z .0; few-pairs = z .1; fit = fit-of 7 5 6 (length (t .pairs) / 2) (t .connections) (omega arith) (omega arith) (right-on cp pp (p .1 .1 .1 .1 .0)) };
-      joined = record { few = junctions-few 8192 t (p .0); fit = fit-of 5 3 4 (length (t .connections) / 7) (t .junctions) (omega arith) (omega arith) (left-on cp pp (p .1 .1 .1 .1 .0)); kinds = kinds-of (t .text) (t .junctions) (right-on r j rj) };
+      small = record {
+        few = z .0;
+        few-pairs = z .1;
+        fit = fit-of 7 5 6 (length (t .pairs) / 2) (t .connections) (omega arith) (omega arith)
+            (right-on cp pp (p .1 .1 .1 .1 .0));
+      };
+      joined = record {
+        few = junctions-few 8192 t (p .0);
+        fit = fit-of 5 3 4 (length (t .connections) / 7) (t .junctions) (omega arith) (omega arith)
+            (left-on cp pp (p .1 .1 .1 .1 .0));
+        kinds = kinds-of (t .text) (t .junctions) (right-on r j rj);
+      };
       worded = left-on r j rj;
-      fit = fit-of 20 18 19 (length (t .sections)) (t .roads) (omega arith) (omega arith) (parts-of (t .sections) (t .roads) _ (p .1 .1 .1 .0));
+      fit = fit-of 20 18 19 (length (t .sections)) (t .roads) (omega arith) (omega arith)
+          (parts-of (t .sections) (t .roads) _ (p .1 .1 .1 .0));
     }
 
 -- five contents that fit
-pub fits-five : (a b c d e a′ b′ c′ d′ e′ : ℕ) → fits (a ∷ b ∷ c ∷ d ∷ e ∷ []) (a′ ∷ b′ ∷ c′ ∷ d′ ∷ e′ ∷ []) ≡ true → (a ≤ a′) × (b ≤ b′) × (c ≤ c′) × (d ≤ d′) × (e ≤ e′)
+pub fits-five : (a b c d e a′ b′ c′ d′ e′ : ℕ)
+    → fits (a ∷ b ∷ c ∷ d ∷ e ∷ []) (a′ ∷ b′ ∷ c′ ∷ d′ ∷ e′ ∷ []) ≡ true
+    → (a ≤ a′) × (b ≤ b′) × (c ≤ c′) × (d ≤ d′) × (e ≤ e′)
 fits-five a b c d e a′ b′ c′ d′ e′ h =
     let h1 = right-on (leb a a′) (leb b b′ && (leb c c′ && (leb d d′ && (leb e e′ && true)))) h in
     let h2 = right-on (leb b b′) (leb c c′ && (leb d d′ && (leb e e′ && true))) h1 in

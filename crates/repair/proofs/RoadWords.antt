@@ -32,7 +32,11 @@ use Rattle.repair.proofs.Lays.{rows-append}
 use Rattle.rules.proofs.Fits.{fit-in}
 
 -- seven words before others
-seven-on : (w : ℕ) (roads junctions : List ℕ) (a e : ℕ) (rest : List ℕ) → getD (nowWords w roads junctions a e) 0 0 ∷ getD (nowWords w roads junctions a e) 1 0 ∷ getD (nowWords w roads junctions a e) 2 0 ∷ getD (nowWords w roads junctions a e) 3 0 ∷ getD (nowWords w roads junctions a e) 4 0 ∷ getD (nowWords w roads junctions a e) 5 0 ∷ getD (nowWords w roads junctions a e) 6 0 ∷ rest ≡ nowWords w roads junctions a e ++ rest
+seven-on : (w : ℕ) (roads junctions : List ℕ) (a e : ℕ) (rest : List ℕ)
+    → getD (nowWords w roads junctions a e) 0 0 ∷ getD (nowWords w roads junctions a e) 1 0
+    ∷ getD (nowWords w roads junctions a e) 2 0 ∷ getD (nowWords w roads junctions a e) 3 0
+    ∷ getD (nowWords w roads junctions a e) 4 0 ∷ getD (nowWords w roads junctions a e) 5 0
+    ∷ getD (nowWords w roads junctions a e) 6 0 ∷ rest ≡ nowWords w roads junctions a e ++ rest
 seven-on zero roads junctions a e rest = refl
 seven-on (suc zero) roads junctions a e rest = refl
 seven-on (suc (suc k)) roads junctions a e rest = refl
@@ -42,8 +46,13 @@ now-width zero roads junctions a e = refl
 now-width (suc zero) roads junctions a e = refl
 now-width (suc (suc k)) roads junctions a e = refl
 
-pub seven : (w : ℕ) (roads junctions : List ℕ) (a e : ℕ) (t rest : List ℕ) → t ≡ nowWords w roads junctions a e → getD t 0 0 ∷ getD t 1 0 ∷ getD t 2 0 ∷ getD t 3 0 ∷ getD t 4 0 ∷ getD t 5 0 ∷ getD t 6 0 ∷ rest ≡ nowWords w roads junctions a e ++ rest
-seven w roads junctions a e t rest h = ap (λ (t : List ℕ). getD t 0 0 ∷ getD t 1 0 ∷ getD t 2 0 ∷ getD t 3 0 ∷ getD t 4 0 ∷ getD t 5 0 ∷ getD t 6 0 ∷ rest) h ∙ seven-on w roads junctions a e rest
+pub seven : (w : ℕ) (roads junctions : List ℕ) (a e : ℕ) (t rest : List ℕ) → t ≡ nowWords w roads junctions a e
+    → getD t 0 0 ∷ getD t 1 0 ∷ getD t 2 0 ∷ getD t 3 0 ∷ getD t 4 0 ∷ getD t 5 0 ∷ getD t 6 0 ∷ rest
+    ≡ nowWords w roads junctions a e ++ rest
+seven w roads junctions a e t rest h =
+    ap (λ (t : List ℕ).
+    getD t 0 0 ∷ getD t 1 0 ∷ getD t 2 0 ∷ getD t 3 0 ∷ getD t 4 0 ∷ getD t 5 0 ∷ getD t 6 0 ∷ rest) h
+    ∙ seven-on w roads junctions a e rest
 
 module _ (roads junctions ends : List ℕ) where
   pub road-width : (r : ℕ) → length (roadNowWords roads junctions ends r) ≡ 20
@@ -51,15 +60,23 @@ module _ (roads junctions ends : List ℕ) where
   road-width r =
       let la = now-width (getD ends (r * 2 + 0) 0) roads junctions (r * 20 + 4 + 0 * 7) 0 in
       let lb = now-width (getD ends (r * 2 + 1) 0) roads junctions (r * 20 + 4 + 1 * 7) 1 in
-      let c = length-append (nowWords (getD ends (r * 2 + 1) 0) roads junctions (r * 20 + 4 + 1 * 7) 1) (getD roads (r * 20 + 18) 0 ∷ getD roads (r * 20 + 19) 0 ∷ []) in
-      let d = length-append (nowWords (getD ends (r * 2 + 0) 0) roads junctions (r * 20 + 4 + 0 * 7) 0) (nowWords (getD ends (r * 2 + 1) 0) roads junctions (r * 20 + 4 + 1 * 7) 1 ++ (getD roads (r * 20 + 18) 0 ∷ getD roads (r * 20 + 19) 0 ∷ [])) in
+      let c =
+      length-append (nowWords (getD ends (r * 2 + 1) 0) roads junctions (r * 20 + 4 + 1 * 7) 1)
+      (getD roads (r * 20 + 18) 0 ∷ getD roads (r * 20 + 19) 0 ∷ []) in
+      let d =
+      length-append (nowWords (getD ends (r * 2 + 0) 0) roads junctions (r * 20 + 4 + 0 * 7) 0)
+      (nowWords (getD ends (r * 2 + 1) 0) roads junctions (r * 20 + 4 + 1 * 7) 1
+      ++ (getD roads (r * 20 + 18) 0 ∷ getD roads (r * 20 + 19) 0 ∷ [])) in
       omega arith
 
   pub roads-width : (i : ℕ) → length (gather (roadNowWords roads junctions ends) (tab i (λ r. r))) ≡ i * 20
   unfolding tab
   roads-width zero = refl
   roads-width (suc i) =
-      let a = ap length (gather-append (roadNowWords roads junctions ends) (tab i (λ r. r)) (i ∷ [])) ∙ length-append (gather (roadNowWords roads junctions ends) (tab i (λ r. r))) (roadNowWords roads junctions ends i ++ []) in
+      let a =
+      ap length (gather-append (roadNowWords roads junctions ends) (tab i (λ r. r)) (i ∷ []))
+      ∙ length-append (gather (roadNowWords roads junctions ends) (tab i (λ r. r)))
+      (roadNowWords roads junctions ends i ++ []) in
       let b = roads-width i in
       let c = ap length (append-nil (roadNowWords roads junctions ends i)) ∙ road-width i in
       omega arith
@@ -69,19 +86,34 @@ name-forth : (s n : ℕ) → nameWords (cond (isAbsent s n) none (some (span s n
 name-forth s n = go (isAbsent s n) refl
   where
     go : (b : Bool) → isAbsent s n ≡ b → nameWords (cond b none (some (span s n))) ≡ s ∷ n ∷ []
-    go true h = λ i. sym (eqb-true s 4294967295 (and-left (eqb s 4294967295) (eqb n 0) h)) i ∷ sym (eqb-true n 0 (and-right (eqb s 4294967295) (eqb n 0) h)) i ∷ []
+    go true h =
+        λ i.
+        sym (eqb-true s 4294967295 (and-left (eqb s 4294967295) (eqb n 0) h)) i
+        ∷ sym (eqb-true n 0 (and-right (eqb s 4294967295) (eqb n 0) h)) i ∷ []
     go false h = refl
 
 module _ (text roads junctions : List ℕ) (r : ℕ) where
   shift : (k j : ℕ) → getD (from 20 roads r) (k + j) 0 ≡ getD roads (r * 20 + k + j) 0
   shift k j = getD-drop (r * 20) roads (k + j) 0 ∙ ap (λ (m : ℕ). getD roads m 0) (sym (add-assoc (r * 20) k j))
 
-  end-words : (w : ℕ) (b : Bool) → targetWordedAt text (from 20 roads r) (pick b 4 11) ≡ true → targetWords (endNow w (targetIn (from 20 roads r) (pick b 4 11)) (λ k. linked (nameAt 5 0 junctions k) b)) ≡ nowWords w roads junctions (r * 20 + pick b 4 11) (bit b)
+  end-words : (w : ℕ) (b : Bool) → targetWordedAt text (from 20 roads r) (pick b 4 11) ≡ true
+      → targetWords
+      (endNow w (targetIn (from 20 roads r) (pick b 4 11)) (λ k. linked (nameAt 5 0 junctions k) b))
+      ≡ nowWords w roads junctions (r * 20 + pick b 4 11) (bit b)
   unfolding linked
-  end-words zero b h = target-forth text (word (from 20 roads r) (pick b 4 11)) (word (from 20 roads r) (pick b 4 11 + 1)) (word (from 20 roads r) (pick b 4 11 + 2)) (word (from 20 roads r) (pick b 4 11 + 3)) (word (from 20 roads r) (pick b 4 11 + 4)) (word (from 20 roads r) (pick b 4 11 + 5)) (word (from 20 roads r) (pick b 4 11 + 6)) h
-      ∙ (λ i. getD-drop (r * 20) roads (pick b 4 11) 0 i ∷ shift (pick b 4 11) 1 i ∷ shift (pick b 4 11) 2 i ∷ shift (pick b 4 11) 3 i ∷ shift (pick b 4 11) 4 i ∷ shift (pick b 4 11) 5 i ∷ shift (pick b 4 11) 6 i ∷ [])
+  end-words zero b h =
+      target-forth text (word (from 20 roads r) (pick b 4 11)) (word (from 20 roads r) (pick b 4 11 + 1))
+      (word (from 20 roads r) (pick b 4 11 + 2)) (word (from 20 roads r) (pick b 4 11 + 3))
+      (word (from 20 roads r) (pick b 4 11 + 4)) (word (from 20 roads r) (pick b 4 11 + 5))
+      (word (from 20 roads r) (pick b 4 11 + 6)) h
+      ∙ (λ i.
+      getD-drop (r * 20) roads (pick b 4 11) 0 i ∷ shift (pick b 4 11) 1 i ∷ shift (pick b 4 11) 2 i
+      ∷ shift (pick b 4 11) 3 i ∷ shift (pick b 4 11) 4 i ∷ shift (pick b 4 11) 5 i ∷ shift (pick b 4 11) 6 i
+      ∷ [])
   end-words (suc zero) b h = refl
-  end-words (suc (suc k)) b h = ap₂ (λ (x y : ℕ). 1 ∷ 1 ∷ getD junctions x 0 ∷ getD junctions y 0 ∷ bit b ∷ 1 ∷ 0 ∷ []) (flat (k * 5)) (flat1 (k * 5))
+  end-words (suc (suc k)) b h =
+      ap₂ (λ (x y : ℕ). 1 ∷ 1 ∷ getD junctions x 0 ∷ getD junctions y 0 ∷ bit b ∷ 1 ∷ 0 ∷ []) (flat (k * 5))
+      (flat1 (k * 5))
     where
       flat : (m : ℕ) → m + 0 ≡ m
       flat m = omega arith
@@ -89,48 +121,82 @@ module _ (text roads junctions : List ℕ) (r : ℕ) where
       flat1 : (m : ℕ) → m + 0 + 1 ≡ m + 1
       flat1 m = omega arith
 
-module _ (text ss roads junctions ends : List ℕ) (worded : every (roadWorded text) (table 20 roads) ≡ true) (fit : Fit 20 18 19 roads (length ss)) where
-  count-is : (r : ℕ) → r < length roads / 20 → length (roadNow ss roads junctions ends r .sections) ≡ getD roads (r * 20 + 19) 0
+module _ (text ss roads junctions ends : List ℕ) (worded : every (roadWorded text) (table 20 roads) ≡ true)
+    (fit : Fit 20 18 19 roads (length ss)) where
+  count-is : (r : ℕ) → r < length roads / 20
+      → length (roadNow ss roads junctions ends r .sections) ≡ getD roads (r * 20 + 19) 0
   unfolding roadNow
-  count-is r h = ap₂ (λ (a b : ℕ). length (part a b ss)) (getD-drop (r * 20) roads 18 0) (getD-drop (r * 20) roads 19 0)
-      ∙ length-take-le (getD roads (r * 20 + 19) 0) (drop (getD roads (r * 20 + 18) 0) ss) (let d = length-drop (getD roads (r * 20 + 18) 0) ss in let e = fit-in 20 18 19 roads (length ss) fit r h in omega arith)
+  count-is r h =
+      ap₂ (λ (a b : ℕ). length (part a b ss)) (getD-drop (r * 20) roads 18 0) (getD-drop (r * 20) roads 19 0)
+      ∙ length-take-le (getD roads (r * 20 + 19) 0) (drop (getD roads (r * 20 + 18) 0) ss)
+      (let d = length-drop (getD roads (r * 20 + 18) 0) ss in
+      let e = fit-in 20 18 19 roads (length ss) fit r h in omega arith)
 
   row-worded : (r : ℕ) → r < length roads / 20 → roadWorded text (from 20 roads r) ≡ true
-  row-worded r h = all-at (length roads / 20) r (λ i. roadWorded text (from 20 roads i)) (sym (every-rows 20 roads (roadWorded text) (road-local text)) ∙ worded) h
+  row-worded r h =
+      all-at (length roads / 20) r (λ i. roadWorded text (from 20 roads i))
+      (sym (every-rows 20 roads (roadWorded text) (road-local text)) ∙ worded) h
 
-  row-now : (r : ℕ) → r < length roads / 20 → roadRow (getD roads (r * 20 + 18) 0) (roadNow ss roads junctions ends r) ≡ roadNowWords roads junctions ends r
+  row-now : (r : ℕ) → r < length roads / 20
+      → roadRow (getD roads (r * 20 + 18) 0) (roadNow ss roads junctions ends r)
+      ≡ roadNowWords roads junctions ends r
   unfolding roadRow roadNow roadNowWords roadWorded targetNow
   row-now r h =
-      let w = and4 (placed text (spanIn (from 20 roads r) 0)) (isAbsent (word (from 20 roads r) 2) (word (from 20 roads r) 3) || placed text (spanIn (from 20 roads r) 2)) (targetWordedAt text (from 20 roads r) 4) (targetWordedAt text (from 20 roads r) 11) (row-worded r h) in
-      let n = name-forth (word (from 20 roads r) 2) (word (from 20 roads r) 3) ∙ ap₂ (λ (a b : ℕ). a ∷ b ∷ []) (getD-drop (r * 20) roads 2 0) (getD-drop (r * 20) roads 3 0) in
+      let w =
+      and4 (placed text (spanIn (from 20 roads r) 0))
+      (isAbsent (word (from 20 roads r) 2) (word (from 20 roads r) 3) || placed text
+      (spanIn (from 20 roads r) 2)) (targetWordedAt text (from 20 roads r) 4)
+      (targetWordedAt text (from 20 roads r) 11) (row-worded r h) in
+      let n =
+      name-forth (word (from 20 roads r) 2) (word (from 20 roads r) 3)
+      ∙ ap₂ (λ (a b : ℕ). a ∷ b ∷ []) (getD-drop (r * 20) roads 2 0) (getD-drop (r * 20) roads 3 0) in
       let z0 : r * 20 + 4 ≡ r * 20 + 4 + 0 * 7 = omega arith in
       let z1 : r * 20 + 11 ≡ r * 20 + 4 + 1 * 7 = omega arith in
-      let p = end-words text roads junctions r (getD ends (r * 2 + 0) 0) false (w .2) ∙ ap (λ (a : ℕ). nowWords (getD ends (r * 2 + 0) 0) roads junctions a 0) z0 in
-      let s = end-words text roads junctions r (getD ends (r * 2 + 1) 0) true (w .3) ∙ ap (λ (a : ℕ). nowWords (getD ends (r * 2 + 1) 0) roads junctions a 1) z1 in
+      let p =
+      end-words text roads junctions r (getD ends (r * 2 + 0) 0) false (w .2)
+      ∙ ap (λ (a : ℕ). nowWords (getD ends (r * 2 + 0) 0) roads junctions a 0) z0 in
+      let s =
+      end-words text roads junctions r (getD ends (r * 2 + 1) 0) true (w .3)
+      ∙ ap (λ (a : ℕ). nowWords (getD ends (r * 2 + 1) 0) roads junctions a 1) z1 in
       let f = getD-drop (r * 20) roads 0 0 ∙ ap (λ (k : ℕ). getD roads k 0) (add-zero (r * 20)) in
-      λ i. f i ∷ getD-drop (r * 20) roads 1 0 i ∷ (n i ++ (p i ++ (s i ++ (getD roads (r * 20 + 18) 0 ∷ count-is r h i ∷ []))))
+      λ i.
+      f i ∷ getD-drop (r * 20) roads 1 0 i
+      ∷ (n i ++ (p i ++ (s i ++ (getD roads (r * 20 + 18) 0 ∷ count-is r h i ∷ []))))
 
-  sections-before : (i : ℕ) → i ≤ length roads / 20 → length (gather (λ (r : Road). r .sections) (tab i (roadNow ss roads junctions ends))) ≡ total i (counts 20 19 roads)
+  sections-before : (i : ℕ) → i ≤ length roads / 20
+      → length (gather (λ (r : Road). r .sections) (tab i (roadNow ss roads junctions ends)))
+      ≡ total i (counts 20 19 roads)
   unfolding tab
   sections-before zero h = total-none (counts 20 19 roads)
   sections-before (suc i) h =
-      let a = ap length (gather-append (λ (r : Road). r .sections) (tab i (roadNow ss roads junctions ends)) (roadNow ss roads junctions ends i ∷ [])) ∙ length-append (gather (λ (r : Road). r .sections) (tab i (roadNow ss roads junctions ends))) (roadNow ss roads junctions ends i .sections ++ []) in
+      let a =
+      ap length (gather-append (λ (r : Road). r .sections) (tab i (roadNow ss roads junctions ends))
+      (roadNow ss roads junctions ends i ∷ []))
+      ∙ length-append (gather (λ (r : Road). r .sections) (tab i (roadNow ss roads junctions ends)))
+      (roadNow ss roads junctions ends i .sections ++ []) in
       let b = sections-before i (omega arith) in
       let c = ap length (append-nil (roadNow ss roads junctions ends i .sections)) ∙ count-is i h in
       let d = ap (λ (k : ℕ). total k (counts 20 19 roads)) (sym (add-one i)) ∙ total-more i (counts 20 19 roads) in
       omega arith
 
-  rows-now : (i : ℕ) → i ≤ length roads / 20 → rowsFrom roadRow (λ (r : Road). r .sections) 0 (tab i (roadNow ss roads junctions ends)) ≡ gather (roadNowWords roads junctions ends) (tab i (λ r. r))
+  rows-now : (i : ℕ) → i ≤ length roads / 20
+      → rowsFrom roadRow (λ (r : Road). r .sections) 0 (tab i (roadNow ss roads junctions ends))
+      ≡ gather (roadNowWords roads junctions ends) (tab i (λ r. r))
   unfolding tab
   rows-now zero h = refl
-  rows-now (suc i) h = rows-append roadRow (λ (r : Road). r .sections) 0 (tab i (roadNow ss roads junctions ends)) (roadNow ss roads junctions ends i ∷ [])
+  rows-now (suc i) h =
+      rows-append roadRow (λ (r : Road). r .sections) 0 (tab i (roadNow ss roads junctions ends))
+      (roadNow ss roads junctions ends i ∷ [])
       ∙ ap₂ (λ (a b : List ℕ). a ++ b) (rows-now i (omega arith))
-      (ap (λ (k : ℕ). roadRow k (roadNow ss roads junctions ends i) ++ []) (begin ∙ sym (fit .begins i h)) ∙ ap (λ (l : List ℕ). l ++ []) (row-now i h))
+      (ap (λ (k : ℕ). roadRow k (roadNow ss roads junctions ends i) ++ []) (begin ∙ sym (fit .begins i h))
+      ∙ ap (λ (l : List ℕ). l ++ []) (row-now i h))
       ∙ sym (gather-append (roadNowWords roads junctions ends) (tab i (λ r. r)) (i ∷ []))
     where
-      begin : 0 + length (gather (λ (r : Road). r .sections) (tab i (roadNow ss roads junctions ends))) ≡ total i (counts 20 19 roads)
+      begin : 0 + length (gather (λ (r : Road). r .sections) (tab i (roadNow ss roads junctions ends)))
+          ≡ total i (counts 20 19 roads)
       begin = let a = sections-before i (omega arith) in omega arith
 
-  pub words-now : roadWords (roadsNow ss roads junctions ends) ≡ gather (roadNowWords roads junctions ends) (tab (length roads / 20) (λ r. r))
+  pub words-now : roadWords (roadsNow ss roads junctions ends)
+      ≡ gather (roadNowWords roads junctions ends) (tab (length roads / 20) (λ r. r))
   unfolding roadWords roadsNow
   words-now = rows-now (length roads / 20) (omega arith)

@@ -24,9 +24,14 @@ use Rattle.repair.specs.Laying.{turnedAt}
 use Rattle.repair.proofs.Ends.{incoming-is, connecting-is}
 
 -- a connection that runs the other way lies in the bucket of the connecting road's name
-pub only-turned : (text connections : List ℕ) (first last c q : ℕ) → turnedAt text connections first last c q ≡ true → nameHash text 7 0 connections q ≡ hashName text (nameAt 7 2 connections c)
+pub only-turned : (text connections : List ℕ) (first last c q : ℕ)
+    → turnedAt text connections first last c q ≡ true
+    → nameHash text 7 0 connections q ≡ hashName text (nameAt 7 2 connections c)
 unfolding turnedAt nameHash
-only-turned text connections first last c q e = same-hash text (nameAt 7 0 connections q) (nameAt 7 2 connections c) (right-on (leb first q && ltb q last) _ (left-on _ (sameIn text (nameAt 7 2 connections q) (nameAt 7 0 connections c)) e))
+only-turned text connections first last c q e =
+    same-hash text (nameAt 7 0 connections q) (nameAt 7 2 connections c)
+    (right-on (leb first q && ltb q last) _
+    (left-on _ (sameIn text (nameAt 7 2 connections q) (nameAt 7 0 connections c)) e))
 
 -- ---- among m from first on, or among all
 any-use : (n : ℕ) (p : ℕ → Bool) {C : Type 0} → any n p ≡ true → ((i : ℕ) → i < n → p i ≡ true → C) → C
@@ -39,23 +44,48 @@ any-use (suc n) p {C} e k = go (p n) refl (any n p) refl (λ r. any-use n p r (�
     go false q true r ih = ih r
     go false q false r ih = absurd (mathlib.Core.Bool.false≢true (sym (ap₂ _||_ r q) ∙ e))
 
-any-part : (n first m : ℕ) (p : ℕ → Bool) → first + m ≤ n → any m (λ i. p (first + i)) ≡ any n (λ q. (leb first q && ltb q (first + m)) && p q)
-any-part n first m p h = bool-ext (any m (λ i. p (first + i))) (any n (λ q. (leb first q && ltb q (first + m)) && p q))
-    (λ e. any-use m (λ i. p (first + i)) e (λ i l q. any-hit n (first + i) (λ q. (leb first q && ltb q (first + m)) && p q) (omega arith) (and-step (and-step (le-leb first (first + i) (omega arith)) (lt-ltb (first + i) (first + m) (omega arith))) q)))
-    (λ e. any-use n (λ q. (leb first q && ltb q (first + m)) && p q) e (λ i l q.
-    let a = leb-true first i (left-on (leb first i) (ltb i (first + m)) (left-on (leb first i && ltb i (first + m)) (p i) q)) in
-    let b = ltb-true i (first + m) (right-on (leb first i) (ltb i (first + m)) (left-on (leb first i && ltb i (first + m)) (p i) q)) in
+any-part : (n first m : ℕ) (p : ℕ → Bool) → first + m ≤ n
+    → any m (λ i. p (first + i)) ≡ any n (λ q. (leb first q && ltb q (first + m)) && p q)
+any-part n first m p h =
+    bool-ext (any m (λ i. p (first + i))) (any n (λ q. (leb first q && ltb q (first + m)) && p q))
+    (λ e.
+    any-use m (λ i. p (first + i)) e
+    (λ i l q.
+    any-hit n (first + i) (λ q. (leb first q && ltb q (first + m)) && p q) (omega arith)
+    (and-step
+    (and-step (le-leb first (first + i) (omega arith)) (lt-ltb (first + i) (first + m) (omega arith))) q)))
+    (λ e.
+    any-use n (λ q. (leb first q && ltb q (first + m)) && p q) e
+    (λ i l q.
+    let a = leb-true first i
+    (left-on (leb first i) (ltb i (first + m)) (left-on (leb first i && ltb i (first + m)) (p i) q)) in
+    let b = ltb-true i (first + m)
+    (right-on (leb first i) (ltb i (first + m)) (left-on (leb first i && ltb i (first + m)) (p i) q)) in
     let z : first + (i - first) ≡ i = omega arith in
-    any-hit m (i - first) (λ i. p (first + i)) (omega arith) (ap p z ∙ right-on (leb first i && ltb i (first + m)) (p i) q)))
+    any-hit m (i - first) (λ i. p (first + i)) (omega arith)
+    (ap p z ∙ right-on (leb first i && ltb i (first + m)) (p i) q)))
 
 module _ (text connections ps : List ℕ) (c first m : ℕ) (h : first + m ≤ length connections / 7) where
-  pub runs-is : some? (runsBack (sameIn text) (connectionAt ps connections c)) (run (connectionAt ps connections) first m) ≡ any (length connections / 7) (turnedAt text connections first (first + m) c)
+  pub runs-is : some? (runsBack (sameIn text) (connectionAt ps connections c))
+      (run (connectionAt ps connections) first m)
+      ≡ any (length connections / 7) (turnedAt text connections first (first + m) c)
   unfolding runsBack turnedAt
-  runs-is = some-tab (runsBack (sameIn text) (connectionAt ps connections c)) m (λ j. connectionAt ps connections (first + j))
-      ∙ any-part (length connections / 7) first m (λ q. runsBack (sameIn text) (connectionAt ps connections c) (connectionAt ps connections q)) h
-      ∙ any-same (length connections / 7) (λ q. (leb first q && ltb q (first + m)) && runsBack (sameIn text) (connectionAt ps connections c) (connectionAt ps connections q)) (turnedAt text connections first (first + m) c)
-      (λ q l. ap₂ (λ x y. (leb first q && ltb q (first + m)) && (x && y)) (ap₂ (sameIn text) (incoming-is ps connections q) (connecting-is ps connections c)) (ap₂ (sameIn text) (connecting-is ps connections q) (incoming-is ps connections c))
-      ∙ assoc (leb first q && ltb q (first + m)) (sameIn text (nameAt 7 0 connections q) (nameAt 7 2 connections c)) (sameIn text (nameAt 7 2 connections q) (nameAt 7 0 connections c)))
+  runs-is =
+      some-tab (runsBack (sameIn text) (connectionAt ps connections c)) m
+      (λ j. connectionAt ps connections (first + j))
+      ∙ any-part (length connections / 7) first m
+      (λ q. runsBack (sameIn text) (connectionAt ps connections c) (connectionAt ps connections q)) h
+      ∙ any-same (length connections / 7)
+      (λ q.
+      (leb first q && ltb q (first + m)) && runsBack (sameIn text) (connectionAt ps connections c)
+      (connectionAt ps connections q)) (turnedAt text connections first (first + m) c)
+      (λ q l.
+      ap₂ (λ x y. (leb first q && ltb q (first + m)) && (x && y))
+      (ap₂ (sameIn text) (incoming-is ps connections q) (connecting-is ps connections c))
+      (ap₂ (sameIn text) (connecting-is ps connections q) (incoming-is ps connections c))
+      ∙ assoc (leb first q && ltb q (first + m))
+      (sameIn text (nameAt 7 0 connections q) (nameAt 7 2 connections c))
+      (sameIn text (nameAt 7 2 connections q) (nameAt 7 0 connections c)))
     where
       assoc : (a b c : Bool) → a && (b && c) ≡ (a && b) && c
       assoc true b c = refl
@@ -68,21 +98,29 @@ module _ (same : Span → Span → Bool) (rs : List Road) (j : Span) (x : Connec
 
   pub back-unknown : r ≡ false → roadOf same rs (x .incoming) ≡ none → [] ≡ cond (not r) (backOf same rs j x) []
   unfolding backOf
-  back-unknown e o = sym (ap₂ (λ b z. cond (not b) (listO (bindO z (meetingEnd same j)) (λ e. backAt x e ∷ [])) []) e o)
+  back-unknown e o =
+      sym (ap₂ (λ b z. cond (not b) (listO (bindO z (meetingEnd same j)) (λ e. backAt x e ∷ [])) []) e o)
 
-  pub back-known : (R : Road) (q : Option Bool) → r ≡ false → roadOf same rs (x .incoming) ≡ some R → q ≡ meetingEnd same j R → listO q (λ e. backAt x e ∷ []) ≡ cond (not r) (backOf same rs j x) []
+  pub back-known : (R : Road) (q : Option Bool) → r ≡ false → roadOf same rs (x .incoming) ≡ some R
+      → q ≡ meetingEnd same j R → listO q (λ e. backAt x e ∷ []) ≡ cond (not r) (backOf same rs j x) []
   unfolding backOf
-  back-known R q e o m = ap (λ z. listO z (λ e. backAt x e ∷ [])) m ∙ sym (ap₂ (λ b z. cond (not b) (listO (bindO z (meetingEnd same j)) (λ e. backAt x e ∷ [])) []) e o)
+  back-known R q e o m =
+      ap (λ z. listO z (λ e. backAt x e ∷ [])) m
+      ∙ sym (ap₂ (λ b z. cond (not b) (listO (bindO z (meetingEnd same j)) (λ e. backAt x e ∷ [])) []) e o)
 
 -- all of them
-gather-keep : {A B : Type 0} (p : A → Bool) (f : A → List B) (xs : List A) → gather f (keep p xs) ≡ gather (λ x. cond (p x) (f x) []) xs
+gather-keep : {A B : Type 0} (p : A → Bool) (f : A → List B) (xs : List A)
+    → gather f (keep p xs) ≡ gather (λ x. cond (p x) (f x) []) xs
 gather-keep p f [] = refl
 gather-keep {A} {B} p f (x ∷ xs) = go (p x) (gather-keep p f xs)
   where
-    go : (b : Bool) → gather f (keep p xs) ≡ gather (λ x. cond (p x) (f x) []) xs → gather f (cond b (x ∷ keep p xs) (keep p xs)) ≡ cond b (f x) [] ++ gather (λ x. cond (p x) (f x) []) xs
+    go : (b : Bool) → gather f (keep p xs) ≡ gather (λ x. cond (p x) (f x) []) xs
+        → gather f (cond b (x ∷ keep p xs) (keep p xs))
+        ≡ cond b (f x) [] ++ gather (λ x. cond (p x) (f x) []) xs
     go true e = ap (λ (l : List B). f x ++ l) e
     go false e = e
 
-pub reversed-is : (same : Span → Span → Bool) (rs : List Road) (j : Span) (cs : List Connection) → gather (λ x. cond (not (some? (runsBack same x) cs)) (backOf same rs j x) []) cs ≡ reversed same rs j cs
+pub reversed-is : (same : Span → Span → Bool) (rs : List Road) (j : Span) (cs : List Connection)
+    → gather (λ x. cond (not (some? (runsBack same x) cs)) (backOf same rs j x) []) cs ≡ reversed same rs j cs
 unfolding reversed
 reversed-is same rs j cs = sym (gather-keep (λ x. not (some? (runsBack same x) cs)) (backOf same rs j) cs)

@@ -20,11 +20,14 @@ isVirtualOf text junctions n q = leb 2 (getD junctions (q * 5 + 2) 0) && sameIn 
 
 -- is road r's junction name that of a virtual junction?
 unfoldable pub virtualRow : (text roads junctions : List ℕ) → ℕ → Bool
-virtualRow text roads junctions r = not (isAbsent (getD roads (r * 20 + 2) 0) (getD roads (r * 20 + 3) 0)) && any (length junctions / 5) (isVirtualOf text junctions (span (getD roads (r * 20 + 2) 0) (getD roads (r * 20 + 3) 0)))
+virtualRow text roads junctions r =
+    not (isAbsent (getD roads (r * 20 + 2) 0) (getD roads (r * 20 + 3) 0)) && any (length junctions / 5)
+    (isVirtualOf text junctions (span (getD roads (r * 20 + 2) 0) (getD roads (r * 20 + 3) 0)))
 
 -- the word of an end before the first junction
 abbrev pub alongWord : (text roads junctions : List ℕ) → ℕ → Bool → ℕ
-alongWord text roads junctions r b = bit (virtualRow text roads junctions r && eqb (getD roads (r * 20 + pick b 10 17) 0) 1)
+alongWord text roads junctions r b =
+    bit (virtualRow text roads junctions r && eqb (getD roads (r * 20 + pick b 10 17) 0) 1)
 
 -- the ends of the first n roads have it
 pub record Marked (text roads junctions : List ℕ) (n : ℕ) (ends : List ℕ) : Type 0 where
@@ -39,5 +42,8 @@ pub record Named (text junctions heads next : List ℕ) : Type 0 where
 
 -- the words of road r
 unfoldable pub roadNowWords : (roads junctions ends : List ℕ) → ℕ → List ℕ
-roadNowWords roads junctions ends r = getD roads (r * 20) 0 ∷ getD roads (r * 20 + 1) 0 ∷ getD roads (r * 20 + 2) 0 ∷ getD roads (r * 20 + 3) 0
-    ∷ (nowWords (getD ends (r * 2 + 0) 0) roads junctions (r * 20 + 4 + 0 * 7) 0 ++ (nowWords (getD ends (r * 2 + 1) 0) roads junctions (r * 20 + 4 + 1 * 7) 1 ++ (getD roads (r * 20 + 18) 0 ∷ getD roads (r * 20 + 19) 0 ∷ [])))
+roadNowWords roads junctions ends r =
+    getD roads (r * 20) 0 ∷ getD roads (r * 20 + 1) 0 ∷ getD roads (r * 20 + 2) 0 ∷ getD roads (r * 20 + 3) 0
+    ∷ (nowWords (getD ends (r * 2 + 0) 0) roads junctions (r * 20 + 4 + 0 * 7) 0
+    ++ (nowWords (getD ends (r * 2 + 1) 0) roads junctions (r * 20 + 4 + 1 * 7) 1
+    ++ (getD roads (r * 20 + 18) 0 ∷ getD roads (r * 20 + 19) 0 ∷ [])))

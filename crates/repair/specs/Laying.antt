@@ -7,7 +7,8 @@ use lib.ListN.{length, getD, take}
 use lib.Dec.{eqb, leb, ltb}
 use Rattle.model.specs.Lists.{gather}
 use Rattle.model.specs.Records.{Span, Pair, Connection, Junction, Road}
-use Rattle.model.specs.Repair.{Warning, backAt, swapped, repairRoads, repairJunction, roadsOver, junctionsOver, warnAfter, warnOver}
+use Rattle.model.specs.Repair.{Warning, backAt, swapped, repairRoads, repairJunction, roadsOver, junctionsOver}
+use Rattle.model.specs.Repair.{warnAfter, warnOver}
 use Rattle.model.specs.Rows.{rowsFrom}
 use Rattle.model.specs.Tables.{bit, connectionRow, junctionRow, pairRow, pairIn}
 use Rattle.model.specs.Text.{sameIn}
@@ -38,12 +39,18 @@ pub record Laid (xs : List Connection) (n p n′ p′ : ℕ) (cs ps cs′ ps′ 
 
 -- does connection q, among those from first to last, run the other way of c?
 unfoldable pub turnedAt : (text connections : List ℕ) → ℕ → ℕ → ℕ → ℕ → Bool
-turnedAt text connections first last c q = leb first q && ltb q last && sameIn text (nameAt 7 0 connections q) (nameAt 7 2 connections c) && sameIn text (nameAt 7 2 connections q) (nameAt 7 0 connections c)
+turnedAt text connections first last c q =
+    leb first q && ltb q last && sameIn text (nameAt 7 0 connections q) (nameAt 7 2 connections c) && sameIn
+    text (nameAt 7 2 connections q) (nameAt 7 0 connections c)
 
 -- connection c's words, its pairs from row p on: as it is (b is 0), or the other way with contact b - 1
 abbrev pub rowWords : ℕ → List ℕ → ℕ → ℕ → List ℕ
-rowWords zero ws c p = getD ws (c * 7) 0 ∷ getD ws (c * 7 + 1) 0 ∷ getD ws (c * 7 + 2) 0 ∷ getD ws (c * 7 + 3) 0 ∷ bit (eqb (getD ws (c * 7 + 4) 0) 1) ∷ p ∷ getD ws (c * 7 + 6) 0 ∷ []
-rowWords (suc e) ws c p = getD ws (c * 7 + 2) 0 ∷ getD ws (c * 7 + 3) 0 ∷ getD ws (c * 7) 0 ∷ getD ws (c * 7 + 1) 0 ∷ e ∷ p ∷ getD ws (c * 7 + 6) 0 ∷ []
+rowWords zero ws c p =
+    getD ws (c * 7) 0 ∷ getD ws (c * 7 + 1) 0 ∷ getD ws (c * 7 + 2) 0 ∷ getD ws (c * 7 + 3) 0
+    ∷ bit (eqb (getD ws (c * 7 + 4) 0) 1) ∷ p ∷ getD ws (c * 7 + 6) 0 ∷ []
+rowWords (suc e) ws c p =
+    getD ws (c * 7 + 2) 0 ∷ getD ws (c * 7 + 3) 0 ∷ getD ws (c * 7) 0 ∷ getD ws (c * 7 + 1) 0 ∷ e ∷ p
+    ∷ getD ws (c * 7 + 6) 0 ∷ []
 
 -- what rules 1 and 5 say of connections and pairs
 pub record Small (pairs connections : List ℕ) : Type 0 where
@@ -69,11 +76,14 @@ pub record Stepped (same : Span → Span → Bool) (W : Warning → List ℕ) (j
   pub roads : after ≡ repairRoads same j before
   pub row : take ((k + 1) * 5) js′ ≡ take (k * 5) js ++ junctionRow n (repairJunction same before j)
   pub laid : Laid (repairJunction same before j .connections) n p n′ p′ cs ps cs′ ps′
-  pub warned : take (w′ * 4) warn′ ≡ take (w * 4) warn ++ gather W (warnAfter same k (j .kind) (j .name) (j .connections) before)
+  pub warned : take (w′ * 4) warn′
+      ≡ take (w * 4) warn ++ gather W (warnAfter same k (j .kind) (j .name) (j .connections) before)
 
 -- the first i junctions are repaired
 pub record Over (same : Span → Span → Bool) (W : Warning → List ℕ) (J : ℕ → Junction) (start now : List Road) (i n p w : ℕ) (js cs₀ ps₀ cs ps warn : List ℕ) : Type 0 where
   pub roads : now ≡ roadsOver same (tab i J) start
-  pub rows : take (i * 5) js ≡ rowsFrom junctionRow (λ (j : Junction). j .connections) 0 (junctionsOver same (tab i J) start)
-  pub laid : Laid (gather (λ (j : Junction). j .connections) (junctionsOver same (tab i J) start)) 0 0 n p cs₀ ps₀ cs ps
+  pub rows : take (i * 5) js
+      ≡ rowsFrom junctionRow (λ (j : Junction). j .connections) 0 (junctionsOver same (tab i J) start)
+  pub laid : Laid (gather (λ (j : Junction). j .connections) (junctionsOver same (tab i J) start)) 0 0 n p cs₀
+      ps₀ cs ps
   pub warned : take (w * 4) warn ≡ gather W (warnOver same 0 (tab i J) start)

@@ -1,5 +1,6 @@
 -- The roads as repaired so far, and the rows of connections and junctions, by row numbers. Definitions only.
--- `ends` has a word for each end of a road, at twice its row, plus 1 for its end: 0 as read, 1 made absent, k + 2 given junction row k.
+-- `ends` has a word for each end of a road, at twice its row, plus 1 for its end: 0 as read, 1 made absent, k +
+-- 2 given junction row k.
 use mathlib.Core.Path.{_≡_}
 use mathlib.Core.Bool.{Bool, true, false}
 use mathlib.Core.Option.{Option, none, some}
@@ -33,13 +34,18 @@ endNow (suc (suc k)) t l = some (l k)
 
 -- road r's target at an end
 unfoldable pub targetNow : (roads junctions ends : List ℕ) → ℕ → Bool → Option Target
-targetNow roads junctions ends r e = endNow (getD ends (r * 2 + bit e) 0) (targetIn (from 20 roads r) (pick e 4 11)) (λ k. linked (nameAt 5 0 junctions k) e)
+targetNow roads junctions ends r e =
+    endNow (getD ends (r * 2 + bit e) 0) (targetIn (from 20 roads r) (pick e 4 11))
+    (λ k. linked (nameAt 5 0 junctions k) e)
 
 -- its seven words; the target as read begins at word a
 abbrev pub nowWords : ℕ → (roads junctions : List ℕ) → ℕ → ℕ → List ℕ
-nowWords zero roads junctions a e = getD roads a 0 ∷ getD roads (a + 1) 0 ∷ getD roads (a + 2) 0 ∷ getD roads (a + 3) 0 ∷ getD roads (a + 4) 0 ∷ getD roads (a + 5) 0 ∷ getD roads (a + 6) 0 ∷ []
+nowWords zero roads junctions a e =
+    getD roads a 0 ∷ getD roads (a + 1) 0 ∷ getD roads (a + 2) 0 ∷ getD roads (a + 3) 0 ∷ getD roads (a + 4) 0
+    ∷ getD roads (a + 5) 0 ∷ getD roads (a + 6) 0 ∷ []
 nowWords (suc zero) roads junctions a e = 0 ∷ 0 ∷ 0 ∷ 0 ∷ 0 ∷ 0 ∷ 0 ∷ []
-nowWords (suc (suc k)) roads junctions a e = 1 ∷ 1 ∷ getD junctions (k * 5) 0 ∷ getD junctions (k * 5 + 1) 0 ∷ e ∷ 1 ∷ 0 ∷ []
+nowWords (suc (suc k)) roads junctions a e =
+    1 ∷ 1 ∷ getD junctions (k * 5) 0 ∷ getD junctions (k * 5 + 1) 0 ∷ e ∷ 1 ∷ 0 ∷ []
 
 -- road r, and all roads
 unfoldable pub roadNow : (sections roads junctions ends : List ℕ) → ℕ → Road

@@ -9,17 +9,24 @@ use lib.Dec.{leb}
 use lib.Ieee.{Float}
 use lib.ListN.{length, getD}
 use borrow.Author.Tests.{eqb-true, leb-true}
-use Rattle.model.specs.Calls.{ReversalOutputs, longEnough, markRules, markedBy, putReversed, refused, reversalCall, reversalContent, reversalCounts, reversalLengths, reversalRefusal, reversalRules, settled, tableRules, wrote}
+use Rattle.model.specs.Calls.{ReversalOutputs, longEnough, markRules, markedBy, putReversed, refused}
+use Rattle.model.specs.Calls.{reversalCall, reversalContent, reversalCounts, reversalLengths, reversalRefusal}
+use Rattle.model.specs.Calls.{reversalRules, settled, tableRules, wrote}
 use Rattle.model.specs.Lists.{ascends, every}
 use Rattle.model.specs.Records.{Span}
 use Rattle.model.specs.Reversal.{reverseEdged, reverseJunction, reverseLane, reverseMap, reverseRoad}
 use Rattle.model.specs.Rows.{partsFit, rowsFrom, table, written}
-use Rattle.model.specs.Rules.{connectionPartsFit, connectionWorded, edgesEven, edgesSized, firstBroken, fits, junctionWorded, laneWorded, lanesSized, lanesWorded, mapSized, mapWorded, pairPartsFit, refusalWord, roadWorded, sectionPartsFit, sectionsAscend}
-use Rattle.model.specs.Tables.{Tables, allPairs, connectionRow, connectionWords, edgeWords, edgedLanesOf, laneWords, lanesIn, mapOf, pairRow, pairWords, roadWords, roadsIn, roadsOf, sectionWords}
+use Rattle.model.specs.Rules.{connectionPartsFit, connectionWorded, edgesEven, edgesSized, firstBroken, fits}
+use Rattle.model.specs.Rules.{junctionWorded, laneWorded, lanesSized, lanesWorded, mapSized, mapWorded}
+use Rattle.model.specs.Rules.{pairPartsFit, refusalWord, roadWorded, sectionPartsFit, sectionsAscend}
+use Rattle.model.specs.Tables.{Tables, allPairs, connectionRow, connectionWords, edgeWords, edgedLanesOf}
+use Rattle.model.specs.Tables.{laneWords, lanesIn, mapOf, pairRow, pairWords, roadWords, roadsIn, roadsOf}
+use Rattle.model.specs.Tables.{sectionWords}
 use Rattle.model.specs.Text.{sameIn}
 use Rattle.laws.proofs.Decoded.{and3}
 use Rattle.laws.proofs.RulesReversed.{all-pass, broken-append, unbroken-append}
-use Rattle.laws.proofs.WordsReversed.{Fine, fine, fine-sound, fine-whole, fine-words, lengths-are, modelOf, sixLengths}
+use Rattle.laws.proofs.WordsReversed.{Fine, fine, fine-sound, fine-whole, fine-words, lengths-are, modelOf}
+use Rattle.laws.proofs.WordsReversed.{sixLengths}
 use Rattle.words.specs.Keys.{nameBefore}
 use Rattle.words.specs.Rows.{all, any, joined}
 use Rattle.words.proofs.Scans.{left-on, right-on}
@@ -31,7 +38,8 @@ use Rattle.tables.specs.declared.verdict.Verdict.{Verdict}
 use Rattle.tables.specs.declared.verdict.Verdict.the-variants.{OutputShort}
 use Rattle.tables.proofs.Order.{first-stays, marks-count, not-none}
 use Rattle.reversal.specs.Answers.{outcomeOf, sixOf}
-use Rattle.reversal.specs.Turned.{Kept, Ready, Writable, markOf, turnedConnection, turnedEdges, turnedLane, turnedPairs, turnedRoad, turnedSections}
+use Rattle.reversal.specs.Turned.{Kept, Ready, Writable, markOf, turnedConnection, turnedEdges}
+use Rattle.reversal.specs.Turned.{turnedLane, turnedPairs, turnedRoad, turnedSections}
 use Rattle.reversal.specs.declared.call.Counts.{Counts}
 use Rattle.reversal.specs.declared.call.Reversed.the-variants.{Refused, Written}
 use Rattle.reversal.proofs.EdgeWords.{edges-are}
@@ -42,14 +50,22 @@ use Rattle.reversal.proofs.RoadWords.{roads-are, sections-are}
 
 -- ---- refusals
 module _ (t : Tables) (marks : List ℕ) (o : ReversalOutputs) where
-  pub reversal-refused : (v : Verdict) → (refusalOf v ≡ none → ⊥) → refusalOf v ≡ firstBroken (reversalRules t marks) → outcomeOf (Refused v) o ≡ reversalCall t marks o
+  pub reversal-refused : (v : Verdict) → (refusalOf v ≡ none → ⊥)
+      → refusalOf v ≡ firstBroken (reversalRules t marks) → outcomeOf (Refused v) o ≡ reversalCall t marks o
   unfolding reversalCall reversalRefusal
-  reversal-refused v n e = go (refusalOf v) n (first-stays (reversalRules t marks) (longEnough (reversalLengths (reversalContent t marks)) (reversalLengths o)) (refusalOf v) n e)
+  reversal-refused v n e =
+      go (refusalOf v) n (first-stays (reversalRules t marks)
+      (longEnough (reversalLengths (reversalContent t marks)) (reversalLengths o)) (refusalOf v) n e)
     where
-      go : (r : Option ℕ) → (r ≡ none → ⊥) → r ≡ firstBroken (reversalRules t marks ++ longEnough (reversalLengths (reversalContent t marks)) (reversalLengths o)) →
+      go : (r : Option ℕ) → (r ≡ none → ⊥)
+          → r
+          ≡ firstBroken
+          (reversalRules t marks ++ longEnough (reversalLengths (reversalContent t marks)) (reversalLengths o)) →
           record { answer = refused (refusalWord r); outs = o } ≡ settled (firstBroken (reversalRules t marks ++ longEnough (reversalLengths (reversalContent t marks)) (reversalLengths o))) (reversalCounts (reversalContent t marks)) (putReversed (reversalContent t marks) o) o
       go none n e = absurd (n refl)
-      go (some k) n e = ap (λ r. settled r (reversalCounts (reversalContent t marks)) (putReversed (reversalContent t marks) o) o) e
+      go (some k) n e =
+          ap (λ r.
+          settled r (reversalCounts (reversalContent t marks)) (putReversed (reversalContent t marks) o) o) e
 
   module _ (e : none ≡ firstBroken (reversalRules t marks)) where
     tables-fine : Fine t
@@ -58,25 +74,42 @@ module _ (t : Tables) (marks : List ℕ) (o : ReversalOutputs) where
 
     -- what is written has the lengths of what is read
     pub lengths-six : reversalLengths (reversalContent t marks) ≡ sixLengths t
-    lengths-six = subst (λ (u : Tables). reversalLengths (reversalContent u marks) ≡ sixLengths u) (fine-words t tables-fine) (lengths-are (t .text) (modelOf t) (fine-sound t tables-fine) marks)
+    lengths-six =
+        subst (λ (u : Tables). reversalLengths (reversalContent u marks) ≡ sixLengths u)
+        (fine-words t tables-fine) (lengths-are (t .text) (modelOf t) (fine-sound t tables-fine) marks)
 
-    nine : (b : Bool) → fits (sixLengths t) (reversalLengths o) ≡ b → reversalCall t marks o ≡ settled (cond b none (some 9)) (reversalCounts (reversalContent t marks)) (putReversed (reversalContent t marks) o) o
+    nine : (b : Bool) → fits (sixLengths t) (reversalLengths o) ≡ b
+        → reversalCall t marks o
+        ≡ settled (cond b none (some 9)) (reversalCounts (reversalContent t marks))
+        (putReversed (reversalContent t marks) o) o
     unfolding reversalCall reversalRefusal
-    nine b f = ap (λ r. settled r (reversalCounts (reversalContent t marks)) (putReversed (reversalContent t marks) o) o)
-        (broken-append (reversalRules t marks) (longEnough (reversalLengths (reversalContent t marks)) (reversalLengths o)) (sym e)
-        ∙ ap (λ (c : Bool). cond c none (some 9)) (ap (λ (l : List ℕ). fits l (reversalLengths o)) lengths-six ∙ f))
+    nine b f =
+        ap
+        (λ r. settled r (reversalCounts (reversalContent t marks)) (putReversed (reversalContent t marks) o) o)
+        (broken-append (reversalRules t marks)
+        (longEnough (reversalLengths (reversalContent t marks)) (reversalLengths o)) (sym e)
+        ∙ ap (λ (c : Bool). cond c none (some 9))
+        (ap (λ (l : List ℕ). fits l (reversalLengths o)) lengths-six ∙ f))
 
-    pub reversal-short : fits (sixLengths t) (reversalLengths o) ≡ false → outcomeOf (Refused OutputShort) o ≡ reversalCall t marks o
+    pub reversal-short : fits (sixLengths t) (reversalLengths o) ≡ false
+        → outcomeOf (Refused OutputShort) o ≡ reversalCall t marks o
     reversal-short f = sym (nine false f)
 
-    pub reversal-written : {n : Counts} {o′ : ReversalOutputs} → fits (sixLengths t) (reversalLengths o) ≡ true → n .roads ∷ n .sections ∷ n .connections ∷ n .pairs ∷ n .lanes ∷ n .edges ∷ [] ≡ reversalCounts (reversalContent t marks) → o′ ≡ putReversed (reversalContent t marks) o →
+    pub reversal-written : {n : Counts} {o′ : ReversalOutputs} → fits (sixLengths t) (reversalLengths o) ≡ true
+        → n .roads ∷ n .sections ∷ n .connections ∷ n .pairs ∷ n .lanes ∷ n .edges ∷ []
+        ≡ reversalCounts (reversalContent t marks) → o′ ≡ putReversed (reversalContent t marks) o →
         outcomeOf (Written n) o′ ≡ reversalCall t marks o
     reversal-written f g h = (λ i. record { answer = wrote (g i); outs = h i }) ∙ sym (nine true f)
 
 -- the counts by the lengths
-counts-by : (c : ReversalOutputs) (t : Tables) → reversalLengths c ≡ sixLengths t → reversalCounts c ≡ length (t .roads) / 20 ∷ length (t .sections) ∷ length (t .connections) / 7 ∷ length (t .pairs) / 2 ∷ length (t .lanes) / 10 ∷ length (t .edges) / 12 ∷ []
+counts-by : (c : ReversalOutputs) (t : Tables) → reversalLengths c ≡ sixLengths t
+    → reversalCounts c
+    ≡ length (t .roads) / 20 ∷ length (t .sections) ∷ length (t .connections) / 7 ∷ length (t .pairs) / 2
+    ∷ length (t .lanes) / 10 ∷ length (t .edges) / 12 ∷ []
 unfolding reversalLengths sixLengths reversalCounts
-counts-by c t e = ap (λ (l : List ℕ). getD l 0 0 / 20 ∷ getD l 1 0 ∷ getD l 2 0 / 7 ∷ getD l 3 0 / 2 ∷ getD l 4 0 / 10 ∷ getD l 5 0 / 12 ∷ []) e
+counts-by c t e =
+    ap (λ (l : List ℕ).
+    getD l 0 0 / 20 ∷ getD l 1 0 ∷ getD l 2 0 / 7 ∷ getD l 3 0 / 2 ∷ getD l 4 0 / 10 ∷ getD l 5 0 / 12 ∷ []) e
 
 -- ---- what an admission says of the tables
 pub record Facts (t : Tables) (marks : List ℕ) : Type 0 where
@@ -98,7 +131,8 @@ pub record Facts (t : Tables) (marks : List ℕ) : Type 0 where
   pub whole : length (t .junctions) % 5 ≡ 0
 
 pub facts : (t : Tables) (marks : List ℕ) → none ≡ firstBroken (reversalRules t marks) → Facts t marks
-unfolding reversalRules markRules mapWorded lanesWorded sectionPartsFit connectionPartsFit pairPartsFit edgesEven lanesSized
+unfolding reversalRules markRules mapWorded lanesWorded sectionPartsFit connectionPartsFit pairPartsFit
+    edgesEven lanesSized
 facts t marks e =
     let u = unbroken-append (tableRules t) (markRules t marks) (sym e) in
     let f = fine t (u .0) in
@@ -120,9 +154,11 @@ facts t marks e =
       few-lanes = sized-few 10 16384 (length (t .lanes)) (sizes .1);
       even-marks = sym (marks-count (t .roads) marks (ms .0));
       even-edges = eqb-true (length (t .edges)) (12 * (length (t .lanes) / 10)) (f .rest .edges);
-      once = not-none (any (length (t .roads) / 20) (nameBefore (t .text) 20 0 (t .roads))) (sym (roads-once (t .text) (t .roads) (t .sections)) ∙ f .rest .once);
+      once = not-none (any (length (t .roads) / 20) (nameBefore (t .text) 20 0 (t .roads)))
+          (sym (roads-once (t .text) (t .roads) (t .sections)) ∙ f .rest .once);
       parts = left-on p4 (sectionsAscend (roadsIn (t .sections) (t .roads))) (f .rest .sections);
-      up = sym (sections-ascend (t .roads) (t .sections)) ∙ right-on p4 (sectionsAscend (roadsIn (t .sections) (t .roads))) (f .rest .sections);
+      up = sym (sections-ascend (t .roads) (t .sections))
+          ∙ right-on p4 (sectionsAscend (roadsIn (t .sections) (t .roads))) (f .rest .sections);
       members = left-on p5 p6 (f .rest .connections);
       links = right-on p5 p6 (f .rest .connections);
       road-words = mw .0;
@@ -133,7 +169,8 @@ facts t marks e =
       whole = fine-whole t f .of-junctions;
     }
 
-module _ (t : Tables) (marks : List ℕ) (f : Facts t marks) (heads next owner kheads knext : List ℕ) (linked : Linked (t .text) (t .roads) (t .lanes) heads next owner kheads knext) where
+module _ (t : Tables) (marks : List ℕ) (f : Facts t marks) (heads next owner kheads knext : List ℕ)
+    (linked : Linked (t .text) (t .roads) (t .lanes) heads next owner kheads knext) where
   pub ready : length heads ≡ 16384 → length next ≡ 16384 → Ready (t .text) (t .roads) marks heads next
   ready a b = record { few = f .few-roads; even = f .even-marks; buckets = a; links = b; named = linked .named }
 
@@ -155,27 +192,56 @@ module _ (t : Tables) (marks : List ℕ) (f : Facts t marks) (heads next owner k
   mk-is = fun-ext (mark-is (t .text) (t .roads) (t .sections) (f .once) marks (f .even-marks))
 
   contentBy : (Span → Bool) → ReversalOutputs
-  contentBy mk = sixOf (roadWords (map (reverseRoad mk) (roadsOf t))) (sectionWords (map (reverseRoad mk) (roadsOf t)))
-      (connectionWords (map (reverseJunction mk) (Rattle.model.specs.Tables.junctionsOf t))) (pairWords (map (reverseJunction mk) (Rattle.model.specs.Tables.junctionsOf t)))
-      (laneWords (map (reverseLane (sameIn (t .text)) mk (roadsOf t)) (lanesIn (t .lanes)))) (edgeWords (map (reverseEdged (sameIn (t .text)) mk (roadsOf t)) (edgedLanesOf t)))
+  contentBy mk =
+      sixOf (roadWords (map (reverseRoad mk) (roadsOf t))) (sectionWords (map (reverseRoad mk) (roadsOf t)))
+      (connectionWords (map (reverseJunction mk) (Rattle.model.specs.Tables.junctionsOf t)))
+      (pairWords (map (reverseJunction mk) (Rattle.model.specs.Tables.junctionsOf t)))
+      (laneWords (map (reverseLane (sameIn (t .text)) mk (roadsOf t)) (lanesIn (t .lanes))))
+      (edgeWords (map (reverseEdged (sameIn (t .text)) mk (roadsOf t)) (edgedLanesOf t)))
 
   -- WHAT THE LOOPS WRITE is what reversal has to write
-  pub content-is : reversalContent t marks ≡ sixOf (joined (length (t .roads) / 20) (turnedRoad (t .text) (t .roads) marks)) (joined (length (t .roads) / 20) (turnedSections (t .roads) (t .sections) marks))
-      (joined (length (t .connections) / 7) (turnedConnection (t .text) (t .roads) marks (t .connections))) (joined (length (t .connections) / 7) (turnedPairs (t .text) (t .roads) marks (t .connections) (t .pairs)))
-      (joined (length (t .lanes) / 10) (turnedLane (t .text) (t .roads) (t .sections) marks (t .lanes) owner)) (joined (length (t .edges) / 12) (turnedEdges owner marks (t .edges)))
+  pub content-is : reversalContent t marks
+      ≡ sixOf (joined (length (t .roads) / 20) (turnedRoad (t .text) (t .roads) marks))
+      (joined (length (t .roads) / 20) (turnedSections (t .roads) (t .sections) marks))
+      (joined (length (t .connections) / 7) (turnedConnection (t .text) (t .roads) marks (t .connections)))
+      (joined (length (t .connections) / 7)
+      (turnedPairs (t .text) (t .roads) marks (t .connections) (t .pairs)))
+      (joined (length (t .lanes) / 10) (turnedLane (t .text) (t .roads) (t .sections) marks (t .lanes) owner))
+      (joined (length (t .edges) / 12) (turnedEdges owner marks (t .edges)))
   unfolding reversalContent reverseMap mapOf contentBy connectionWords pairWords allPairs edgedLanesOf
   content-is =
       let mk = markOf (t .text) (t .roads) marks in
-      let turned = all-turned (t .text) mk (t .pairs) (t .connections) (t .junctions) (f .whole) (f .junction-words) (f .members) in
-      let r = roads-are (t .text) (t .roads) (t .sections) marks (f .once) (f .even-marks) (f .road-words) (f .parts) in
-      let s = sections-are (t .text) (t .roads) (t .sections) marks (f .once) (f .even-marks) (f .road-words) (f .parts) in
-      let c = ap (rowsFrom connectionRow (λ c. c .pairs) 0) turned ∙ connections-are (t .text) (t .roads) marks (t .connections) (t .pairs) (f .connection-words) (f .links) in
-      let p = ap (λ cs. Rattle.model.specs.Lists.gather pairRow (Rattle.model.specs.Lists.gather (λ c. c .pairs) cs)) turned ∙ pairs-are (t .text) (t .roads) marks (t .connections) (t .pairs) (f .connection-words) (f .links) in
-      let l = lanes-are (t .text) (t .roads) (t .sections) marks (t .lanes) owner (f .once) (f .road-words) (f .up) (f .lane-words) (linked .owned) kept in
-      let d = edges-are (sameIn (t .text)) mk (roadsOf t) (t .lanes) owner marks (t .edges) (f .even-edges) (lane-mark (t .text) (t .roads) (t .sections) marks (t .lanes) owner (f .once) (f .road-words) (f .up) (f .lane-words) (linked .owned) kept) in
-      ap contentBy mk-is ∙ (λ i. record { roads = r i; sections = s i; connections = c i; pairs = p i; lanes = l i; edges = d i })
+      let turned =
+      all-turned (t .text) mk (t .pairs) (t .connections) (t .junctions) (f .whole) (f .junction-words)
+      (f .members) in
+      let r =
+      roads-are (t .text) (t .roads) (t .sections) marks (f .once) (f .even-marks) (f .road-words)
+      (f .parts) in
+      let s =
+      sections-are (t .text) (t .roads) (t .sections) marks (f .once) (f .even-marks) (f .road-words)
+      (f .parts) in
+      let c =
+      ap (rowsFrom connectionRow (λ c. c .pairs) 0) turned
+      ∙ connections-are (t .text) (t .roads) marks (t .connections) (t .pairs) (f .connection-words)
+      (f .links) in
+      let p =
+      ap (λ cs.
+      Rattle.model.specs.Lists.gather pairRow (Rattle.model.specs.Lists.gather (λ c. c .pairs) cs))
+      turned
+      ∙ pairs-are (t .text) (t .roads) marks (t .connections) (t .pairs) (f .connection-words) (f .links) in
+      let l =
+      lanes-are (t .text) (t .roads) (t .sections) marks (t .lanes) owner (f .once) (f .road-words)
+      (f .up) (f .lane-words) (linked .owned) kept in
+      let d =
+      edges-are (sameIn (t .text)) mk (roadsOf t) (t .lanes) owner marks (t .edges) (f .even-edges)
+      (lane-mark (t .text) (t .roads) (t .sections) marks (t .lanes) owner (f .once) (f .road-words)
+      (f .up) (f .lane-words) (linked .owned) kept) in
+      ap contentBy mk-is
+      ∙ (λ i. record { roads = r i; sections = s i; connections = c i; pairs = p i; lanes = l i; edges = d i })
 
-  pub writable : length heads ≡ 16384 → length next ≡ 16384 → length owner ≡ 16384 → Writable (t .text) (t .roads) (t .sections) (t .connections) (t .pairs) (t .lanes) (t .edges) marks heads next owner
+  pub writable : length heads ≡ 16384 → length next ≡ 16384 → length owner ≡ 16384
+      → Writable (t .text) (t .roads) (t .sections) (t .connections) (t .pairs) (t .lanes) (t .edges) marks
+      heads next owner
   writable a b c = record {
     ready = ready a b;
     parts = f .parts;
@@ -190,25 +256,40 @@ module _ (t : Tables) (marks : List ℕ) (f : Facts t marks) (heads next owner k
   }
 
   -- the outputs after the writers
-  pub outs-are : (o : ReversalOutputs) {x y z u v : List ℕ} {w : List Float} → x ≡ written (joined (length (t .roads) / 20) (turnedRoad (t .text) (t .roads) marks)) (o .roads) →
+  pub outs-are : (o : ReversalOutputs) {x y z u v : List ℕ} {w : List Float}
+      → x ≡ written (joined (length (t .roads) / 20) (turnedRoad (t .text) (t .roads) marks)) (o .roads) →
       y ≡ written (joined (length (t .roads) / 20) (turnedSections (t .roads) (t .sections) marks)) (o .sections) →
-      z ≡ written (joined (length (t .connections) / 7) (turnedConnection (t .text) (t .roads) marks (t .connections))) (o .connections) →
-      u ≡ written (joined (length (t .connections) / 7) (turnedPairs (t .text) (t .roads) marks (t .connections) (t .pairs))) (o .pairs) →
-      v ≡ written (joined (length (t .lanes) / 10) (turnedLane (t .text) (t .roads) (t .sections) marks (t .lanes) owner)) (o .lanes) →
-      w ≡ written (joined (length (t .edges) / 12) (turnedEdges owner marks (t .edges))) (o .edges) → sixOf x y z u v w ≡ putReversed (reversalContent t marks) o
+      z
+      ≡ written
+      (joined (length (t .connections) / 7) (turnedConnection (t .text) (t .roads) marks (t .connections)))
+      (o .connections) →
+      u
+      ≡ written (joined (length (t .connections) / 7)
+      (turnedPairs (t .text) (t .roads) marks (t .connections) (t .pairs))) (o .pairs) →
+      v
+      ≡ written
+      (joined (length (t .lanes) / 10) (turnedLane (t .text) (t .roads) (t .sections) marks (t .lanes) owner))
+      (o .lanes) →
+      w ≡ written (joined (length (t .edges) / 12) (turnedEdges owner marks (t .edges))) (o .edges)
+      → sixOf x y z u v w ≡ putReversed (reversalContent t marks) o
   unfolding putReversed
-  outs-are o a b c d e g = (λ i. sixOf (a i) (b i) (c i) (d i) (e i) (g i)) ∙ ap (λ (c : ReversalOutputs). putReversed c o) (sym content-is)
+  outs-are o a b c d e g =
+      (λ i. sixOf (a i) (b i) (c i) (d i) (e i) (g i))
+      ∙ ap (λ (c : ReversalOutputs). putReversed c o) (sym content-is)
 
 -- the counts, and room for each table
 pub counts-are : (t : Tables) (marks : List ℕ) (o : ReversalOutputs) → none ≡ firstBroken (reversalRules t marks) →
-    length (t .roads) / 20 ∷ length (t .sections) ∷ length (t .connections) / 7 ∷ length (t .pairs) / 2 ∷ length (t .lanes) / 10 ∷ length (t .edges) / 12 ∷ [] ≡ reversalCounts (reversalContent t marks)
+    length (t .roads) / 20 ∷ length (t .sections) ∷ length (t .connections) / 7 ∷ length (t .pairs) / 2
+    ∷ length (t .lanes) / 10 ∷ length (t .edges) / 12 ∷ [] ≡ reversalCounts (reversalContent t marks)
 counts-are t marks o e = sym (counts-by (reversalContent t marks) t (lengths-six t marks o e))
 
 pub and-true : (b : Bool) → b ≡ (b && true)
 and-true true = refl
 and-true false = refl
 
-pub room-six : (a b c d e g a′ b′ c′ d′ e′ g′ : ℕ) → fits (a ∷ b ∷ c ∷ d ∷ e ∷ g ∷ []) (a′ ∷ b′ ∷ c′ ∷ d′ ∷ e′ ∷ g′ ∷ []) ≡ true → (a ≤ a′) × (b ≤ b′) × (c ≤ c′) × (d ≤ d′) × (e ≤ e′) × (g ≤ g′)
+pub room-six : (a b c d e g a′ b′ c′ d′ e′ g′ : ℕ)
+    → fits (a ∷ b ∷ c ∷ d ∷ e ∷ g ∷ []) (a′ ∷ b′ ∷ c′ ∷ d′ ∷ e′ ∷ g′ ∷ []) ≡ true
+    → (a ≤ a′) × (b ≤ b′) × (c ≤ c′) × (d ≤ d′) × (e ≤ e′) × (g ≤ g′)
 room-six a b c d e g a′ b′ c′ d′ e′ g′ h =
     let p6 = leb g g′ && true in
     let p5 = leb e e′ && p6 in
@@ -219,5 +300,11 @@ room-six a b c d e g a′ b′ c′ d′ e′ g′ h =
     let h3 = right-on (leb b b′) p3 h2 in
     let h4 = right-on (leb c c′) p4 h3 in
     let h5 = right-on (leb d d′) p5 h4 in
-    let h6 = right-on (leb e e′) p6 h5 in
-    (leb-true a a′ (left-on (leb a a′) p2 h), leb-true b b′ (left-on (leb b b′) p3 h2), leb-true c c′ (left-on (leb c c′) p4 h3), leb-true d d′ (left-on (leb d d′) p5 h4), leb-true e e′ (left-on (leb e e′) p6 h5), leb-true g g′ (left-on (leb g g′) true h6))
+    let h6 = right-on (leb e e′) p6 h5 in (
+      leb-true a a′ (left-on (leb a a′) p2 h),
+      leb-true b b′ (left-on (leb b b′) p3 h2),
+      leb-true c c′ (left-on (leb c c′) p4 h3),
+      leb-true d d′ (left-on (leb d d′) p5 h4),
+      leb-true e e′ (left-on (leb e e′) p6 h5),
+      leb-true g g′ (left-on (leb g g′) true h6),
+    )

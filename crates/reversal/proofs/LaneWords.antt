@@ -13,11 +13,13 @@ use borrow.Author.Tests.{eqb-true, eqb-false, leb-true, le-leb, le-ltb, lt-ltb}
 use Rattle.model.specs.Lists.{ascends, bindO, every, final, first, gather, headOr, lastOr, mapO, member, orElse}
 use Rattle.model.specs.Records.{Lane, Road, Span, targetAt, linkAt}
 use Rattle.model.specs.Repair.{roadOf}
-use Rattle.model.specs.Reversal.{leadsBy, leadsTo, marks, mirror, negated, reverseDirection, reverseLane, reverseLink, roadNamed, roadward, signed}
+use Rattle.model.specs.Reversal.{leadsBy, leadsTo, marks, mirror, negated, reverseDirection, reverseLane}
+use Rattle.model.specs.Reversal.{reverseLink, roadNamed, roadward, signed}
 use Rattle.model.specs.Rows.{table, word}
 use Rattle.model.specs.Rules.{laneWorded, linkWorded, roadWorded, targetWorded}
 use Rattle.model.specs.Succession.{nextSection, sectionsFrom, sectionsOf}
-use Rattle.model.specs.Tables.{directionOf, directionWord, isAbsent, laneIn, laneRow, laneWords, lanesIn, linkOf, linkWords, roadIn, roadsIn, spanIn, targetOf}
+use Rattle.model.specs.Tables.{directionOf, directionWord, isAbsent, laneIn, laneRow, laneWords, lanesIn}
+use Rattle.model.specs.Tables.{linkOf, linkWords, roadIn, roadsIn, spanIn, targetOf}
 use Rattle.model.specs.Text.{placed, sameIn}
 use Rattle.laws.proofs.Basics.{gather-map, no-some}
 use Rattle.laws.proofs.Decoded.{and4, and5}
@@ -41,11 +43,13 @@ unfolding negated
 signed-zero false = refl
 signed-zero true = refl
 
-link-turned : (b : Bool) (f n : ℕ) → linkWorded f n ≡ true → linkWords (mapO (signed b) (linkOf f n)) ≡ f ∷ signed b n ∷ []
+link-turned : (b : Bool) (f n : ℕ) → linkWorded f n ≡ true
+    → linkWords (mapO (signed b) (linkOf f n)) ≡ f ∷ signed b n ∷ []
 unfolding linkWorded
 link-turned b zero n h = let z = eqb-true n 0 h in λ i. 0 ∷ sym (ap (signed b) z ∙ signed-zero b) i ∷ []
 link-turned b (suc zero) n h = refl
-link-turned b (suc (suc f)) n h = absurd (let z = leb-true (suc (suc f)) 1 (left-on (leb (suc (suc f)) 1) _ h) in omega arith)
+link-turned b (suc (suc f)) n h =
+    absurd (let z = leb-true (suc (suc f)) 1 (left-on (leb (suc (suc f)) 1) _ h) in omega arith)
 
 way-turned : (m : Bool) (d : ℕ) → leb d 2 ≡ true → directionWord (reverseDirection m (directionOf d)) ≡ turnWay m d
 way-turned false zero h = refl
@@ -57,20 +61,27 @@ way-turned true (suc (suc zero)) h = refl
 way-turned m (suc (suc (suc d))) h = absurd (let z = leb-true (suc (suc (suc d))) 2 h in omega arith)
 
 -- ---- the road that a target leads to
-target-leads : (mk : Span → Bool) (text : List ℕ) (p k s n c g a : ℕ) → targetWorded text p k s n c g a ≡ true → marks mk (bindO (targetOf p k s n c g a) roadNamed) ≡ (eqb p 1 && eqb k 0 && mk (span s n))
+target-leads : (mk : Span → Bool) (text : List ℕ) (p k s n c g a : ℕ) → targetWorded text p k s n c g a ≡ true
+    → marks mk (bindO (targetOf p k s n c g a) roadNamed) ≡ (eqb p 1 && eqb k 0 && mk (span s n))
 unfolding targetWorded
 target-leads mk text zero k s n c g a h = refl
 target-leads mk text (suc zero) zero s n c g a h = refl
 target-leads mk text (suc zero) (suc zero) s n c g a h = refl
-target-leads mk text (suc zero) (suc (suc k)) s n c g a h = absurd (let z = leb-true (suc (suc k)) 1 (and5 (leb (suc (suc k)) 1) (placed text (span s n)) (leb c 1) (leb g 1) (leb a 1) h .0) in omega arith)
-target-leads mk text (suc (suc p)) k s n c g a h = absurd (let z = leb-true (suc (suc p)) 1 (left-on (leb (suc (suc p)) 1) _ h) in omega arith)
+target-leads mk text (suc zero) (suc (suc k)) s n c g a h =
+    absurd (let z = leb-true (suc (suc k)) 1
+    (and5 (leb (suc (suc k)) 1) (placed text (span s n)) (leb c 1) (leb g 1) (leb a 1) h .0) in
+    omega arith)
+target-leads mk text (suc (suc p)) k s n c g a h =
+    absurd (let z = leb-true (suc (suc p)) 1 (left-on (leb (suc (suc p)) 1) _ h) in omega arith)
 
 -- ---- a further section
 first-none-at : (p : ℕ → Bool) (xs : List ℕ) → first p xs ≡ none → (k : ℕ) → k < length xs → p (getD xs k 0) ≡ false
 first-none-at p [] e k h = absurd (not-suc-le-zero h)
 first-none-at p (x ∷ xs) e k h = go (p x) refl e (first-none-at p xs) k h
   where
-    go : (b : Bool) → p x ≡ b → cond b (some x) (first p xs) ≡ none → (first p xs ≡ none → (k : ℕ) → k < length xs → p (getD xs k 0) ≡ false) → (k : ℕ) → k < suc (length xs) → p (getD (x ∷ xs) k 0) ≡ false
+    go : (b : Bool) → p x ≡ b → cond b (some x) (first p xs) ≡ none
+        → (first p xs ≡ none → (k : ℕ) → k < length xs → p (getD xs k 0) ≡ false) → (k : ℕ)
+        → k < suc (length xs) → p (getD (x ∷ xs) k 0) ≡ false
     go true q z ih k h = absurd (no-some x (sym z))
     go false q z ih zero h = q
     go false q z ih (suc k) h = ih z k (le-of-suc-le-suc h)
@@ -83,80 +94,134 @@ final-none-head p x xs e = go (final p xs) (p x) e
     go none false z = refl
     go (some y) b z = absurd (no-some y (sym z))
 
-module _ (same : Span → Span → Bool) (mk : Span → Bool) (rs : List Road) (l : Lane) (ss : List ℕ) (s : ℕ) (up : ascends ss ≡ true) (low : headOr 0 ss ≤ s) (high : s ≤ lastOr 0 ss) where
-  leads-end : marks mk (leadsBy same rs l true (nextSection ss s true)) ≡ cond (eqb s (lastOr 0 ss)) (marks mk (roadward same rs (l .road) true)) (mk (l .road))
+module _ (same : Span → Span → Bool) (mk : Span → Bool) (rs : List Road) (l : Lane) (ss : List ℕ) (s : ℕ)
+    (up : ascends ss ≡ true) (low : headOr 0 ss ≤ s) (high : s ≤ lastOr 0 ss) where
+  leads-end : marks mk (leadsBy same rs l true (nextSection ss s true))
+      ≡ cond (eqb s (lastOr 0 ss)) (marks mk (roadward same rs (l .road) true)) (mk (l .road))
   unfolding nextSection
   leads-end = go (eqb s (lastOr 0 ss)) refl
     where
-      further : (eqb s (lastOr 0 ss) ≡ false) → (o : Option ℕ) → first (λ i. ltb s i) ss ≡ o → marks mk (leadsBy same rs l true o) ≡ mk (l .road)
+      further : (eqb s (lastOr 0 ss) ≡ false) → (o : Option ℕ) → first (λ i. ltb s i) ss ≡ o
+          → marks mk (leadsBy same rs l true o) ≡ mk (l .road)
       further e (some x) q = refl
-      further e none q = absurd (no ss low high (eqb-false s (lastOr 0 ss) e) (last-is ss) (first-none-at (λ i. ltb s i) ss q))
+      further e none q =
+          absurd (no ss low high (eqb-false s (lastOr 0 ss) e) (last-is ss) (first-none-at (λ i. ltb s i) ss q))
         where
-          no : (ss : List ℕ) → headOr 0 ss ≤ s → s ≤ lastOr 0 ss → (s ≡ lastOr 0 ss → ⊥) → getD ss (length ss - 1) 0 ≡ lastOr 0 ss → ((k : ℕ) → k < length ss → ltb s (getD ss k 0) ≡ false) → ⊥
+          no : (ss : List ℕ) → headOr 0 ss ≤ s → s ≤ lastOr 0 ss → (s ≡ lastOr 0 ss → ⊥)
+              → getD ss (length ss - 1) 0 ≡ lastOr 0 ss
+              → ((k : ℕ) → k < length ss → ltb s (getD ss k 0) ≡ false) → ⊥
           no [] lo hi n e f = n (let z : s ≤ 0 = hi in let y : s ≡ 0 = omega arith in y)
           no (x ∷ xs) lo hi n e f =
               let z : suc (length xs) - 1 < suc (length xs) = omega arith in
-              true≢false (sym (lt-ltb s (getD (x ∷ xs) (suc (length xs) - 1) 0) (let y : getD (x ∷ xs) (suc (length xs) - 1) 0 ≡ lastOr 0 (x ∷ xs) = e in less (lastOr 0 (x ∷ xs)) hi n y)) ∙ f (suc (length xs) - 1) z)
+              true≢false (sym (lt-ltb s (getD (x ∷ xs) (suc (length xs) - 1) 0)
+              (let y : getD (x ∷ xs) (suc (length xs) - 1) 0 ≡ lastOr 0 (x ∷ xs) = e in
+              less (lastOr 0 (x ∷ xs)) hi n y))
+              ∙ f (suc (length xs) - 1) z)
             where
               less : (m : ℕ) → s ≤ m → (s ≡ m → ⊥) → {g : ℕ} → g ≡ m → s < g
               less m h n {g} q = omega arith
 
-      go : (b : Bool) → eqb s (lastOr 0 ss) ≡ b → marks mk (leadsBy same rs l true (first (λ i. ltb s i) ss)) ≡ cond b (marks mk (roadward same rs (l .road) true)) (mk (l .road))
-      go true e = ap (λ o. marks mk (leadsBy same rs l true o)) (first-nowhere (λ i. ltb s i) 0 ss (λ k h. le-ltb s (getD ss k 0) (let z = between ss k up h .1 in let y = eqb-true s (lastOr 0 ss) e in omega arith)))
+      go : (b : Bool) → eqb s (lastOr 0 ss) ≡ b
+          → marks mk (leadsBy same rs l true (first (λ i. ltb s i) ss))
+          ≡ cond b (marks mk (roadward same rs (l .road) true)) (mk (l .road))
+      go true e =
+          ap (λ o. marks mk (leadsBy same rs l true o))
+          (first-nowhere (λ i. ltb s i) 0 ss
+          (λ k h.
+          le-ltb s (getD ss k 0)
+          (let z = between ss k up h .1 in let y = eqb-true s (lastOr 0 ss) e in omega arith)))
       go false e = further e (first (λ i. ltb s i) ss) refl
 
-  leads-start : marks mk (leadsBy same rs l false (nextSection ss s false)) ≡ cond (eqb s (headOr 0 ss)) (marks mk (roadward same rs (l .road) false)) (mk (l .road))
+  leads-start : marks mk (leadsBy same rs l false (nextSection ss s false))
+      ≡ cond (eqb s (headOr 0 ss)) (marks mk (roadward same rs (l .road) false)) (mk (l .road))
   unfolding nextSection
   leads-start = go (eqb s (headOr 0 ss)) refl
     where
-      further : (eqb s (headOr 0 ss) ≡ false) → (o : Option ℕ) → final (λ i. ltb i s) ss ≡ o → marks mk (leadsBy same rs l false o) ≡ mk (l .road)
+      further : (eqb s (headOr 0 ss) ≡ false) → (o : Option ℕ) → final (λ i. ltb i s) ss ≡ o
+          → marks mk (leadsBy same rs l false o) ≡ mk (l .road)
       further e (some x) q = refl
       further e none q = absurd (no ss low high (eqb-false s (headOr 0 ss) e) q)
         where
-          no : (ss : List ℕ) → headOr 0 ss ≤ s → s ≤ lastOr 0 ss → (s ≡ headOr 0 ss → ⊥) → final (λ i. ltb i s) ss ≡ none → ⊥
+          no : (ss : List ℕ) → headOr 0 ss ≤ s → s ≤ lastOr 0 ss → (s ≡ headOr 0 ss → ⊥)
+              → final (λ i. ltb i s) ss ≡ none → ⊥
           no [] lo hi n e = n (let z : s ≤ 0 = hi in let y : s ≡ 0 = omega arith in y)
           no (x ∷ xs) lo hi n e = true≢false (sym (lt-ltb x s (less x lo n)) ∙ final-none-head (λ i. ltb i s) x xs e)
             where
               less : (x : ℕ) → x ≤ s → (s ≡ x → ⊥) → x < s
               less x h n = omega arith
 
-      go : (b : Bool) → eqb s (headOr 0 ss) ≡ b → marks mk (leadsBy same rs l false (final (λ i. ltb i s) ss)) ≡ cond b (marks mk (roadward same rs (l .road) false)) (mk (l .road))
-      go true e = ap (λ o. marks mk (leadsBy same rs l false o)) (final-nowhere (λ i. ltb i s) 0 ss (λ k h. le-ltb (getD ss k 0) s (let z = between ss k up h .0 in let y = eqb-true s (headOr 0 ss) e in omega arith)))
+      go : (b : Bool) → eqb s (headOr 0 ss) ≡ b
+          → marks mk (leadsBy same rs l false (final (λ i. ltb i s) ss))
+          ≡ cond b (marks mk (roadward same rs (l .road) false)) (mk (l .road))
+      go true e =
+          ap (λ o. marks mk (leadsBy same rs l false o))
+          (final-nowhere (λ i. ltb i s) 0 ss
+          (λ k h.
+          le-ltb (getD ss k 0) s
+          (let z = between ss k up h .0 in let y = eqb-true s (headOr 0 ss) e in omega arith)))
       go false e = further e (final (λ i. ltb i s) ss) refl
 
 -- ---- a lane's row, from its ten words
-module _ (same : Span → Span → Bool) (mk : Span → Bool) (rs : List Road) (text x : List ℕ) (worded : laneWorded text x ≡ true) where
-  lane-row : (m P Q : Bool) (S : ℕ) → mk (spanIn x 1) ≡ m → cond (mk (spanIn x 1)) (mirror (sectionsOf same rs (spanIn x 1)) (word x 3)) (word x 3) ≡ S →
-      marks mk (leadsTo same rs (laneIn x) true) ≡ P → marks mk (leadsTo same rs (laneIn x) false) ≡ Q → laneRow (reverseLane same mk rs (laneIn x)) ≡ laneWith x 0 m S P Q
+module _ (same : Span → Span → Bool) (mk : Span → Bool) (rs : List Road) (text x : List ℕ)
+    (worded : laneWorded text x ≡ true) where
+  lane-row : (m P Q : Bool) (S : ℕ) → mk (spanIn x 1) ≡ m
+      → cond (mk (spanIn x 1)) (mirror (sectionsOf same rs (spanIn x 1)) (word x 3)) (word x 3) ≡ S →
+      marks mk (leadsTo same rs (laneIn x) true) ≡ P → marks mk (leadsTo same rs (laneIn x) false) ≡ Q
+      → laneRow (reverseLane same mk rs (laneIn x)) ≡ laneWith x 0 m S P Q
   unfolding laneRow reverseLane laneIn laneWorded reverseLink laneWith
   lane-row m P Q S e f g h =
-      let w = and4 (placed text (spanIn x 1)) (leb (word x 5) 2) (linkWorded (word x 6) (word x 7)) (linkWorded (word x 8) (word x 9)) worded in
-      let onward = ap (λ (b : Bool). linkWords (mapO (signed b) (linkOf (word x 6) (word x 7)))) g ∙ link-turned P (word x 6) (word x 7) (w .2) in
-      let back = ap (λ (b : Bool). linkWords (mapO (signed b) (linkOf (word x 8) (word x 9)))) h ∙ link-turned Q (word x 8) (word x 9) (w .3) in
-      ap₂ (λ (a : ℕ) (b : Bool). row a b) f e ∙ go m onward back ∙ ap (λ (d : ℕ). word x 0 ∷ word x 1 ∷ word x 2 ∷ S ∷ signed m (word x 4) ∷ d ∷ links m) (way-turned m (word x 5) (w .1))
+      let w =
+      and4 (placed text (spanIn x 1)) (leb (word x 5) 2) (linkWorded (word x 6) (word x 7))
+      (linkWorded (word x 8) (word x 9)) worded in
+      let onward =
+      ap (λ (b : Bool). linkWords (mapO (signed b) (linkOf (word x 6) (word x 7)))) g
+      ∙ link-turned P (word x 6) (word x 7) (w .2) in
+      let back =
+      ap (λ (b : Bool). linkWords (mapO (signed b) (linkOf (word x 8) (word x 9)))) h
+      ∙ link-turned Q (word x 8) (word x 9) (w .3) in
+      ap₂ (λ (a : ℕ) (b : Bool). row a b) f e
+      ∙ go m onward back
+      ∙ ap (λ (d : ℕ). word x 0 ∷ word x 1 ∷ word x 2 ∷ S ∷ signed m (word x 4) ∷ d ∷ links m)
+      (way-turned m (word x 5) (w .1))
     where
       link : Bool → List ℕ
       link b = linkWords (mapO (signed (marks mk (leadsTo same rs (laneIn x) b))) (linkAt b (laneIn x)))
 
       row : ℕ → Bool → List ℕ
-      row a b = word x 0 ∷ word x 1 ∷ word x 2 ∷ a ∷ signed b (word x 4) ∷ directionWord (reverseDirection b (directionOf (word x 5))) ∷ (link (not b) ++ link b)
+      row a b =
+          word x 0 ∷ word x 1 ∷ word x 2 ∷ a ∷ signed b (word x 4)
+          ∷ directionWord (reverseDirection b (directionOf (word x 5))) ∷ (link (not b) ++ link b)
 
       links : Bool → List ℕ
-      links b = cond b (word x 8) (word x 6) ∷ cond b (signed Q (word x 9)) (signed P (word x 7)) ∷ cond b (word x 6) (word x 8) ∷ cond b (signed P (word x 7)) (signed Q (word x 9)) ∷ []
+      links b =
+          cond b (word x 8) (word x 6) ∷ cond b (signed Q (word x 9)) (signed P (word x 7))
+          ∷ cond b (word x 6) (word x 8) ∷ cond b (signed P (word x 7)) (signed Q (word x 9)) ∷ []
 
-      go : (b : Bool) → link true ≡ word x 6 ∷ signed P (word x 7) ∷ [] → link false ≡ word x 8 ∷ signed Q (word x 9) ∷ [] →
-          row S b ≡ word x 0 ∷ word x 1 ∷ word x 2 ∷ S ∷ signed b (word x 4) ∷ directionWord (reverseDirection b (directionOf (word x 5))) ∷ links b
-      go true o k = λ i. word x 0 ∷ word x 1 ∷ word x 2 ∷ S ∷ signed true (word x 4) ∷ directionWord (reverseDirection true (directionOf (word x 5))) ∷ (k i ++ o i)
-      go false o k = λ i. word x 0 ∷ word x 1 ∷ word x 2 ∷ S ∷ signed false (word x 4) ∷ directionWord (reverseDirection false (directionOf (word x 5))) ∷ (o i ++ k i)
+      go : (b : Bool) → link true ≡ word x 6 ∷ signed P (word x 7) ∷ []
+          → link false ≡ word x 8 ∷ signed Q (word x 9) ∷ [] →
+          row S b
+          ≡ word x 0 ∷ word x 1 ∷ word x 2 ∷ S ∷ signed b (word x 4)
+          ∷ directionWord (reverseDirection b (directionOf (word x 5))) ∷ links b
+      go true o k =
+          λ i.
+          word x 0 ∷ word x 1 ∷ word x 2 ∷ S ∷ signed true (word x 4)
+          ∷ directionWord (reverseDirection true (directionOf (word x 5))) ∷ (k i ++ o i)
+      go false o k =
+          λ i.
+          word x 0 ∷ word x 1 ∷ word x 2 ∷ S ∷ signed false (word x 4)
+          ∷ directionWord (reverseDirection false (directionOf (word x 5))) ∷ (o i ++ k i)
 
-lane-moved : (lanes : List ℕ) (a : ℕ) (m : Bool) (S : ℕ) (P Q : Bool) → laneWith (drop a lanes) 0 m S P Q ≡ laneWith lanes a m S P Q
+lane-moved : (lanes : List ℕ) (a : ℕ) (m : Bool) (S : ℕ) (P Q : Bool)
+    → laneWith (drop a lanes) 0 m S P Q ≡ laneWith lanes a m S P Q
 unfolding laneWith
 lane-moved lanes a m S P Q = simp (getD-drop a lanes, add-zero)
 
 -- ---- a section that is listed
 every-on : (p : ℕ → Bool) (xs : List ℕ) → ((k : ℕ) → k < length xs → p (getD xs k 0) ≡ true) → every p xs ≡ true
 every-on p [] h = refl
-every-on p (x ∷ xs) h = and-step (h 0 (let z : 0 < suc (length xs) = omega arith in z)) (every-on p xs (λ k l. h (suc k) (let z : suc k < suc (length xs) = omega arith in z)))
+every-on p (x ∷ xs) h =
+    and-step (h 0 (let z : 0 < suc (length xs) = omega arith in z))
+    (every-on p xs (λ k l. h (suc k) (let z : suc k < suc (length xs) = omega arith in z)))
 
 every-member : (p : ℕ → Bool) (s : ℕ) (xs : List ℕ) → every p xs ≡ true → member s xs ≡ true → p s ≡ true
 every-member p s [] e h = absurd (true≢false (sym h))
@@ -166,10 +231,15 @@ every-member p s (x ∷ xs) e h = go (eqb s x) refl h (every-member p s xs (righ
     go true q z ih = ap p (eqb-true s x q) ∙ left-on (p x) (every p xs) e
     go false q z ih = ih z
 
-listed-between : (xs : List ℕ) (s : ℕ) → ascends xs ≡ true → member s xs ≡ true → (headOr 0 xs ≤ s) × (s ≤ lastOr 0 xs)
+listed-between : (xs : List ℕ) (s : ℕ) → ascends xs ≡ true → member s xs ≡ true
+    → (headOr 0 xs ≤ s) × (s ≤ lastOr 0 xs)
 listed-between xs s up h = (
-  leb-true (headOr 0 xs) s (every-member (λ i. leb (headOr 0 xs) i) s xs (every-on (λ i. leb (headOr 0 xs) i) xs (λ k l. le-leb (headOr 0 xs) (getD xs k 0) (between xs k up l .0))) h),
-  leb-true s (lastOr 0 xs) (every-member (λ i. leb i (lastOr 0 xs)) s xs (every-on (λ i. leb i (lastOr 0 xs)) xs (λ k l. le-leb (getD xs k 0) (lastOr 0 xs) (between xs k up l .1))) h),
+  leb-true (headOr 0 xs) s (every-member (λ i. leb (headOr 0 xs) i) s xs
+      (every-on (λ i. leb (headOr 0 xs) i) xs
+      (λ k l. le-leb (headOr 0 xs) (getD xs k 0) (between xs k up l .0))) h),
+  leb-true s (lastOr 0 xs) (every-member (λ i. leb i (lastOr 0 xs)) s xs
+      (every-on (λ i. leb i (lastOr 0 xs)) xs
+      (λ k l. le-leb (getD xs k 0) (lastOr 0 xs) (between xs k up l .1))) h),
 )
 
 above-zero : (n : ℕ) → (n ≡ 0 → ⊥) → 0 < n
@@ -177,7 +247,8 @@ above-zero zero n = absurd (n refl)
 above-zero (suc k) n = omega arith
 
 module _ (text roads sections lanes owner : List ℕ) (once : any (length roads / 20) (nameBefore text 20 0 roads) ≡ false) (up : all (length roads / 20) (λ i. ascends (numbersAt roads sections i)) ≡ true)
-    (listed : all (length lanes / 10) (listedAt text roads sections lanes) ≡ true) (owned : Owned text roads lanes (length lanes / 10) owner) where
+    (listed : all (length lanes / 10) (listedAt text roads sections lanes) ≡ true)
+    (owned : Owned text roads lanes (length lanes / 10) owner) where
   pub kept-at : (i : ℕ) → i < length lanes / 10 → Kept roads sections lanes owner i
   unfolding roadRowOf
   kept-at i h =
@@ -185,46 +256,69 @@ module _ (text roads sections lanes owner : List ℕ) (once : any (length roads 
       let n = nameAt 10 1 lanes i in
       let s = getD lanes (i * 10 + 3) 0 in
       let at : o ≡ lastOf (length roads / 20) (bears text 20 0 roads n) = owned .at i h in
-      let here : knownIn text roads sections n s ≡ true = all-at (length lanes / 10) i (listedAt text roads sections lanes) listed h in
+      let here : knownIn text roads sections n s ≡ true =
+      all-at (length lanes / 10) i (listedAt text roads sections lanes) listed h in
       let pos : 0 < o = above-zero o (λ z. true≢false (sym here ∙ known-none text roads sections n s (sym at ∙ z))) in
       let le = last-le (length roads / 20) (bears text 20 0 roads n) in
       let below : o ≤ length roads / 20 = omega arith in
       let r : o ≡ suc (o - 1) = omega arith in
-      let b = listed-between (numbersAt roads sections (o - 1)) s (all-at (length roads / 20) (o - 1) (λ i. ascends (numbersAt roads sections i)) up (omega arith)) (sym (known-some text roads sections n s (o - 1) once (sym at ∙ r)) ∙ here) in
+      let b =
+      listed-between (numbersAt roads sections (o - 1)) s
+      (all-at (length roads / 20) (o - 1) (λ i. ascends (numbersAt roads sections i)) up (omega arith))
+      (sym (known-some text roads sections n s (o - 1) once (sym at ∙ r)) ∙ here) in
       record { known = pos; below = below; low = b .0; high = b .1 }
 
 module _ (text roads sections marks′ lanes owner : List ℕ) (once : any (length roads / 20) (nameBefore text 20 0 roads) ≡ false)
-    (paved : every (roadWorded text) (table 20 roads) ≡ true) (up : all (length roads / 20) (λ i. ascends (numbersAt roads sections i)) ≡ true)
-    (worded : every (laneWorded text) (table 10 lanes) ≡ true) (owned : Owned text roads lanes (length lanes / 10) owner) (kept : (i : ℕ) → i < length lanes / 10 → Kept roads sections lanes owner i) where
+    (paved : every (roadWorded text) (table 20 roads) ≡ true)
+    (up : all (length roads / 20) (λ i. ascends (numbersAt roads sections i)) ≡ true)
+    (worded : every (laneWorded text) (table 10 lanes) ≡ true)
+    (owned : Owned text roads lanes (length lanes / 10) owner)
+    (kept : (i : ℕ) → i < length lanes / 10 → Kept roads sections lanes owner i) where
   -- the mark of lane i's road
-  pub lane-mark : (i : ℕ) → i < length lanes / 10 → markOf text roads marks′ (laneIn (from 10 lanes i) .road) ≡ markAt marks′ (getD owner i 0)
+  pub lane-mark : (i : ℕ) → i < length lanes / 10
+      → markOf text roads marks′ (laneIn (from 10 lanes i) .road) ≡ markAt marks′ (getD owner i 0)
   unfolding laneIn markOf
-  lane-mark i h = ap (λ (n : Span). markAt marks′ (roadRowOf text roads n)) (name-at 10 1 lanes i) ∙ ap (markAt marks′) (sym (owned .at i h))
+  lane-mark i h =
+      ap (λ (n : Span). markAt marks′ (roadRowOf text roads n)) (name-at 10 1 lanes i)
+      ∙ ap (markAt marks′) (sym (owned .at i h))
 
   paved-at : (r : ℕ) → r < length roads / 20 → roadWorded text (from 20 roads r) ≡ true
-  paved-at r h = all-at (length roads / 20) r (λ i. roadWorded text (from 20 roads i)) (sym (every-rows 20 roads (roadWorded text) (road-local text)) ∙ paved) h
+  paved-at r h =
+      all-at (length roads / 20) r (λ i. roadWorded text (from 20 roads i))
+      (sym (every-rows 20 roads (roadWorded text) (road-local text)) ∙ paved) h
 
-  toward-end : (r : ℕ) → r < length roads / 20 → marks (markOf text roads marks′) (bindO (roadIn sections (from 20 roads r) .successor) roadNamed) ≡ toMarked text roads marks′ (r * 20 + 11)
+  toward-end : (r : ℕ) → r < length roads / 20
+      → marks (markOf text roads marks′) (bindO (roadIn sections (from 20 roads r) .successor) roadNamed)
+      ≡ toMarked text roads marks′ (r * 20 + 11)
   unfolding roadIn toMarked roadWorded
   toward-end r h =
       let l = from 20 roads r in
       let w = and4 (placed text (spanIn l 0)) (isAbsent (word l 2) (word l 3) || placed text (spanIn l 2))
       (targetWorded text (word l 4) (word l 5) (word l 6) (word l 7) (word l 8) (word l 9) (word l 10))
-      (targetWorded text (word l 11) (word l 12) (word l 13) (word l 14) (word l 15) (word l 16) (word l 17)) (paved-at r h) in
-      target-leads (markOf text roads marks′) text (word l 11) (word l 12) (word l 13) (word l 14) (word l 15) (word l 16) (word l 17) (w .3)
+      (targetWorded text (word l 11) (word l 12) (word l 13) (word l 14) (word l 15) (word l 16) (word l 17))
+      (paved-at r h) in
+      target-leads (markOf text roads marks′) text (word l 11) (word l 12) (word l 13) (word l 14) (word l 15)
+      (word l 16) (word l 17) (w .3)
       ∙ simp (getD-drop (r * 20) roads, add-assoc)
 
-  toward-start : (r : ℕ) → r < length roads / 20 → marks (markOf text roads marks′) (bindO (roadIn sections (from 20 roads r) .predecessor) roadNamed) ≡ toMarked text roads marks′ (r * 20 + 4)
+  toward-start : (r : ℕ) → r < length roads / 20
+      → marks (markOf text roads marks′) (bindO (roadIn sections (from 20 roads r) .predecessor) roadNamed)
+      ≡ toMarked text roads marks′ (r * 20 + 4)
   unfolding roadIn toMarked roadWorded
   toward-start r h =
       let l = from 20 roads r in
       let w = and4 (placed text (spanIn l 0)) (isAbsent (word l 2) (word l 3) || placed text (spanIn l 2))
       (targetWorded text (word l 4) (word l 5) (word l 6) (word l 7) (word l 8) (word l 9) (word l 10))
-      (targetWorded text (word l 11) (word l 12) (word l 13) (word l 14) (word l 15) (word l 16) (word l 17)) (paved-at r h) in
-      target-leads (markOf text roads marks′) text (word l 4) (word l 5) (word l 6) (word l 7) (word l 8) (word l 9) (word l 10) (w .2)
+      (targetWorded text (word l 11) (word l 12) (word l 13) (word l 14) (word l 15) (word l 16) (word l 17))
+      (paved-at r h) in
+      target-leads (markOf text roads marks′) text (word l 4) (word l 5) (word l 6) (word l 7) (word l 8)
+      (word l 9) (word l 10) (w .2)
       ∙ simp (getD-drop (r * 20) roads, add-assoc)
 
-  lane-at : (i : ℕ) → i < length lanes / 10 → laneRow (reverseLane (sameIn text) (markOf text roads marks′) (roadsIn sections roads) (laneIn (from 10 lanes i))) ≡ turnedLane text roads sections marks′ lanes owner i
+  lane-at : (i : ℕ) → i < length lanes / 10
+      → laneRow
+      (reverseLane (sameIn text) (markOf text roads marks′) (roadsIn sections roads) (laneIn (from 10 lanes i)))
+      ≡ turnedLane text roads sections marks′ lanes owner i
   unfolding turnedLane laneOn laneIn leadsTo roadward sectionsOf
   lane-at i h =
       let same = sameIn text in
@@ -242,25 +336,50 @@ module _ (text roads sections marks′ lanes owner : List ℕ) (once : any (leng
       let m = markAt marks′ o in
       let row : o ≡ suc (o - 1) = omega arith in
       let on : o - 1 < length roads / 20 = omega arith in
-      let found : roadOf same rs (spanIn x 1) ≡ some (roadIn sections (from 20 roads r)) = road-some text roads sections once (spanIn x 1) r (ap (roadRowOf text roads) (name-at 10 1 lanes i) ∙ sym (owned .at i h) ∙ row) in
+      let found : roadOf same rs (spanIn x 1) ≡ some (roadIn sections (from 20 roads r)) =
+      road-some text roads sections once (spanIn x 1) r
+      (ap (roadRowOf text roads) (name-at 10 1 lanes i) ∙ sym (owned .at i h) ∙ row) in
       let secs : sectionsOf same rs (spanIn x 1) ≡ ss = ap sectionsFrom found ∙ numbers-at roads sections r in
       let place : word x 3 ≡ s = getD-drop (i * 10) lanes 3 0 in
       let own : mk (spanIn x 1) ≡ m = lane-mark i h in
       let asc = all-at (length roads / 20) r (λ i. ascends (numbersAt roads sections i)) up on in
-      let te : marks mk (roadward same rs (spanIn x 1) true) ≡ toMarked text roads marks′ (r * 20 + 11) = ap (λ q. marks mk (bindO (bindO q (targetAt true)) roadNamed)) found ∙ toward-end r on in
-      let ts : marks mk (roadward same rs (spanIn x 1) false) ≡ toMarked text roads marks′ (r * 20 + 4) = ap (λ q. marks mk (bindO (bindO q (targetAt false)) roadNamed)) found ∙ toward-start r on in
-      lane-row same mk rs text x (all-at (length lanes / 10) i (λ i. laneWorded text (from 10 lanes i)) (sym (every-rows 10 lanes (laneWorded text) (lane-local text)) ∙ worded) h)
-      m (cond (eqb s (lastOr 0 ss)) (toMarked text roads marks′ (r * 20 + 11)) m) (cond (eqb s (headOr 0 ss)) (toMarked text roads marks′ (r * 20 + 4)) m) (cond m (mirror ss s) s)
+      let te : marks mk (roadward same rs (spanIn x 1) true) ≡ toMarked text roads marks′ (r * 20 + 11) =
+      ap (λ q. marks mk (bindO (bindO q (targetAt true)) roadNamed)) found ∙ toward-end r on in
+      let ts : marks mk (roadward same rs (spanIn x 1) false) ≡ toMarked text roads marks′ (r * 20 + 4) =
+      ap (λ q. marks mk (bindO (bindO q (targetAt false)) roadNamed)) found ∙ toward-start r on in
+      lane-row same mk rs text x
+      (all-at (length lanes / 10) i (λ i. laneWorded text (from 10 lanes i))
+      (sym (every-rows 10 lanes (laneWorded text) (lane-local text)) ∙ worded) h)
+      m (cond (eqb s (lastOr 0 ss)) (toMarked text roads marks′ (r * 20 + 11)) m)
+      (cond (eqb s (headOr 0 ss)) (toMarked text roads marks′ (r * 20 + 4)) m) (cond m (mirror ss s) s)
       own
       ((λ j. cond (own j) (mirror (secs j) (place j)) (place j)))
-      ((ap₂ (λ (a : List ℕ) (b : ℕ). marks mk (leadsBy same rs (laneIn x) true (nextSection a b true))) secs place) ∙ leads-end same mk rs l ss s asc (k .low) (k .high) ∙ (ap₂ (λ (a b : Bool). cond (eqb s (lastOr 0 ss)) a b) te own))
-      ((ap₂ (λ (a : List ℕ) (b : ℕ). marks mk (leadsBy same rs (laneIn x) false (nextSection a b false))) secs place) ∙ leads-start same mk rs l ss s asc (k .low) (k .high) ∙ (ap₂ (λ (a b : Bool). cond (eqb s (headOr 0 ss)) a b) ts own))
-      ∙ lane-moved lanes (i * 10) m (cond m (mirror ss s) s) (cond (eqb s (lastOr 0 ss)) (toMarked text roads marks′ (r * 20 + 11)) m) (cond (eqb s (headOr 0 ss)) (toMarked text roads marks′ (r * 20 + 4)) m)
+      ((ap₂ (λ (a : List ℕ) (b : ℕ). marks mk (leadsBy same rs (laneIn x) true (nextSection a b true))) secs
+      place)
+      ∙ leads-end same mk rs l ss s asc (k .low) (k .high)
+      ∙ (ap₂ (λ (a b : Bool). cond (eqb s (lastOr 0 ss)) a b) te own))
+      ((ap₂ (λ (a : List ℕ) (b : ℕ). marks mk (leadsBy same rs (laneIn x) false (nextSection a b false))) secs
+      place)
+      ∙ leads-start same mk rs l ss s asc (k .low) (k .high)
+      ∙ (ap₂ (λ (a b : Bool). cond (eqb s (headOr 0 ss)) a b) ts own))
+      ∙ lane-moved lanes (i * 10) m (cond m (mirror ss s) s)
+      (cond (eqb s (lastOr 0 ss)) (toMarked text roads marks′ (r * 20 + 11)) m)
+      (cond (eqb s (headOr 0 ss)) (toMarked text roads marks′ (r * 20 + 4)) m)
 
-  pub lanes-are : laneWords (map (reverseLane (sameIn text) (markOf text roads marks′) (roadsIn sections roads)) (lanesIn lanes)) ≡ joined (length lanes / 10) (turnedLane text roads sections marks′ lanes owner)
+  pub lanes-are : laneWords
+      (map (reverseLane (sameIn text) (markOf text roads marks′) (roadsIn sections roads)) (lanesIn lanes))
+      ≡ joined (length lanes / 10) (turnedLane text roads sections marks′ lanes owner)
   unfolding laneWords lanesIn
   lanes-are =
-      ap (λ ls. gather laneRow (map (reverseLane (sameIn text) (markOf text roads marks′) (roadsIn sections roads)) ls)) (lanes-tab lanes)
-      ∙ gather-map (reverseLane (sameIn text) (markOf text roads marks′) (roadsIn sections roads)) laneRow (tab (length lanes / 10) (λ i. laneIn (from 10 lanes i)))
-      ∙ gather-tab (λ l. laneRow (reverseLane (sameIn text) (markOf text roads marks′) (roadsIn sections roads) l)) (length lanes / 10) (λ i. laneIn (from 10 lanes i))
-      ∙ joined-same (length lanes / 10) (λ i. laneRow (reverseLane (sameIn text) (markOf text roads marks′) (roadsIn sections roads) (laneIn (from 10 lanes i)))) (turnedLane text roads sections marks′ lanes owner) lane-at
+      ap (λ ls.
+      gather laneRow (map (reverseLane (sameIn text) (markOf text roads marks′) (roadsIn sections roads)) ls))
+      (lanes-tab lanes)
+      ∙ gather-map (reverseLane (sameIn text) (markOf text roads marks′) (roadsIn sections roads)) laneRow
+      (tab (length lanes / 10) (λ i. laneIn (from 10 lanes i)))
+      ∙ gather-tab
+      (λ l. laneRow (reverseLane (sameIn text) (markOf text roads marks′) (roadsIn sections roads) l))
+      (length lanes / 10) (λ i. laneIn (from 10 lanes i))
+      ∙ joined-same (length lanes / 10)
+      (λ i.
+      laneRow (reverseLane (sameIn text) (markOf text roads marks′) (roadsIn sections roads)
+      (laneIn (from 10 lanes i)))) (turnedLane text roads sections marks′ lanes owner) lane-at

@@ -15,7 +15,9 @@ answerOf (Refused v) = refused (refusalWord (refusalOf v))
 
 -- six outputs
 abbrev pub sixOf : (roads sections connections pairs lanes : List ℕ) → List Float → ReversalOutputs
-sixOf roads sections connections pairs lanes edges = record { roads = roads; sections = sections; connections = connections; pairs = pairs; lanes = lanes; edges = edges }
+sixOf roads sections connections pairs lanes edges =
+    record
+    { roads = roads; sections = sections; connections = connections; pairs = pairs; lanes = lanes; edges = edges }
 
 -- the answer, and the outputs after the call
 abbrev pub outcomeOf : Reversed → ReversalOutputs → Outcome ReversalOutputs

@@ -38,7 +38,8 @@ pub record Ready (text roads marks heads next : List ℕ) : Type 0 where
 
 -- does the target from word a on name a marked road?
 unfoldable pub toMarked : (text roads marks : List ℕ) → ℕ → Bool
-toMarked text roads marks a = eqb (getD roads a 0) 1 && eqb (getD roads (a + 1) 0) 0 && markOf text roads marks (nameFrom roads (a + 2))
+toMarked text roads marks a =
+    eqb (getD roads a 0) 1 && eqb (getD roads (a + 1) 0) 0 && markOf text roads marks (nameFrom roads (a + 2))
 
 -- a flag turned over, if the mark is set
 abbrev pub turnBit : Bool → ℕ → ℕ
@@ -49,11 +50,15 @@ turnBit true (suc k) = 0
 -- ---- roads
 -- the words of a target, with that contact
 abbrev pub targetWith : List ℕ → ℕ → ℕ → List ℕ
-targetWith roads a contact = getD roads a 0 ∷ getD roads (a + 1) 0 ∷ getD roads (a + 2) 0 ∷ getD roads (a + 3) 0 ∷ contact ∷ getD roads (a + 5) 0 ∷ getD roads (a + 6) 0 ∷ []
+targetWith roads a contact =
+    getD roads a 0 ∷ getD roads (a + 1) 0 ∷ getD roads (a + 2) 0 ∷ getD roads (a + 3) 0 ∷ contact
+    ∷ getD roads (a + 5) 0 ∷ getD roads (a + 6) 0 ∷ []
 
 -- a road's row, from word at on, with the targets from words a and b on
 abbrev pub roadWith : List ℕ → ℕ → ℕ → ℕ → ℕ → ℕ → List ℕ
-roadWith roads at a b p q = (getD roads at 0 ∷ getD roads (at + 1) 0 ∷ getD roads (at + 2) 0 ∷ getD roads (at + 3) 0 ∷ []) ++ targetWith roads a p ++ targetWith roads b q ++ (getD roads (at + 18) 0 ∷ getD roads (at + 19) 0 ∷ [])
+roadWith roads at a b p q =
+    (getD roads at 0 ∷ getD roads (at + 1) 0 ∷ getD roads (at + 2) 0 ∷ getD roads (at + 3) 0 ∷ [])
+    ++ targetWith roads a p ++ targetWith roads b q ++ (getD roads (at + 18) 0 ∷ getD roads (at + 19) 0 ∷ [])
 
 unfoldable pub contactAt : (text roads marks : List ℕ) → ℕ → ℕ
 contactAt text roads marks a = turnBit (toMarked text roads marks a) (getD roads (a + 4) 0)
@@ -61,17 +66,22 @@ contactAt text roads marks a = turnBit (toMarked text roads marks a) (getD roads
 -- road i
 unfoldable pub turnedRoad : (text roads marks : List ℕ) → ℕ → List ℕ
 turnedRoad text roads marks i = cond (eqb (getD marks i 0) 1)
-    (roadWith roads (i * 20) (i * 20 + 11) (i * 20 + 4) (contactAt text roads marks (i * 20 + 11)) (contactAt text roads marks (i * 20 + 4)))
-    (roadWith roads (i * 20) (i * 20 + 4) (i * 20 + 11) (contactAt text roads marks (i * 20 + 4)) (contactAt text roads marks (i * 20 + 11)))
+    (roadWith roads (i * 20) (i * 20 + 11) (i * 20 + 4) (contactAt text roads marks (i * 20 + 11))
+    (contactAt text roads marks (i * 20 + 4)))
+    (roadWith roads (i * 20) (i * 20 + 4) (i * 20 + 11) (contactAt text roads marks (i * 20 + 4))
+    (contactAt text roads marks (i * 20 + 11)))
 
 -- its sections
 unfoldable pub turnedSections : (roads sections marks : List ℕ) → ℕ → List ℕ
-turnedSections roads sections marks i = cond (eqb (getD marks i 0) 1) (mirrored (numbersAt roads sections i)) (numbersAt roads sections i)
+turnedSections roads sections marks i =
+    cond (eqb (getD marks i 0) 1) (mirrored (numbersAt roads sections i)) (numbersAt roads sections i)
 
 -- ---- connections and pairs
 unfoldable pub turnedConnection : (text roads marks connections : List ℕ) → ℕ → List ℕ
-turnedConnection text roads marks ws i = getD ws (i * 7) 0 ∷ getD ws (i * 7 + 1) 0 ∷ getD ws (i * 7 + 2) 0 ∷ getD ws (i * 7 + 3) 0
-    ∷ turnBit (markOf text roads marks (nameFrom ws (i * 7 + 2))) (getD ws (i * 7 + 4) 0) ∷ getD ws (i * 7 + 5) 0 ∷ getD ws (i * 7 + 6) 0 ∷ []
+turnedConnection text roads marks ws i =
+    getD ws (i * 7) 0 ∷ getD ws (i * 7 + 1) 0 ∷ getD ws (i * 7 + 2) 0 ∷ getD ws (i * 7 + 3) 0
+    ∷ turnBit (markOf text roads marks (nameFrom ws (i * 7 + 2))) (getD ws (i * 7 + 4) 0)
+    ∷ getD ws (i * 7 + 5) 0 ∷ getD ws (i * 7 + 6) 0 ∷ []
 
 -- pair p, where the incoming and the connecting road are marked or not
 unfoldable pub turnedPair : Bool → Bool → List ℕ → ℕ → List ℕ
@@ -83,7 +93,9 @@ pairsFrom m n pairs a k = joined k (λ j. turnedPair m n pairs (a + j))
 
 -- the pairs of connection i
 unfoldable pub turnedPairs : (text roads marks connections pairs : List ℕ) → ℕ → List ℕ
-turnedPairs text roads marks ws pairs i = pairsFrom (markOf text roads marks (nameFrom ws (i * 7))) (markOf text roads marks (nameFrom ws (i * 7 + 2))) pairs (getD ws (i * 7 + 5) 0) (getD ws (i * 7 + 6) 0)
+turnedPairs text roads marks ws pairs i =
+    pairsFrom (markOf text roads marks (nameFrom ws (i * 7)))
+    (markOf text roads marks (nameFrom ws (i * 7 + 2))) pairs (getD ws (i * 7 + 5) 0) (getD ws (i * 7 + 6) 0)
 
 -- ---- lanes
 abbrev pub turnWay : Bool → ℕ → ℕ
@@ -94,18 +106,25 @@ turnWay true (suc (suc d)) = suc (suc d)
 
 -- a lane's row, from word at on: its links at the end and at the start of its road change sign by p and q
 unfoldable pub laneWith : List ℕ → ℕ → Bool → ℕ → Bool → Bool → List ℕ
-laneWith ws at m s p q = getD ws at 0 ∷ getD ws (at + 1) 0 ∷ getD ws (at + 2) 0 ∷ s ∷ signed m (getD ws (at + 4) 0) ∷ turnWay m (getD ws (at + 5) 0)
-    ∷ cond m (getD ws (at + 8) 0) (getD ws (at + 6) 0) ∷ cond m (signed q (getD ws (at + 9) 0)) (signed p (getD ws (at + 7) 0))
-    ∷ cond m (getD ws (at + 6) 0) (getD ws (at + 8) 0) ∷ cond m (signed p (getD ws (at + 7) 0)) (signed q (getD ws (at + 9) 0)) ∷ []
+laneWith ws at m s p q =
+    getD ws at 0 ∷ getD ws (at + 1) 0 ∷ getD ws (at + 2) 0 ∷ s ∷ signed m (getD ws (at + 4) 0)
+    ∷ turnWay m (getD ws (at + 5) 0)
+    ∷ cond m (getD ws (at + 8) 0) (getD ws (at + 6) 0)
+    ∷ cond m (signed q (getD ws (at + 9) 0)) (signed p (getD ws (at + 7) 0))
+    ∷ cond m (getD ws (at + 6) 0) (getD ws (at + 8) 0)
+    ∷ cond m (signed p (getD ws (at + 7) 0)) (signed q (getD ws (at + 9) 0)) ∷ []
 
 -- lane i, on the road with row r, marked or not, of the sections ss
 unfoldable pub laneOn : (text roads marks lanes : List ℕ) → ℕ → ℕ → Bool → List ℕ → List ℕ
-laneOn text roads marks lanes i r m ss = laneWith lanes (i * 10) m (cond m (mirror ss (getD lanes (i * 10 + 3) 0)) (getD lanes (i * 10 + 3) 0))
+laneOn text roads marks lanes i r m ss =
+    laneWith lanes (i * 10) m (cond m (mirror ss (getD lanes (i * 10 + 3) 0)) (getD lanes (i * 10 + 3) 0))
     (cond (eqb (getD lanes (i * 10 + 3) 0) (lastOr 0 ss)) (toMarked text roads marks (r * 20 + 11)) m)
     (cond (eqb (getD lanes (i * 10 + 3) 0) (headOr 0 ss)) (toMarked text roads marks (r * 20 + 4)) m)
 
 unfoldable pub turnedLane : (text roads sections marks lanes owner : List ℕ) → ℕ → List ℕ
-turnedLane text roads sections marks lanes owner i = laneOn text roads marks lanes i (getD owner i 0 - 1) (markAt marks (getD owner i 0)) (numbersAt roads sections (getD owner i 0 - 1))
+turnedLane text roads sections marks lanes owner i =
+    laneOn text roads marks lanes i (getD owner i 0 - 1) (markAt marks (getD owner i 0))
+    (numbersAt roads sections (getD owner i 0 - 1))
 
 -- lane i's road is known, and its section lies between the first and the last of the road
 pub record Kept (roads sections lanes owner : List ℕ) (i : ℕ) : Type 0 where
@@ -130,7 +149,8 @@ unfoldable pub floatsOf : List (List Point) → List Float
 floatsOf ends = endFloats (startOf ends) ++ endFloats (endOf ends)
 
 unfoldable pub turnedEdges : (owner marks : List ℕ) → List Float → ℕ → List Float
-turnedEdges owner marks edges i = floatsOf (cond (markAt marks (getD owner i 0)) (swapped (endsAt edges i)) (endsAt edges i))
+turnedEdges owner marks edges i =
+    floatsOf (cond (markAt marks (getD owner i 0)) (swapped (endsAt edges i)) (endsAt edges i))
 
 -- ---- what the writers ask: the roads linked by name, parts in their places, each lane's road known
 pub record Writable (text roads sections connections pairs lanes : List ℕ) (edges : List Float) (marks heads next owner : List ℕ) : Type 0 where

@@ -56,7 +56,10 @@ ordered-rising (x ∷ xs) h (suc i) (suc j) a b = ordered-rising xs (h .1) i j (
 
 pub rising-ordered : (xs : List ℕ) → Rising xs → Ordered xs
 rising-ordered [] r = tt
-rising-ordered (x ∷ xs) r = (at-each (λ y. x ≤ y) xs (λ j l. r 0 (suc j) (omega arith) (omega arith)), rising-ordered xs (λ i j a b. r (suc i) (suc j) (omega arith) (omega arith)))
+rising-ordered (x ∷ xs) r = (
+  at-each (λ y. x ≤ y) xs (λ j l. r 0 (suc j) (omega arith) (omega arith)),
+  rising-ordered xs (λ i j a b. r (suc i) (suc j) (omega arith) (omega arith)),
+)
 
 -- ---- taking in keeps the order, and adds at most one
 module _ (both : Bool) where
@@ -84,20 +87,25 @@ module _ (both : Bool) where
 
   pub length-absorb : (xs : List ℕ) (es : List Entry) → length (absorb both xs es) ≤ length xs + length es
   length-absorb xs [] = omega arith
-  length-absorb xs (e ∷ es) = let a = length-absorb (admit both e xs) es in let b : length (admit both e xs) ≤ suc (length xs) = go (both && not (runsAway e)) in omega arith
+  length-absorb xs (e ∷ es) =
+      let a = length-absorb (admit both e xs) es in
+      let b : length (admit both e xs) ≤ suc (length xs) = go (both && not (runsAway e)) in omega arith
     where
       go : (b : Bool) → length (cond b xs (takeIn both (entryId e) xs)) ≤ suc (length xs)
       go true = omega arith
       go false = length-take-in (entryId e) xs
 
-  pub absorb-append : (xs : List ℕ) (es fs : List Entry) → absorb both xs (es ++ fs) ≡ absorb both (absorb both xs es) fs
+  pub absorb-append : (xs : List ℕ) (es fs : List Entry)
+      → absorb both xs (es ++ fs) ≡ absorb both (absorb both xs es) fs
   absorb-append xs [] fs = refl
   absorb-append xs (e ∷ es) fs = absorb-append (admit both e xs) es fs
 
   -- what was there is never lost
   pub length-kept : (xs : List ℕ) (es : List Entry) → length xs ≤ length (absorb both xs es)
   length-kept xs [] = le-refl (length xs)
-  length-kept xs (e ∷ es) = let a = length-kept (admit both e xs) es in let b : length xs ≤ length (admit both e xs) = go (both && not (runsAway e)) in omega arith
+  length-kept xs (e ∷ es) =
+      let a = length-kept (admit both e xs) es in
+      let b : length xs ≤ length (admit both e xs) = go (both && not (runsAway e)) in omega arith
     where
       more : (b : Bool) → length xs ≤ length (cond b xs (insert (entryId e) xs))
       more true = le-refl (length xs)
@@ -120,19 +128,27 @@ pub written-twice : (xs ys old : List ℕ) → length xs ≤ length ys → writt
 unfolding written
 written-twice xs ys old h =
     let e : length ys ≡ length xs + (length ys - length xs) = omega arith in
-    ap (λ (l : List ℕ). ys ++ l) (ap (λ (k : ℕ). drop k (xs ++ drop (length xs) old)) e ∙ sym (drop-drop (length ys - length xs) (length xs) (xs ++ drop (length xs) old))
-    ∙ ap (drop (length ys - length xs)) (drop-at xs (drop (length xs) old) (length xs) refl) ∙ drop-drop (length ys - length xs) (length xs) old ∙ ap (λ (k : ℕ). drop k old) (let g : length xs + (length ys - length xs) ≡ length ys = omega arith in g))
+    ap (λ (l : List ℕ). ys ++ l)
+    (ap (λ (k : ℕ). drop k (xs ++ drop (length xs) old)) e
+    ∙ sym (drop-drop (length ys - length xs) (length xs) (xs ++ drop (length xs) old))
+    ∙ ap (drop (length ys - length xs)) (drop-at xs (drop (length xs) old) (length xs) refl)
+    ∙ drop-drop (length ys - length xs) (length xs) old
+    ∙ ap (λ (k : ℕ). drop k old) (let g : length xs + (length ys - length xs) ≡ length ys = omega arith in g))
 
 pub written-long : (xs old : List ℕ) → length xs ≤ length old → length (written xs old) ≡ length old
 unfolding written
-written-long xs old h = length-append xs (drop (length xs) old) ∙ ap (λ (k : ℕ). length xs + k) (length-drop (length xs) old) ∙ (let w : length xs + (length old - length xs) ≡ length old = omega arith in w)
+written-long xs old h =
+    length-append xs (drop (length xs) old)
+    ∙ ap (λ (k : ℕ). length xs + k) (length-drop (length xs) old)
+    ∙ (let w : length xs + (length old - length xs) ≡ length old = omega arith in w)
 
 -- ---- one function after another
 module _ (both : Bool) (n : ℕ) where
   pub took-none : (old : List ℕ) → n ≤ length old → Took both n [] old old n
   took-none old h = record { list = sym (written-take n old h); size = sym (length-take-le n old h) }
 
-  module _ (es : List Entry) (old mid : List ℕ) (m : ℕ) (t : Took both n es old mid m) (fits : n + length es ≤ length old) where
+  module _ (es : List Entry) (old mid : List ℕ) (m : ℕ) (t : Took both n es old mid m)
+      (fits : n + length es ≤ length old) where
     size : length (take n old) ≡ n
     size = length-take-le n old (omega arith)
 
@@ -146,31 +162,44 @@ module _ (both : Bool) (n : ℕ) where
     took-front = ap₂ take (t .size) (t .list) ∙ written-front (absorb both (take n old) es) old
 
     pub took-rising : Rising (take n old) → Rising (take m mid)
-    took-rising r = subst Rising (sym took-front) (ordered-rising (absorb both (take n old) es) (ordered-absorb both (take n old) es (rising-ordered (take n old) r)))
+    took-rising r =
+        subst Rising (sym took-front)
+        (ordered-rising (absorb both (take n old) es)
+        (ordered-absorb both (take n old) es (rising-ordered (take n old) r)))
 
     pub took-most : m ≤ n + length es
     took-most = let a = length-absorb both (take n old) es in let b = size in let c = t .size in omega arith
 
     pub room-after : (fs : List Entry) → Rising (take n old) → n + length (es ++ fs) ≤ length old → Room m fs mid
-    room-after fs r h = record { rising = took-rising r; fits = let a = took-most in let b = took-long in let c = length-append es fs in omega arith }
+    room-after fs r h =
+        record {
+          rising = took-rising r;
+          fits = let a = took-most in let b = took-long in let c = length-append es fs in omega arith;
+        }
 
-    pub took-more : (fs : List Entry) (new : List ℕ) (q : ℕ) → Took both m fs mid new q → Took both n (es ++ fs) old new q
+    pub took-more : (fs : List Entry) (new : List ℕ) (q : ℕ) → Took both m fs mid new q
+        → Took both n (es ++ fs) old new q
     took-more fs new q u = record {
       list = u .list ∙ ap₂ (λ (a b : List ℕ). written (absorb both a fs) b) took-front (t .list)
-          ∙ written-twice (absorb both (take n old) es) (absorb both (absorb both (take n old) es) fs) old (length-kept both (absorb both (take n old) es) fs)
+          ∙ written-twice (absorb both (take n old) es) (absorb both (absorb both (take n old) es) fs) old
+          (length-kept both (absorb both (take n old) es) fs)
           ∙ ap (λ (l : List ℕ). written l old) (sym (absorb-append both (take n old) es fs));
-      size = u .size ∙ ap (λ (a : List ℕ). length (absorb both a fs)) took-front ∙ ap length (sym (absorb-append both (take n old) es fs));
+      size = u .size
+          ∙ ap (λ (a : List ℕ). length (absorb both a fs)) took-front
+          ∙ ap length (sym (absorb-append both (take n old) es fs));
     }
 
 -- ---- the lane of a row
 lane-word : (lanes : List ℕ) (r k : ℕ) → getD (drop (r * 10) lanes) k 0 ≡ getD lanes (r * 10 + k) 0
 lane-word lanes r k = getD-drop (r * 10) lanes k 0
 
-id-at : (lanes : List ℕ) (r : ℕ) (e : Bool) → entryId (record { lane = laneAt lanes r; contact = e }) ≡ getD lanes (r * 10) 0
+id-at : (lanes : List ℕ) (r : ℕ) (e : Bool)
+    → entryId (record { lane = laneAt lanes r; contact = e }) ≡ getD lanes (r * 10) 0
 unfolding entryId laneAt laneIn
 id-at lanes r e = lane-word lanes r 0 ∙ ap (λ (k : ℕ). getD lanes k 0) (add-zero (r * 10))
 
-away-at : (lanes : List ℕ) (r : ℕ) (e : Bool) → runsAway (record { lane = laneAt lanes r; contact = e }) ≡ away (directionOf (getD lanes (r * 10 + 5) 0)) e
+away-at : (lanes : List ℕ) (r : ℕ) (e : Bool)
+    → runsAway (record { lane = laneAt lanes r; contact = e }) ≡ away (directionOf (getD lanes (r * 10 + 5) 0)) e
 unfolding runsAway laneAt laneIn
 away-at lanes r e = ap (λ (k : ℕ). away (directionOf k) e) (lane-word lanes r 5)
 
@@ -187,18 +216,31 @@ module _ (both : Bool) (n : ℕ) (lanes : List ℕ) (e : Bool) (old : List ℕ) 
     some-row = let q : row ≡ suc (row - 1) = omega arith in ap (λ (k : ℕ). oneAt lanes k e) q
 
     stays : (b : Bool) → both && not (away (directionOf (getD lanes ((row - 1) * 10 + 5) 0)) e) ≡ b →
-        absorb both (take n old) (oneAt lanes row e) ≡ cond b (take n old) (takeIn both (getD lanes ((row - 1) * 10) 0) (take n old))
+        absorb both (take n old) (oneAt lanes row e)
+        ≡ cond b (take n old) (takeIn both (getD lanes ((row - 1) * 10) 0) (take n old))
     stays b q = ap (absorb both (take n old)) some-row
-        ∙ ap₂ (λ (a : Bool) (k : ℕ). cond (both && not a) (take n old) (takeIn both k (take n old))) (away-at lanes (row - 1) e) (id-at lanes (row - 1) e)
+        ∙ ap₂ (λ (a : Bool) (k : ℕ). cond (both && not a) (take n old) (takeIn both k (take n old)))
+        (away-at lanes (row - 1) e) (id-at lanes (row - 1) e)
         ∙ ap (λ (a : Bool). cond a (take n old) (takeIn both (getD lanes ((row - 1) * 10) 0) (take n old))) q
 
-    pub took-barred : both && not (away (directionOf (getD lanes ((row - 1) * 10 + 5) 0)) e) ≡ true → Took both n (oneAt lanes row e) old old n
-    took-barred q = record { list = sym (written-take n old h) ∙ ap (λ (l : List ℕ). written l old) (sym (stays true q)); size = sym (length-take-le n old h) ∙ ap length (sym (stays true q)) }
+    pub took-barred : both && not (away (directionOf (getD lanes ((row - 1) * 10 + 5) 0)) e) ≡ true
+        → Took both n (oneAt lanes row e) old old n
+    took-barred q =
+        record {
+          list = sym (written-take n old h) ∙ ap (λ (l : List ℕ). written l old) (sym (stays true q));
+          size = sym (length-take-le n old h) ∙ ap length (sym (stays true q));
+        }
 
-    pub took-entered : both && not (away (directionOf (getD lanes ((row - 1) * 10 + 5) 0)) e) ≡ false → (new : List ℕ) (m : ℕ) →
-        new ≡ written (takeIn both (getD lanes ((row - 1) * 10) 0) (take n old)) old → m ≡ length (takeIn both (getD lanes ((row - 1) * 10) 0) (take n old)) →
+    pub took-entered : both && not (away (directionOf (getD lanes ((row - 1) * 10 + 5) 0)) e) ≡ false
+        → (new : List ℕ) (m : ℕ) →
+        new ≡ written (takeIn both (getD lanes ((row - 1) * 10) 0) (take n old)) old
+        → m ≡ length (takeIn both (getD lanes ((row - 1) * 10) 0) (take n old)) →
         Took both n (oneAt lanes row e) old new m
-    took-entered q new m a b = record { list = a ∙ ap (λ (l : List ℕ). written l old) (sym (stays false q)); size = b ∙ ap length (sym (stays false q)) }
+    took-entered q new m a b =
+        record {
+          list = a ∙ ap (λ (l : List ℕ). written l old) (sym (stays false q));
+          size = b ∙ ap length (sym (stays false q));
+        }
 
     pub one-long : length (oneAt lanes row e) ≡ 1
     one-long = ap length some-row
@@ -207,13 +249,20 @@ module _ (both : Bool) (n : ℕ) (lanes : List ℕ) (e : Bool) (old : List ℕ) 
 module _ (pairs lanes owner : List ℕ) (w s : ℕ) (e : Bool) (k p : ℕ) where
   pub pair-other : (getD pairs (p * 2) 0 ≡ k → ⊥) → pairEntry pairs lanes owner w s e k p ≡ []
   unfolding pairEntry
-  pair-other n = ap (λ (b : Bool). cond b (oneAt lanes (laneRowOf lanes owner w s (getD pairs (p * 2 + 1) 0)) e) []) (ne-eqb (getD pairs (p * 2) 0) k n)
+  pair-other n =
+      ap (λ (b : Bool). cond b (oneAt lanes (laneRowOf lanes owner w s (getD pairs (p * 2 + 1) 0)) e) [])
+      (ne-eqb (getD pairs (p * 2) 0) k n)
 
-  pub pair-leads : getD pairs (p * 2) 0 ≡ k → (r : ℕ) → r ≡ laneRowOf lanes owner w s (getD pairs (p * 2 + 1) 0) → pairEntry pairs lanes owner w s e k p ≡ oneAt lanes r e
+  pub pair-leads : getD pairs (p * 2) 0 ≡ k → (r : ℕ) → r ≡ laneRowOf lanes owner w s (getD pairs (p * 2 + 1) 0)
+      → pairEntry pairs lanes owner w s e k p ≡ oneAt lanes r e
   unfolding pairEntry
-  pair-leads q r f = ap (λ (b : Bool). cond b (oneAt lanes (laneRowOf lanes owner w s (getD pairs (p * 2 + 1) 0)) e) []) (eq-eqb (getD pairs (p * 2) 0) k q) ∙ ap (λ (z : ℕ). oneAt lanes z e) (sym f)
+  pair-leads q r f =
+      ap (λ (b : Bool). cond b (oneAt lanes (laneRowOf lanes owner w s (getD pairs (p * 2 + 1) 0)) e) [])
+      (eq-eqb (getD pairs (p * 2) 0) k q)
+      ∙ ap (λ (z : ℕ). oneAt lanes z e) (sym f)
 
 -- ---- the run in the end: sorted, and for a two-way lane each once
 pub absorbed-one-way : (ys : List ℕ) (es : List Entry) → absorb false (sort ys) es ≡ sort (ys ++ map entryId es)
 absorbed-one-way ys [] = ap sort (sym (append-nil ys))
-absorbed-one-way ys (e ∷ es) = absorbed-one-way (entryId e ∷ ys) es ∙ sym (sort-middle ys (entryId e) (map entryId es))
+absorbed-one-way ys (e ∷ es) =
+    absorbed-one-way (entryId e ∷ ys) es ∙ sym (sort-middle ys (entryId e) (map entryId es))

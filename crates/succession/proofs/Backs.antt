@@ -22,7 +22,8 @@ use Rattle.succession.specs.ByRow.{Rows, exitsByRow, successorsByRow, su
 use Rattle.succession.specs.Packs.{startOf}
 use Rattle.succession.specs.Finished.{Made, backInto, bothLong, exitCount, finishedFrom, twoWayRow, wants}
 use Rattle.succession.proofs.RunLaws.{insert-length}
-use Rattle.succession.proofs.Absorbed.{length-absorb, ordered-insert, ordered-rising, rising-ordered, written-front, written-long, written-take, written-twice}
+use Rattle.succession.proofs.Absorbed.{length-absorb, ordered-insert, ordered-rising, rising-ordered}
+use Rattle.succession.proofs.Absorbed.{written-front, written-long, written-take, written-twice}
 use Rattle.succession.proofs.Places.{tail-back, tail-is, tailFrom}
 use Rattle.succession.proofs.Packing.{joined-long, packed-more}
 
@@ -34,20 +35,27 @@ both-word (suc (suc w)) = lt-ltb 1 (suc (suc w)) (omega arith)
 
 pub two-way-row : (lanes : List ℕ) (f : ℕ) → (f ≡ 0 → ⊥) → ltb 1 (getD lanes ((f - 1) * 10 + 5) 0) ≡ twoWayRow lanes f
 two-way-row lanes zero n = absurd (n refl)
-two-way-row lanes (suc r) n = both-word (getD lanes ((suc r - 1) * 10 + 5) 0) ∙ ap (λ (k : ℕ). isBoth (directionOf (getD lanes (k * 10 + 5) 0))) (let e : suc r - 1 ≡ r = omega arith in e)
+two-way-row lanes (suc r) n =
+    both-word (getD lanes ((suc r - 1) * 10 + 5) 0)
+    ∙ ap (λ (k : ℕ). isBoth (directionOf (getD lanes (k * 10 + 5) 0)))
+    (let e : suc r - 1 ≡ r = omega arith in e)
 
 -- ---- a run made
 module _ (run new : List ℕ) (n q x : ℕ) (asked : Bool) where
-  pub made-put : asked ≡ true → n ≤ length run → new ≡ written (insert x (take n run)) run → Made (cond asked (insert x (take n run)) (take n run)) run new (n + 1)
+  pub made-put : asked ≡ true → n ≤ length run → new ≡ written (insert x (take n run)) run
+      → Made (cond asked (insert x (take n run)) (take n run)) run new (n + 1)
   made-put e h p = record {
     list = p ∙ ap (λ (b : Bool). written (cond b (insert x (take n run)) (take n run)) run) (sym e);
-    size = sym (insert-length x (take n run) ∙ ap suc (length-take-le n run h) ∙ sym (add-one n)) ∙ ap (λ (b : Bool). length (cond b (insert x (take n run)) (take n run))) (sym e);
+    size = sym (insert-length x (take n run) ∙ ap suc (length-take-le n run h) ∙ sym (add-one n))
+        ∙ ap (λ (b : Bool). length (cond b (insert x (take n run)) (take n run))) (sym e);
   }
 
   pub made-left : asked ≡ false → n ≤ length run → Made (cond asked (insert x (take n run)) (take n run)) run run n
   made-left e h = record {
-    list = sym (written-take n run h) ∙ ap (λ (b : Bool). written (cond b (insert x (take n run)) (take n run)) run) (sym e);
-    size = sym (length-take-le n run h) ∙ ap (λ (b : Bool). length (cond b (insert x (take n run)) (take n run))) (sym e);
+    list = sym (written-take n run h)
+        ∙ ap (λ (b : Bool). written (cond b (insert x (take n run)) (take n run)) run) (sym e);
+    size = sym (length-take-le n run h)
+        ∙ ap (λ (b : Bool). length (cond b (insert x (take n run)) (take n run))) (sym e);
   }
 
 -- what a run made has in front, and a longer one made over it
@@ -58,7 +66,8 @@ module _ (xs old mid : List ℕ) (n : ℕ) (m : Made xs old mid n) where
   pub made-long : length xs ≤ length old → length mid ≡ length old
   made-long h = ap length (m .list) ∙ written-long xs old h
 
-  pub made-then : (ys zs new : List ℕ) (q : ℕ) → Made ys mid new q → ys ≡ zs → length xs ≤ length zs → Made zs old new q
+  pub made-then : (ys zs new : List ℕ) (q : ℕ) → Made ys mid new q → ys ≡ zs → length xs ≤ length zs
+      → Made zs old new q
   made-then ys zs new q p e h = record {
     list = p .list ∙ ap₂ written e (m .list) ∙ written-twice xs zs old h;
     size = p .size ∙ ap length e;
@@ -66,24 +75,33 @@ module _ (xs old mid : List ℕ) (n : ℕ) (m : Made xs old mid n) where
 
 -- ---- links back
 module _ (p : ℕ → Bool) where
-  pub back-more : (ys : List ℕ) (y : ℕ) (xs : List ℕ) → backInto p (ys ++ (y ∷ [])) xs ≡ cond (p y) (insert y (backInto p ys xs)) (backInto p ys xs)
+  pub back-more : (ys : List ℕ) (y : ℕ) (xs : List ℕ)
+      → backInto p (ys ++ (y ∷ [])) xs ≡ cond (p y) (insert y (backInto p ys xs)) (backInto p ys xs)
   back-more [] y xs = refl
   back-more (z ∷ ys) y xs = back-more ys y (cond (p z) (insert z xs) xs)
 
-  pub back-take : (ys : List ℕ) (k : ℕ) (xs : List ℕ) → k < length ys → backInto p (take (k + 1) ys) xs ≡ cond (p (getD ys k 0)) (insert (getD ys k 0) (backInto p (take k ys) xs)) (backInto p (take k ys) xs)
-  back-take ys k xs h = ap (λ (j : ℕ). backInto p (take j ys) xs) (add-one k) ∙ ap (λ (l : List ℕ). backInto p l xs) (take-suc ys k 0 h) ∙ back-more (take k ys) (getD ys k 0) xs
+  pub back-take : (ys : List ℕ) (k : ℕ) (xs : List ℕ) → k < length ys
+      → backInto p (take (k + 1) ys) xs
+      ≡ cond (p (getD ys k 0)) (insert (getD ys k 0) (backInto p (take k ys) xs)) (backInto p (take k ys) xs)
+  back-take ys k xs h =
+      ap (λ (j : ℕ). backInto p (take j ys) xs) (add-one k)
+      ∙ ap (λ (l : List ℕ). backInto p l xs) (take-suc ys k 0 h)
+      ∙ back-more (take k ys) (getD ys k 0) xs
 
-  put-size : (b : Bool) (y : ℕ) (xs : List ℕ) → (length xs ≤ length (cond b (insert y xs) xs)) × (length (cond b (insert y xs) xs) ≤ suc (length xs))
+  put-size : (b : Bool) (y : ℕ) (xs : List ℕ)
+      → (length xs ≤ length (cond b (insert y xs) xs)) × (length (cond b (insert y xs) xs) ≤ suc (length xs))
   put-size true y xs = let e = insert-length y xs in (omega arith, omega arith)
   put-size false y xs = (le-refl (length xs), omega arith)
 
   pub back-least : (ys xs : List ℕ) → length xs ≤ length (backInto p ys xs)
   back-least [] xs = le-refl (length xs)
-  back-least (y ∷ ys) xs = let a = put-size (p y) y xs in let b = back-least ys (cond (p y) (insert y xs) xs) in omega (arith, a .0)
+  back-least (y ∷ ys) xs =
+      let a = put-size (p y) y xs in let b = back-least ys (cond (p y) (insert y xs) xs) in omega (arith, a .0)
 
   pub back-most : (ys xs : List ℕ) → length (backInto p ys xs) ≤ length xs + length ys
   back-most [] xs = omega arith
-  back-most (y ∷ ys) xs = let a = put-size (p y) y xs in let b = back-most ys (cond (p y) (insert y xs) xs) in omega (arith, a .1)
+  back-most (y ∷ ys) xs =
+      let a = put-size (p y) y xs in let b = back-most ys (cond (p y) (insert y xs) xs) in omega (arith, a .1)
 
   ordered-put : (b : Bool) (y : ℕ) (xs : List ℕ) → Ordered xs → Ordered (cond b (insert y xs) xs)
   ordered-put true y xs h = ordered-insert y xs h
@@ -99,21 +117,36 @@ module _ (p : ℕ → Bool) where
   back-split (y ∷ ys) zs xs = back-split ys zs (cond (p y) (insert y xs) xs)
 
   so-far : (ys : List ℕ) (k : ℕ) (xs : List ℕ) → length (backInto p (take k ys) xs) ≤ length (backInto p ys xs)
-  so-far ys k xs = subst (λ (l : List ℕ). length (backInto p (take k ys) xs) ≤ length l) (sym (back-split (take k ys) (drop k ys) xs) ∙ ap (λ (l : List ℕ). backInto p l xs) (take-append-drop k ys)) (back-least (drop k ys) (backInto p (take k ys) xs))
+  so-far ys k xs =
+      subst (λ (l : List ℕ). length (backInto p (take k ys) xs) ≤ length l)
+      (sym (back-split (take k ys) (drop k ys) xs)
+      ∙ ap (λ (l : List ℕ). backInto p l xs) (take-append-drop k ys))
+      (back-least (drop k ys) (backInto p (take k ys) xs))
 
   -- a turn of the count
-  pub count-turn : (ys : List ℕ) (k : ℕ) (xs : List ℕ) (n : ℕ) (asked : Bool) → k < length ys → asked ≡ p (getD ys k 0) → n ≡ length (backInto p (take k ys) xs) → cond asked (n + 1) n ≡ length (backInto p (take (k + 1) ys) xs)
-  count-turn ys k xs n asked h e q = ap₂ (λ (b : Bool) (m : ℕ). cond b (m + 1) m) e q ∙ go (p (getD ys k 0)) ∙ ap length (sym (back-take ys k xs h))
+  pub count-turn : (ys : List ℕ) (k : ℕ) (xs : List ℕ) (n : ℕ) (asked : Bool) → k < length ys
+      → asked ≡ p (getD ys k 0) → n ≡ length (backInto p (take k ys) xs)
+      → cond asked (n + 1) n ≡ length (backInto p (take (k + 1) ys) xs)
+  count-turn ys k xs n asked h e q =
+      ap₂ (λ (b : Bool) (m : ℕ). cond b (m + 1) m) e q
+      ∙ go (p (getD ys k 0))
+      ∙ ap length (sym (back-take ys k xs h))
     where
-      go : (b : Bool) → cond b (length (backInto p (take k ys) xs) + 1) (length (backInto p (take k ys) xs)) ≡ length (cond b (insert (getD ys k 0) (backInto p (take k ys) xs)) (backInto p (take k ys) xs))
-      go true = add-one (length (backInto p (take k ys) xs)) ∙ sym (insert-length (getD ys k 0) (backInto p (take k ys) xs))
+      go : (b : Bool)
+          → cond b (length (backInto p (take k ys) xs) + 1) (length (backInto p (take k ys) xs))
+          ≡ length (cond b (insert (getD ys k 0) (backInto p (take k ys) xs)) (backInto p (take k ys) xs))
+      go true =
+          add-one (length (backInto p (take k ys) xs))
+          ∙ sym (insert-length (getD ys k 0) (backInto p (take k ys) xs))
       go false = refl
 
-  pub count-room : (ys : List ℕ) (k : ℕ) (xs : List ℕ) → k ≤ length ys → length (backInto p (take k ys) xs) ≤ length xs + k
+  pub count-room : (ys : List ℕ) (k : ℕ) (xs : List ℕ) → k ≤ length ys
+      → length (backInto p (take k ys) xs) ≤ length xs + k
   count-room ys k xs h = let a = back-most (take k ys) xs in let b = length-take-le k ys h in omega arith
 
   -- the loop's turn
-  module _ (finders : List ℕ) (start : ℕ) (run₀ : List ℕ) (rising : Rising (take start run₀)) (begun : start ≤ length run₀) (room : length (backInto p finders (take start run₀)) ≤ length run₀) where
+  module _ (finders : List ℕ) (start : ℕ) (run₀ : List ℕ) (rising : Rising (take start run₀))
+      (begun : start ≤ length run₀) (room : length (backInto p finders (take start run₀)) ≤ length run₀) where
     abbrev soFar : ℕ → List ℕ
     soFar k = backInto p (take k finders) (take start run₀)
 
@@ -127,17 +160,29 @@ module _ (p : ℕ → Bool) where
       pub turn-within : n ≤ length run
       turn-within = let a = so-far finders k (take start run₀) in let b = turn-long in let d = m .size in omega arith
 
-      pub turn-room : k < length finders → (asked : Bool) → asked ≡ p (getD finders k 0) → asked ≡ true → n < length run
+      pub turn-room : k < length finders → (asked : Bool) → asked ≡ p (getD finders k 0) → asked ≡ true
+          → n < length run
       turn-room lt asked e t = let a = so-far finders (k + 1) (take start run₀) in let b = turn-long in
-          let d = count-turn finders k (take start run₀) n asked lt e (m .size) in let f = ap (λ (b : Bool). cond b (n + 1) n) t in omega arith
+          let d = count-turn finders k (take start run₀) n asked lt e (m .size) in
+          let f = ap (λ (b : Bool). cond b (n + 1) n) t in omega arith
 
       pub turn-rising : Rising (take n run)
-      turn-rising = ordered-rising (take n run) (subst Ordered (sym (made-front (soFar k) run₀ run n m)) (back-ordered (take k finders) (take start run₀) (rising-ordered (take start run₀) rising)))
+      turn-rising =
+          ordered-rising (take n run)
+          (subst Ordered (sym (made-front (soFar k) run₀ run n m))
+          (back-ordered (take k finders) (take start run₀) (rising-ordered (take start run₀) rising)))
 
-      pub turn-on : k < length finders → (asked : Bool) → asked ≡ p (getD finders k 0) → (new : List ℕ) (q : ℕ) → Made (cond asked (insert (getD finders k 0) (take n run)) (take n run)) run new q → Made (soFar (k + 1)) run₀ new q
-      turn-on lt asked e new q u = made-then (soFar k) run₀ run n m (cond asked (insert (getD finders k 0) (take n run)) (take n run)) (soFar (k + 1)) new q u
-          (ap₂ (λ (b : Bool) (xs : List ℕ). cond b (insert (getD finders k 0) xs) xs) e (made-front (soFar k) run₀ run n m) ∙ sym (back-take finders k (take start run₀) lt))
-          (subst (λ (l : List ℕ). length (soFar k) ≤ length l) (sym (back-take finders k (take start run₀) lt)) (put-size (p (getD finders k 0)) (getD finders k 0) (soFar k) .0))
+      pub turn-on : k < length finders → (asked : Bool) → asked ≡ p (getD finders k 0) → (new : List ℕ) (q : ℕ)
+          → Made (cond asked (insert (getD finders k 0) (take n run)) (take n run)) run new q
+          → Made (soFar (k + 1)) run₀ new q
+      turn-on lt asked e new q u =
+          made-then (soFar k) run₀ run n m (cond asked (insert (getD finders k 0) (take n run)) (take n run))
+          (soFar (k + 1)) new q u
+          (ap₂ (λ (b : Bool) (xs : List ℕ). cond b (insert (getD finders k 0) xs) xs) e
+          (made-front (soFar k) run₀ run n m)
+          ∙ sym (back-take finders k (take start run₀) lt))
+          (subst (λ (l : List ℕ). length (soFar k) ≤ length l) (sym (back-take finders k (take start run₀) lt))
+          (put-size (p (getD finders k 0)) (getD finders k 0) (soFar k) .0))
 
       pub turn-end : length finders ≤ k → Made (backInto p finders (take start run₀)) run₀ run n
       turn-end ge = subst (λ (l : List ℕ). Made (backInto p l (take start run₀)) run₀ run n) (take-all k finders ge) m
@@ -156,7 +201,8 @@ module _ (lanes mine finders : List ℕ) (l : ℕ) where
   unfolding finishedFrom
   plain-is z = ap (λ (b : Bool). cond b (backInto (wants lanes mine) finders mine) mine) z
 
-  pub back-is : twoWayRow lanes (suc l) ≡ true → finishedFrom lanes mine finders l ≡ backInto (wants lanes mine) finders mine
+  pub back-is : twoWayRow lanes (suc l) ≡ true
+      → finishedFrom lanes mine finders l ≡ backInto (wants lanes mine) finders mine
   unfolding finishedFrom
   back-is z = ap (λ (b : Bool). cond b (backInto (wants lanes mine) finders mine) mine) z
 
@@ -169,17 +215,31 @@ module _ (lanes mine finders : List ℕ) (l : ℕ) where
       go false = le-refl (length mine)
 
   module _ (run₀ run : List ℕ) (e : run ≡ written mine run₀) where
-    pub finish-plain : twoWayRow lanes (suc l) ≡ false → Made (finishedFrom lanes mine finders l) run₀ run (length mine)
-    finish-plain z = record { list = e ∙ ap (λ (xs : List ℕ). written xs run₀) (sym (plain-is z)); size = ap length (sym (plain-is z)) }
+    pub finish-plain : twoWayRow lanes (suc l) ≡ false
+        → Made (finishedFrom lanes mine finders l) run₀ run (length mine)
+    finish-plain z =
+        record {
+          list = e ∙ ap (λ (xs : List ℕ). written xs run₀) (sym (plain-is z));
+          size = ap length (sym (plain-is z));
+        }
 
     pub copied : take (length mine) run ≡ mine
     copied = ap (take (length mine)) e ∙ written-front mine run₀
 
-    pub finish-room : twoWayRow lanes (suc l) ≡ true → length (backInto (wants lanes mine) finders (take (length mine) run)) ≡ length (finishedFrom lanes mine finders l)
-    finish-room z = ap (λ (xs : List ℕ). length (backInto (wants lanes mine) finders xs)) copied ∙ ap length (sym (back-is z))
+    pub finish-room : twoWayRow lanes (suc l) ≡ true
+        → length (backInto (wants lanes mine) finders (take (length mine) run))
+        ≡ length (finishedFrom lanes mine finders l)
+    finish-room z =
+        ap (λ (xs : List ℕ). length (backInto (wants lanes mine) finders xs)) copied
+        ∙ ap length (sym (back-is z))
 
-    pub finish-back : twoWayRow lanes (suc l) ≡ true → (new : List ℕ) (q : ℕ) → Made (backInto (wants lanes mine) finders (take (length mine) run)) run new q → Made (finishedFrom lanes mine finders l) run₀ new q
-    finish-back z new q m = made-then mine run₀ run (length mine) (record { list = e; size = refl }) (backInto (wants lanes mine) finders (take (length mine) run)) (finishedFrom lanes mine finders l) new q m
+    pub finish-back : twoWayRow lanes (suc l) ≡ true → (new : List ℕ) (q : ℕ)
+        → Made (backInto (wants lanes mine) finders (take (length mine) run)) run new q
+        → Made (finishedFrom lanes mine finders l) run₀ new q
+    finish-back z new q m =
+        made-then mine run₀ run (length mine) (record { list = e; size = refl })
+        (backInto (wants lanes mine) finders (take (length mine) run)) (finishedFrom lanes mine finders l) new q
+        m
         (ap (backInto (wants lanes mine) finders) copied ∙ sym (back-is z)) finish-least
 
 -- ---- one list more, written to the tail of an output
@@ -189,20 +249,29 @@ module _ (list : ℕ → List ℕ) (f : ℕ → ℕ) (few : (i : ℕ) → length
   start-most zero = le-refl 0
   start-most (suc i) = let a : startOf list i ≤ total i f = start-most i in let b = few i in omega arith
 
-  module _ (n i at : ℕ) (out₀ out : List ℕ) (li : i < n) (room : total n f ≤ length out₀) (ea : at ≡ startOf list i) (long : length out ≡ length out₀) where
+  module _ (n i at : ℕ) (out₀ out : List ℕ) (li : i < n) (room : total n f ≤ length out₀)
+      (ea : at ≡ startOf list i) (long : length out ≡ length out₀) where
     upto : total (i + 1) f ≤ length out₀
     upto = let a = Rattle.words.proofs.Laws.total-le (i + 1) n f (omega arith) in omega arith
 
     pub tail-room : at + f i ≤ length out
     tail-room = let a = upto in let b = Rattle.words.proofs.Laws.total-more i f in let d = start-most i in omega arith
 
-    pub tail-more : out ≡ written (joined i list) out₀ → (xs new : List ℕ) → xs ≡ list i → new ≡ written xs (tailFrom at out (let a = tail-room in omega arith)) → take at out ++ (new ++ drop (length out - at) (drop at out)) ≡ written (joined (i + 1) list) out₀
+    pub tail-more : out ≡ written (joined i list) out₀ → (xs new : List ℕ) → xs ≡ list i
+        → new ≡ written xs (tailFrom at out (let a = tail-room in omega arith))
+        → take at out ++ (new ++ drop (length out - at) (drop at out)) ≡ written (joined (i + 1) list) out₀
     tail-more e xs new ex en =
         let h : at ≤ length out = (let a = tail-room in omega arith) in
-        tail-back at out h new ∙ packed-more list i at out₀ out (take at out ++ new) e ea (ap (λ (l : List ℕ). take at out ++ l) (en ∙ ap₂ written ex (tail-is at out h))) (let a = start-most (i + 1) in let b = upto in omega arith)
+        tail-back at out h new
+        ∙ packed-more list i at out₀ out (take at out ++ new) e ea
+        (ap (λ (l : List ℕ). take at out ++ l) (en ∙ ap₂ written ex (tail-is at out h)))
+        (let a = start-most (i + 1) in let b = upto in omega arith)
 
     pub more-long : (new : List ℕ) → new ≡ written (joined (i + 1) list) out₀ → length new ≡ length out₀
-    more-long new e = ap length e ∙ written-long (joined (i + 1) list) out₀ (let a = joined-long list (i + 1) in let b = start-most (i + 1) in let d = upto in omega arith)
+    more-long new e =
+        ap length e
+        ∙ written-long (joined (i + 1) list) out₀
+        (let a = joined-long list (i + 1) in let b = start-most (i + 1) in let d = upto in omega arith)
 
 pub successors-most : (R : Rows) (l : ℕ) → length (successorsByRow R l) ≤ exitCount R l
 unfolding successorsByRow
@@ -211,8 +280,16 @@ successors-most R l = go (getD (R .lanes) (l * 10 + 5) 0)
     go : (d : ℕ) → length (successorsFromRow R l d) ≤ exitCount R l
     go zero = let a = length-absorb false [] (exitsByRow R l true) in omega arith
     go (suc zero) = let a = length-absorb false [] (exitsByRow R l false) in omega arith
-    go (suc (suc d)) = let a = length-absorb true [] (exitsByRow R l true ++ exitsByRow R l false) in let b = lib.ListN.length-append (exitsByRow R l true) (exitsByRow R l false) in omega arith
+    go (suc (suc d)) =
+        let a = length-absorb true [] (exitsByRow R l true ++ exitsByRow R l false) in
+        let b = lib.ListN.length-append (exitsByRow R l true) (exitsByRow R l false) in omega arith
 
-pub both-fit : (starts ids fstarts fids : List ℕ) (n : ℕ) (f : ℕ → List ℕ) → ((i : ℕ) → i < n → listPart fstarts fids i ≡ f i) → total n (bothLong starts ids fstarts fids) ≡ startOf (listPart starts ids) n + startOf f n
-both-fit starts ids fstarts fids n f h = Rattle.succession.proofs.Spreads.total-plus n (λ k. length (listPart starts ids k)) (λ k. length (listPart fstarts fids k)) (bothLong starts ids fstarts fids) (λ r. refl)
-    ∙ ap (λ (k : ℕ). startOf (listPart starts ids) n + k) (Rattle.words.proofs.Laws.total-same n (λ k. length (listPart fstarts fids k)) (λ k. length (f k)) (λ i li. ap length (h i li)))
+pub both-fit : (starts ids fstarts fids : List ℕ) (n : ℕ) (f : ℕ → List ℕ)
+    → ((i : ℕ) → i < n → listPart fstarts fids i ≡ f i)
+    → total n (bothLong starts ids fstarts fids) ≡ startOf (listPart starts ids) n + startOf f n
+both-fit starts ids fstarts fids n f h =
+    Rattle.succession.proofs.Spreads.total-plus n (λ k. length (listPart starts ids k))
+    (λ k. length (listPart fstarts fids k)) (bothLong starts ids fstarts fids) (λ r. refl)
+    ∙ ap (λ (k : ℕ). startOf (listPart starts ids) n + k)
+    (Rattle.words.proofs.Laws.total-same n (λ k. length (listPart fstarts fids k)) (λ k. length (f k))
+    (λ i li. ap length (h i li)))

@@ -1,4 +1,5 @@
--- Succession over rows: the model's functions where every name is a row plus 1, and 0 where nothing bears it. Definitions only.
+-- Succession over rows: the model's functions where every name is a row plus 1, and 0 where nothing bears it.
+-- Definitions only.
 use Prim.Native.Nat.{ℕ, zero, suc, _+_, _*_, _/_, _<_, _≤_}
 use mathlib.Core.Path.{_≡_}
 use mathlib.Core.Bool.{Bool, true, false, not, cond}
@@ -17,7 +18,8 @@ use Rattle.words.specs.Rows.{from, joined, lastOf}
 use Rattle.rules.specs.ByRow.{numbersAt}
 use Rattle.succession.specs.Runs.{Rising, absorb}
 
--- The tables of words, and the rows (plus 1) that their names mean: of each lane's road, of each connection's two roads, of each road's two targets.
+-- The tables of words, and the rows (plus 1) that their names mean: of each lane's road, of each connection's
+-- two roads, of each road's two targets.
 pub record Rows : Type 0 where
   pub roads : List ℕ
   pub sections : List ℕ
@@ -66,25 +68,32 @@ sectionsByRow roads sections (suc r) = numbersAt roads sections r
 
 -- ---- the model's functions
 unfoldable pub lookupByRow : Rows → ℕ → Bool → ℕ → List Entry
-lookupByRow R w e k = oneAt (R .lanes) (laneRowOf (R .lanes) (R .owner) w (endSection (sectionsByRow (R .roads) (R .sections) w) e) k) e
+lookupByRow R w e k =
+    oneAt (R .lanes)
+    (laneRowOf (R .lanes) (R .owner) w (endSection (sectionsByRow (R .roads) (R .sections) w) e) k) e
 
 -- what pair p leads lane number k to, in that section of that road
 unfoldable pub pairEntry : List ℕ → List ℕ → List ℕ → ℕ → ℕ → Bool → ℕ → ℕ → List Entry
-pairEntry pairs lanes owner w s e k p = cond (eqb (getD pairs (p * 2) 0) k) (oneAt lanes (laneRowOf lanes owner w s (getD pairs (p * 2 + 1) 0)) e) []
+pairEntry pairs lanes owner w s e k p =
+    cond (eqb (getD pairs (p * 2) 0) k) (oneAt lanes (laneRowOf lanes owner w s (getD pairs (p * 2 + 1) 0)) e)
+    []
 
 abbrev pub pairByRow : Rows → ℕ → ℕ → ℕ → List Entry
 pairByRow R c k p = pairEntry (R .pairs) (R .lanes) (R .owner) (getD (R .sides) (c * 2 + 1) 0)
-    (endSection (sectionsByRow (R .roads) (R .sections) (getD (R .sides) (c * 2 + 1) 0)) (flag (getD (R .connections) (c * 7 + 4) 0)))
+    (endSection (sectionsByRow (R .roads) (R .sections) (getD (R .sides) (c * 2 + 1) 0))
+    (flag (getD (R .connections) (c * 7 + 4) 0)))
     (flag (getD (R .connections) (c * 7 + 4) 0)) k p
 
 unfoldable pub pairsByRow : Rows → ℕ → ℕ → List Entry
-pairsByRow R c k = ranged (getD (R .connections) (c * 7 + 5) 0) (getD (R .connections) (c * 7 + 6) 0) (pairByRow R c k)
+pairsByRow R c k =
+    ranged (getD (R .connections) (c * 7 + 5) 0) (getD (R .connections) (c * 7 + 6) 0) (pairByRow R c k)
 
 unfoldable pub connectionByRow : Rows → ℕ → ℕ → ℕ → List Entry
 connectionByRow R w k c = cond (eqb (getD (R .sides) (c * 2) 0) w) (pairsByRow R c k) []
 
 unfoldable pub junctionByRow : Rows → ℕ → ℕ → ℕ → List Entry
-junctionByRow R j w k = ranged (getD (R .junctions) (j * 5 + 3) 0) (getD (R .junctions) (j * 5 + 4) 0) (connectionByRow R w k)
+junctionByRow R j w k =
+    ranged (getD (R .junctions) (j * 5 + 3) 0) (getD (R .junctions) (j * 5 + 4) 0) (connectionByRow R w k)
 
 abbrev pub junctionAtRow : Rows → ℕ → ℕ → ℕ → List Entry
 junctionAtRow R zero w k = []
@@ -100,15 +109,21 @@ crossByRow R l at to link = cond (eqb (getD (R .roads) at 0) 1)
 
 -- the lane in another section of lane l's road
 unfoldable pub stepByRow : List ℕ → List ℕ → ℕ → ℕ → ℕ → Bool → List Entry
-stepByRow lanes owner l s link e = cond (eqb (getD lanes link 0) 1) (oneAt lanes (laneRowOf lanes owner (getD owner l 0) s (getD lanes (link + 1) 0)) e) []
+stepByRow lanes owner l s link e =
+    cond (eqb (getD lanes link 0) 1)
+    (oneAt lanes (laneRowOf lanes owner (getD owner l 0) s (getD lanes (link + 1) 0)) e) []
 
 abbrev pub exitsFromRow : Rows → ℕ → ℕ → Bool → ℕ → Option ℕ → List Entry
 exitsFromRow R l r e link (some s) = stepByRow (R .lanes) (R .owner) l s link (not e)
-exitsFromRow R l r e link none = crossByRow R l (pick e (r * 20 + 4) (r * 20 + 11)) (pick e (getD (R .ends) (r * 2) 0) (getD (R .ends) (r * 2 + 1) 0)) link
+exitsFromRow R l r e link none =
+    crossByRow R l (pick e (r * 20 + 4) (r * 20 + 11))
+    (pick e (getD (R .ends) (r * 2) 0) (getD (R .ends) (r * 2 + 1) 0)) link
 
 abbrev pub exitsAtRow : Rows → ℕ → Bool → ℕ → List Entry
 exitsAtRow R l e zero = []
-exitsAtRow R l e (suc r) = exitsFromRow R l r e (pick e (l * 10 + 8) (l * 10 + 6)) (nextSection (numbersAt (R .roads) (R .sections) r) (getD (R .lanes) (l * 10 + 3) 0) e)
+exitsAtRow R l e (suc r) =
+    exitsFromRow R l r e (pick e (l * 10 + 8) (l * 10 + 6))
+    (nextSection (numbersAt (R .roads) (R .sections) r) (getD (R .lanes) (l * 10 + 3) 0) e)
 
 unfoldable pub exitsByRow : Rows → ℕ → Bool → List Entry
 exitsByRow R l e = exitsAtRow R l e (getD (R .owner) l 0)
@@ -141,12 +156,17 @@ pub record Sound (roads sections junctions connections pairs lanes owner sides e
   pub sides-long : length connections / 7 * 2 ≤ length sides
   pub sides-high : (c : ℕ) → c < length connections / 7 → getD sides (c * 2 + 1) 0 ≤ length roads / 20
   pub ends-long : length roads / 20 * 2 ≤ length ends
-  pub road-ends : (r : ℕ) (k : ℕ) → r < length roads / 20 → k < 2 → eqb (getD roads (r * 20 + (5 + k * 7)) 0) 1 ≡ false → getD ends (r * 2 + k) 0 ≤ length roads / 20
-  pub junction-ends : (r : ℕ) (k : ℕ) → r < length roads / 20 → k < 2 → eqb (getD roads (r * 20 + (5 + k * 7)) 0) 1 ≡ true → getD ends (r * 2 + k) 0 ≤ length junctions / 5
-  pub section-parts : (r : ℕ) → r < length roads / 20 → getD roads (r * 20 + 18) 0 + getD roads (r * 20 + 19) 0 ≤ length sections
+  pub road-ends : (r : ℕ) (k : ℕ) → r < length roads / 20 → k < 2
+      → eqb (getD roads (r * 20 + (5 + k * 7)) 0) 1 ≡ false → getD ends (r * 2 + k) 0 ≤ length roads / 20
+  pub junction-ends : (r : ℕ) (k : ℕ) → r < length roads / 20 → k < 2
+      → eqb (getD roads (r * 20 + (5 + k * 7)) 0) 1 ≡ true → getD ends (r * 2 + k) 0 ≤ length junctions / 5
+  pub section-parts : (r : ℕ) → r < length roads / 20
+      → getD roads (r * 20 + 18) 0 + getD roads (r * 20 + 19) 0 ≤ length sections
   pub rising : (r : ℕ) → r < length roads / 20 → Rising (numbersAt roads sections r)
-  pub connection-parts : (j : ℕ) → j < length junctions / 5 → getD junctions (j * 5 + 3) 0 + getD junctions (j * 5 + 4) 0 ≤ length connections / 7
-  pub pair-parts : (c : ℕ) → c < length connections / 7 → getD connections (c * 7 + 5) 0 + getD connections (c * 7 + 6) 0 ≤ length pairs / 2
+  pub connection-parts : (j : ℕ) → j < length junctions / 5
+      → getD junctions (j * 5 + 3) 0 + getD junctions (j * 5 + 4) 0 ≤ length connections / 7
+  pub pair-parts : (c : ℕ) → c < length connections / 7
+      → getD connections (c * 7 + 5) 0 + getD connections (c * 7 + 6) 0 ≤ length pairs / 2
   pub buckets : length heads ≡ 16384
   pub links : length lanes / 10 ≤ length next
   pub chained : Chained (laneHash lanes owner) (length lanes / 10) heads next

@@ -36,7 +36,8 @@ unfoldable pub finishedFrom : (lanes mine finders : List ℕ) → ℕ → List �
 finishedFrom lanes mine finders l = cond (twoWayRow lanes (suc l)) (backInto (wants lanes mine) finders mine) mine
 
 abbrev pub finishedAt : (lanes offsets ids finderOffsets finderIds : List ℕ) → ℕ → List ℕ
-finishedAt lanes offsets ids finderOffsets finderIds l = finishedFrom lanes (listPart offsets ids l) (listPart finderOffsets finderIds l) l
+finishedAt lanes offsets ids finderOffsets finderIds l =
+    finishedFrom lanes (listPart offsets ids l) (listPart finderOffsets finderIds l) l
 
 -- a run's first n words made the list xs, which has q words
 pub record Made (xs old new : List ℕ) (q : ℕ) : Type 0 where
@@ -45,4 +46,5 @@ pub record Made (xs old new : List ℕ) (q : ℕ) : Type 0 where
 
 -- how long the two lists of a lane are together
 abbrev pub bothLong : (offsets ids finderOffsets finderIds : List ℕ) → ℕ → ℕ
-bothLong offsets ids finderOffsets finderIds l = length (listPart offsets ids l) + length (listPart finderOffsets finderIds l)
+bothLong offsets ids finderOffsets finderIds l =
+    length (listPart offsets ids l) + length (listPart finderOffsets finderIds l)

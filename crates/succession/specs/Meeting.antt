@@ -19,7 +19,8 @@ endOf junctions j = firstOf junctions j + getD junctions (j * 5 + 4) 0
 
 -- is connection c one of junction j's, from road w?
 unfoldable pub meets : (junctions sides : List ℕ) → ℕ → ℕ → ℕ → Bool
-meets junctions sides j w c = (leb (firstOf junctions j) c && ltb c (endOf junctions j)) && eqb (getD sides (c * 2) 0) w
+meets junctions sides j w c =
+    (leb (firstOf junctions j) c && ltb c (endOf junctions j)) && eqb (getD sides (c * 2) 0) w
 
 -- what it leads lane number k to
 unfoldable pub meetingAt : Rows → ℕ → ℕ → ℕ → ℕ → List Entry
@@ -29,7 +30,8 @@ meetingAt R j w k c = cond (meets (R .junctions) (R .sides) j w c) (pairsByRow R
 abbrev pub beginsBy : List ℕ → ℕ → ℕ → Bool
 beginsBy junctions c j = leb (firstOf junctions j) c
 
--- the junction (row plus 1) whose part has connection c: parts follow one another, so the last that begins there or before
+-- the junction (row plus 1) whose part has connection c: parts follow one another, so the last that begins
+-- there or before
 unfoldable pub homeOf : List ℕ → ℕ → ℕ
 homeOf junctions c = lastOf (length junctions / 5) (beginsBy junctions c)
 
@@ -43,7 +45,9 @@ connectionHash junctions sides n i = meetingHash (homeOf junctions (n - (i + 1))
 
 -- every part's connections have their junction as home
 abbrev pub Homes : List ℕ → Type 0
-Homes junctions = (j c : ℕ) → j < length junctions / 5 → firstOf junctions j ≤ c → c < endOf junctions j → homeOf junctions c ≡ j + 1
+Homes junctions =
+    (j c : ℕ) → j < length junctions / 5 → firstOf junctions j ≤ c → c < endOf junctions j
+    → homeOf junctions c ≡ j + 1
 
 -- the chains hold all connections
 pub record Meeting (junctions connections sides heads next : List ℕ) : Type 0 where

@@ -29,7 +29,8 @@ unfolding lastOf
 last-miss r p e = rw e
 
 -- by cases on p at the last row
-by-last : (Q : ℕ → Type 0) (n : ℕ) (p : ℕ → Bool) → (p n ≡ true → Q (suc n)) → (p n ≡ false → Q (lastOf n p)) → Q (lastOf (suc n) p)
+by-last : (Q : ℕ → Type 0) (n : ℕ) (p : ℕ → Bool) → (p n ≡ true → Q (suc n)) → (p n ≡ false → Q (lastOf n p))
+    → Q (lastOf (suc n) p)
 by-last Q n p yes-case no-case = go (p n) refl
   where
     go : (t : Bool) → p n ≡ t → Q (lastOf (suc n) p)
@@ -38,17 +39,20 @@ by-last Q n p yes-case no-case = go (p n) refl
 
 pub last-le : (n : ℕ) (p : ℕ → Bool) → lastOf n p ≤ n
 last-le zero p = rw last-none (le-refl 0)
-last-le (suc n) p = let ih = last-le n p in by-last (λ (k : ℕ). k ≤ suc n) n p (λ e. le-refl (suc n)) (λ e. le-step ih)
+last-le (suc n) p =
+    let ih = last-le n p in by-last (λ (k : ℕ). k ≤ suc n) n p (λ e. le-refl (suc n)) (λ e. le-step ih)
 
 -- the row that is found has p
 pub last-has : (n r : ℕ) (p : ℕ → Bool) → lastOf n p ≡ suc r → p r ≡ true
 last-has zero r p e = absurd (omega (arith, last-none p))
 last-has (suc n) r p e =
     let ih : lastOf n p ≡ suc r → p r ≡ true = λ q. last-has n r p q in
-    by-last (λ (k : ℕ). k ≡ suc r → p r ≡ true) n p (λ t q. let z : n ≡ r = omega arith in subst (λ (k : ℕ). p k ≡ true) z t) (λ t q. ih q) e
+    by-last (λ (k : ℕ). k ≡ suc r → p r ≡ true) n p
+    (λ t q. let z : n ≡ r = omega arith in subst (λ (k : ℕ). p k ≡ true) z t) (λ t q. ih q) e
 
 -- ---- THE law: where p holds only in the bucket B, the search for p goes by the rows of B alone
-pub chain-skip : (n : ℕ) (B p : ℕ → Bool) → ((q : ℕ) → q < n → p q ≡ true → B q ≡ true) → lastOf (lastOf n B) p ≡ lastOf n p
+pub chain-skip : (n : ℕ) (B p : ℕ → Bool) → ((q : ℕ) → q < n → p q ≡ true → B q ≡ true)
+    → lastOf (lastOf n B) p ≡ lastOf n p
 chain-skip zero B p h = ap (λ (k : ℕ). lastOf k p) (last-none B)
 chain-skip (suc n) B p h =
     let ih = chain-skip n B p (λ q lt e. h q (le-step lt) e) in
@@ -62,35 +66,45 @@ chain-skip (suc n) B p h =
 
 -- ---- chains
 module _ (hash : ℕ → ℕ) where
-  pub chained-none : (heads next : List ℕ) → ((b : ℕ) → b < length heads → getD heads b 0 ≡ 0) → Chained hash 0 heads next
+  pub chained-none : (heads next : List ℕ) → ((b : ℕ) → b < length heads → getD heads b 0 ≡ 0)
+      → Chained hash 0 heads next
   chained-none heads next z = record {
     head = λ b h. z b h ∙ sym (last-none (within hash b));
     link = λ r h. absurd (not-suc-le-zero h);
   }
 
   -- a row is linked in front of its bucket's chain
-  pub chained-more : (n : ℕ) (heads next : List ℕ) → Chained hash n heads next → hash n < length heads → n < length next
+  pub chained-more : (n : ℕ) (heads next : List ℕ) → Chained hash n heads next → hash n < length heads
+      → n < length next
       → Chained hash (n + 1) (set heads (hash n) (n + 1)) (set next n (getD heads (hash n) 0))
   chained-more n heads next c hh hn = record { head = heads-more; link = next-more }
     where
-      heads-case : (b : ℕ) → b < length heads → (t : Bool) → eqb (hash n) b ≡ t → getD (set heads (hash n) (n + 1)) b 0 ≡ lastOf (n + 1) (within hash b)
+      heads-case : (b : ℕ) → b < length heads → (t : Bool) → eqb (hash n) b ≡ t
+          → getD (set heads (hash n) (n + 1)) b 0 ≡ lastOf (n + 1) (within hash b)
       heads-case b h true e =
           let q : b ≡ hash n = sym (eqb-true (hash n) b e) in
-          ap (λ (k : ℕ). getD (set heads (hash n) (n + 1)) k 0) q ∙ getD-set-same heads (hash n) (n + 1) 0 hh ∙ rw (add-one, last-hit n (within hash b) e)
+          ap (λ (k : ℕ). getD (set heads (hash n) (n + 1)) k 0) q
+          ∙ getD-set-same heads (hash n) (n + 1) 0 hh
+          ∙ rw (add-one, last-hit n (within hash b) e)
       heads-case b h false e =
-          getD-set-other heads (hash n) b (n + 1) 0 (λ q. eqb-false (hash n) b e (sym q)) ∙ c .head b h ∙ rw (add-one, last-miss n (within hash b) e)
+          getD-set-other heads (hash n) b (n + 1) 0 (λ q. eqb-false (hash n) b e (sym q))
+          ∙ c .head b h
+          ∙ rw (add-one, last-miss n (within hash b) e)
 
-      heads-more : (b : ℕ) → b < length (set heads (hash n) (n + 1)) → getD (set heads (hash n) (n + 1)) b 0 ≡ lastOf (n + 1) (within hash b)
+      heads-more : (b : ℕ) → b < length (set heads (hash n) (n + 1))
+          → getD (set heads (hash n) (n + 1)) b 0 ≡ lastOf (n + 1) (within hash b)
       heads-more b h = heads-case b (rw length-set at h) (eqb (hash n) b) refl
 
-      next-more : (r : ℕ) → r < n + 1 → getD (set next n (getD heads (hash n) 0)) r 0 ≡ lastOf r (within hash (hash r))
+      next-more : (r : ℕ) → r < n + 1
+          → getD (set next n (getD heads (hash n) 0)) r 0 ≡ lastOf r (within hash (hash r))
       next-more r h =
           ⊎-elim
           (λ q. rw q (getD-set-same next n (getD heads (hash n) 0) 0 hn ∙ c .head (hash n) hh))
           (λ lt. getD-set-other next n r (getD heads (hash n) 0) 0 (λ q. omega arith) ∙ c .link r lt)
           (eq-or-lt-of-le (le-of-suc-le-suc (rw add-one at h)))
 
-  module _ (n : ℕ) (heads next : List ℕ) (c : Chained hash n heads next) (p : ℕ → Bool) (b : ℕ) (only : (q : ℕ) → q < n → p q ≡ true → hash q ≡ b) where
+  module _ (n : ℕ) (heads next : List ℕ) (c : Chained hash n heads next) (p : ℕ → Bool) (b : ℕ)
+      (only : (q : ℕ) → q < n → p q ≡ true → hash q ≡ b) where
     -- the search begins at the bucket's head
     pub search-begin : b < length heads → lastOf (getD heads b 0) p ≡ lastOf n p
     search-begin h = rw (c .head b h) (chain-skip n (within hash b) p (λ q lt e. eq-eqb (hash q) b (only q lt e)))
@@ -99,7 +113,8 @@ module _ (hash : ℕ → ℕ) where
     pub search-on : (r : ℕ) → r < n → hash r ≡ b → p r ≡ false → lastOf (getD next r 0) p ≡ lastOf (suc r) p
     search-on r lt hr e =
         rw (c .link r lt, last-miss r p e)
-        (chain-skip r (within hash (hash r)) p (λ q l f. eq-eqb (hash q) (hash r) (only q (le-trans l (le-of-lt lt)) f ∙ sym hr)))
+        (chain-skip r (within hash (hash r)) p
+        (λ q l f. eq-eqb (hash q) (hash r) (only q (le-trans l (le-of-lt lt)) f ∙ sym hr)))
 
     -- what a link leads to lies below, in the same bucket
     pub link-le : (r : ℕ) → r < n → getD next r 0 ≤ r
@@ -120,22 +135,26 @@ unfolding any
 last-any zero p e = refl
 last-any (suc n) p e =
     let ih : lastOf n p ≡ 0 → any n p ≡ false = λ q. last-any n p q in
-    by-last (λ (k : ℕ). k ≡ 0 → (any n p || p n) ≡ false) n p (λ t q. absurd (omega arith)) (λ t q. or-none (any n p) (p n) (ih q) t) e
+    by-last (λ (k : ℕ). k ≡ 0 → (any n p || p n) ≡ false) n p (λ t q. absurd (omega arith))
+    (λ t q. or-none (any n p) (p n) (ih q) t) e
 
 pub any-last : (n : ℕ) (p : ℕ → Bool) → (lastOf n p ≡ 0 → ⊥) → any n p ≡ true
 unfolding any
 any-last zero p e = absurd (e (last-none p))
 any-last (suc n) p e =
     let ih : (lastOf n p ≡ 0 → ⊥) → any n p ≡ true = λ q. any-last n p q in
-    by-last (λ (k : ℕ). (k ≡ 0 → ⊥) → (any n p || p n) ≡ true) n p (λ t q. or-right (any n p) (p n) t) (λ t q. or-left (any n p) (p n) (ih q)) e
+    by-last (λ (k : ℕ). (k ≡ 0 → ⊥) → (any n p || p n) ≡ true) n p (λ t q. or-right (any n p) (p n) t)
+    (λ t q. or-left (any n p) (p n) (ih q)) e
 
--- ---- a lookup's loop, once for every kind of key: the rows below n, the chains, the test p of a row against the key, and the key's bucket b
+-- ---- a lookup's loop, once for every kind of key: the rows below n, the chains, the test p of a row against
+-- the key, and the key's bucket b
 pub record Seeking (hash : ℕ → ℕ) (p : ℕ → Bool) (b n at : ℕ) : Type 0 where
   pub below : at ≤ n
   pub rest : lastOf at p ≡ lastOf n p
   pub inside : (r : ℕ) → at ≡ suc r → hash r ≡ b
 
-module _ (hash : ℕ → ℕ) (p : ℕ → Bool) (b n : ℕ) (heads next : List ℕ) (c : Chained hash n heads next) (only : (q : ℕ) → p q ≡ true → hash q ≡ b) where
+module _ (hash : ℕ → ℕ) (p : ℕ → Bool) (b n : ℕ) (heads next : List ℕ) (c : Chained hash n heads next)
+    (only : (q : ℕ) → p q ≡ true → hash q ≡ b) where
   pub seek-begin : b < length heads → Seeking hash p b n (getD heads b 0)
   seek-begin h = record {
     below = head-le hash n heads next c p b (λ q lt e. only q e) h;
@@ -149,7 +168,8 @@ module _ (hash : ℕ → ℕ) (p : ℕ → Bool) (b n : ℕ) (heads next : List 
       let l = link-le hash n heads next c p b (λ q lt e. only q e) (at - 1) (omega arith) in
       omega arith
 
-  pub seek-on : (at : ℕ) → Seeking hash p b n at → (at ≡ 0 → ⊥) → p (at - 1) ≡ false → Seeking hash p b n (getD next (at - 1) 0)
+  pub seek-on : (at : ℕ) → Seeking hash p b n at → (at ≡ 0 → ⊥) → p (at - 1) ≡ false
+      → Seeking hash p b n (getD next (at - 1) 0)
   seek-on at s nz miss =
       let le = s .below in
       let lt : at - 1 < n = omega arith in
@@ -158,7 +178,9 @@ module _ (hash : ℕ → ℕ) (p : ℕ → Bool) (b n : ℕ) (heads next : List 
       let less = seek-less at s nz in
       record {
         below = omega arith;
-        rest = search-on hash n heads next c p b (λ q l f. only q f) (at - 1) lt hr miss ∙ ap (λ (k : ℕ). lastOf k p) e ∙ s .rest;
+        rest = search-on hash n heads next c p b (λ q l f. only q f) (at - 1) lt hr miss
+            ∙ ap (λ (k : ℕ). lastOf k p) e
+            ∙ s .rest;
         inside = λ r q. link-in hash n heads next c p b (λ q l f. only q f) (at - 1) r lt q ∙ hr;
       }
 
@@ -171,7 +193,8 @@ module _ (hash : ℕ → ℕ) (p : ℕ → Bool) (b n : ℕ) (heads next : List 
   seek-none at s z = sym (last-none p) ∙ ap (λ (k : ℕ). lastOf k p) (sym z) ∙ s .rest
 
 -- a link loop's turn: the chains with row i put in front of its bucket
-pub link-turn : (hash : ℕ → ℕ) (i : ℕ) (heads next : List ℕ) {heads′ next′ : List ℕ} {h : ℕ} → Chained hash i heads next → h ≡ hash i → h < length heads → i < length next →
+pub link-turn : (hash : ℕ → ℕ) (i : ℕ) (heads next : List ℕ) {heads′ next′ : List ℕ} {h : ℕ}
+    → Chained hash i heads next → h ≡ hash i → h < length heads → i < length next →
     heads′ ≡ set heads h (i + 1) → next′ ≡ set next i (getD heads h 0) → Chained hash (i + 1) heads′ next′
 link-turn hash i heads next {heads′} {next′} {h} k e l m p q = subst₂ (λ (x y : List ℕ). Chained hash (i + 1) x y)
     (sym (p ∙ ap (λ (b : ℕ). set heads b (i + 1)) e)) (sym (q ∙ ap (λ (b : ℕ). set next i (getD heads b 0)) e))

@@ -13,7 +13,8 @@ use lib.Dec.{eqb, ltb}
 use borrow.Author.Tests.{eq-eqb, eqb-true, ne-eqb, le-leb, lt-leb}
 use Rattle.model.specs.Records.{Span}
 use Rattle.model.specs.Text.{bytesOf, equalBytes, nameBytes, placed, sameIn}
-use Rattle.words.specs.Keys.{bears, hashFrom, hashName, idHash, isDirectOf, isId, isKey, keyHash, laneHash, nameHash}
+use Rattle.words.specs.Keys.{bears, hashFrom, hashName, idHash, isDirectOf, isId, isKey, keyHash}
+use Rattle.words.specs.Keys.{laneHash, nameHash}
 use Rattle.words.specs.Rows.{any, lastOf, nameAt, span}
 use Rattle.words.proofs.Chains.{any-last, last-any}
 use Rattle.words.proofs.Laws.{any-more}
@@ -31,7 +32,9 @@ pub equal-sound : (a b : List ℕ) → equalBytes a b ≡ true → a ≡ b
 equal-sound [] [] e = refl
 equal-sound [] (y ∷ ys) e = absurd (false≢true e)
 equal-sound (x ∷ xs) [] e = absurd (false≢true e)
-equal-sound (x ∷ xs) (y ∷ ys) e = ap₂ _∷_ (eqb-true x y (left-on (eqb x y) (equalBytes xs ys) e)) (equal-sound xs ys (right-on (eqb x y) (equalBytes xs ys) e))
+equal-sound (x ∷ xs) (y ∷ ys) e =
+    ap₂ _∷_ (eqb-true x y (left-on (eqb x y) (equalBytes xs ys) e))
+    (equal-sound xs ys (right-on (eqb x y) (equalBytes xs ys) e))
 
 pub equal-off : (a b : List ℕ) → (a ≡ b → ⊥) → equalBytes a b ≡ false
 equal-off a b h = go (equalBytes a b) refl
@@ -41,7 +44,8 @@ equal-off a b h = go (equalBytes a b) refl
     go false e = e
 
 -- a name's bytes, whatever its words are: as far as the text has them
-pub name-past : (text : List ℕ) (s n : ℕ) → length text < s → take 0 (drop (length text) text) ≡ bytesOf text (span s n)
+pub name-past : (text : List ℕ) (s n : ℕ) → length text < s
+    → take 0 (drop (length text) text) ≡ bytesOf text (span s n)
 unfolding bytesOf
 name-past text s n h = sym (ap (take n) (drop-of-length-le text (native.Mathlib.Nat.le-of-lt h)) ∙ none n)
   where
@@ -49,17 +53,22 @@ name-past text s n h = sym (ap (take n) (drop-of-length-le text (native.Mathlib.
     none zero = refl
     none (suc n) = refl
 
-pub name-cut : (text : List ℕ) (s n : ℕ) → s ≤ length text → length text < s + n → take (length text - s) (drop s text) ≡ bytesOf text (span s n)
+pub name-cut : (text : List ℕ) (s n : ℕ) → s ≤ length text → length text < s + n
+    → take (length text - s) (drop s text) ≡ bytesOf text (span s n)
 unfolding bytesOf
 name-cut text s n h l =
     let d = length-drop s text in
     take-all (length text - s) (drop s text) (omega arith) ∙ sym (take-all n (drop s text) (omega arith))
 
-pub name-any : (text : List ℕ) (s n : ℕ) → take (min (s + n) (length text) - min s (length text)) (drop (min s (length text)) text) ≡ bytesOf text (span s n)
+pub name-any : (text : List ℕ) (s n : ℕ)
+    → take (min (s + n) (length text) - min s (length text)) (drop (min s (length text)) text)
+    ≡ bytesOf text (span s n)
 unfolding bytesOf
 name-any text s n = go (ltb (length text) s) refl (ltb (length text) (s + n)) refl
   where
-    go : (b : Bool) → ltb (length text) s ≡ b → (d : Bool) → ltb (length text) (s + n) ≡ d → take (min (s + n) (length text) - min s (length text)) (drop (min s (length text)) text) ≡ bytesOf text (span s n)
+    go : (b : Bool) → ltb (length text) s ≡ b → (d : Bool) → ltb (length text) (s + n) ≡ d
+        → take (min (s + n) (length text) - min s (length text)) (drop (min s (length text)) text)
+        ≡ bytesOf text (span s n)
     go true e d f =
         let h : length text < s = borrow.Author.Tests.ltb-true (length text) s e in
         let x : min (s + n) (length text) - min s (length text) ≡ 0 = omega arith in
@@ -90,10 +99,13 @@ any-is i p = go (eqb (lastOf i p) 0) refl
     go false e = any-last i p (borrow.Author.Tests.eqb-false (lastOf i p) 0 e)
 
 -- a link loop's turn: whether two rows below i + 1 are alike
-pub met-more : (i : ℕ) (B p : ℕ → Bool) {r t : Bool} {f : ℕ} → r ≡ (t || not (eqb f 0)) → t ≡ any i B → f ≡ lastOf i p → B i ≡ any i p → r ≡ any (i + 1) B
-met-more i B p e h g k = e ∙ ap₂ (λ a (m : ℕ). a || not (eqb m 0)) h g ∙ sym (any-more i B ∙ ap (λ b. any i B || b) (k ∙ any-is i p))
+pub met-more : (i : ℕ) (B p : ℕ → Bool) {r t : Bool} {f : ℕ} → r ≡ (t || not (eqb f 0)) → t ≡ any i B
+    → f ≡ lastOf i p → B i ≡ any i p → r ≡ any (i + 1) B
+met-more i B p e h g k =
+    e ∙ ap₂ (λ a (m : ℕ). a || not (eqb m 0)) h g ∙ sym (any-more i B ∙ ap (λ b. any i B || b) (k ∙ any-is i p))
 
-pub hash-turn : (name : List ℕ) (i h : ℕ) → i < length name → hashFrom ((h * 31 + getD name i 0) % 16384) (drop (i + 1) name) ≡ hashFrom h (drop i name)
+pub hash-turn : (name : List ℕ) (i h : ℕ) → i < length name
+    → hashFrom ((h * 31 + getD name i 0) % 16384) (drop (i + 1) name) ≡ hashFrom h (drop i name)
 unfolding hashFrom
 hash-turn name i h lt = rw (add-one, drop-cons name i 0 lt)
 
@@ -106,7 +118,8 @@ pub same-hash : (text : List ℕ) (a b : Span) → sameIn text a b ≡ true → 
 unfolding sameIn hashName
 same-hash text a b e = ap (hashFrom 7) (equal-sound (bytesOf text a) (bytesOf text b) e)
 
-pub only-name : (text : List ℕ) (w k : ℕ) (ws : List ℕ) (n : Span) (q : ℕ) → bears text w k ws n q ≡ true → nameHash text w k ws q ≡ hashName text n
+pub only-name : (text : List ℕ) (w k : ℕ) (ws : List ℕ) (n : Span) (q : ℕ) → bears text w k ws n q ≡ true
+    → nameHash text w k ws q ≡ hashName text n
 unfolding bears nameHash
 only-name text w k ws n q e = same-hash text (nameAt w k ws q) n e
 
@@ -114,19 +127,25 @@ pub only-id : (lanes : List ℕ) (id q : ℕ) → isId lanes id q ≡ true → i
 unfolding isId idHash
 only-id lanes id q e = ap (λ (k : ℕ). k % 16384) (eqb-true (getD lanes (q * 10) 0) id e)
 
-pub only-key : (lanes owner : List ℕ) (road s k q : ℕ) → isKey lanes owner road s k q ≡ true → laneHash lanes owner q ≡ keyHash road s k
+pub only-key : (lanes owner : List ℕ) (road s k q : ℕ) → isKey lanes owner road s k q ≡ true
+    → laneHash lanes owner q ≡ keyHash road s k
 unfolding isKey laneHash
 only-key lanes owner road s k q e =
     let a = eqb (getD owner q 0) road in
     let b = eqb (getD lanes (q * 10 + 3) 0) s in
     let d = eqb (getD lanes (q * 10 + 4) 0) k in
     let ab : (a && b) ≡ true = left-on (a && b) d e in
-    ap (λ (h : ℕ). keyHash h (getD lanes (q * 10 + 3) 0) (getD lanes (q * 10 + 4) 0)) (eqb-true (getD owner q 0) road (left-on a b ab))
-    ∙ ap₂ (λ (x y : ℕ). keyHash road x y) (eqb-true (getD lanes (q * 10 + 3) 0) s (right-on a b ab)) (eqb-true (getD lanes (q * 10 + 4) 0) k (right-on (a && b) d e))
+    ap (λ (h : ℕ). keyHash h (getD lanes (q * 10 + 3) 0) (getD lanes (q * 10 + 4) 0))
+    (eqb-true (getD owner q 0) road (left-on a b ab))
+    ∙ ap₂ (λ (x y : ℕ). keyHash road x y) (eqb-true (getD lanes (q * 10 + 3) 0) s (right-on a b ab))
+    (eqb-true (getD lanes (q * 10 + 4) 0) k (right-on (a && b) d e))
 
-pub only-direct : (text junctions : List ℕ) (n : Span) (q : ℕ) → isDirectOf text junctions n q ≡ true → nameHash text 5 0 junctions q ≡ hashName text n
+pub only-direct : (text junctions : List ℕ) (n : Span) (q : ℕ) → isDirectOf text junctions n q ≡ true
+    → nameHash text 5 0 junctions q ≡ hashName text n
 unfolding isDirectOf nameHash
-only-direct text junctions n q e = same-hash text (nameAt 5 0 junctions q) n (right-on (eqb (getD junctions (q * 5 + 2) 0) 1) (sameIn text (nameAt 5 0 junctions q) n) e)
+only-direct text junctions n q e =
+    same-hash text (nameAt 5 0 junctions q) n
+    (right-on (eqb (getD junctions (q * 5 + 2) 0) 1) (sameIn text (nameAt 5 0 junctions q) n) e)
 
 pub row-in : (n w k i len : ℕ) → i < n → n * w ≤ len → k < w → i * w + k < len
 row-in n w k i len h l m = let a = row-fits n w i h in omega arith
@@ -141,21 +160,32 @@ rows-le i n w len h l = native.Mathlib.Nat.le-trans (native.Mathlib.Nat.mul-le-m
 module _ (lanes owner : List ℕ) (w s k r : ℕ) where
   pub key-other-road : (getD owner r 0 ≡ w → ⊥) → false ≡ isKey lanes owner w s k r
   unfolding isKey
-  key-other-road n = sym (ap (λ b. b && eqb (getD lanes (r * 10 + 3) 0) s && eqb (getD lanes (r * 10 + 4) 0) k) (ne-eqb (getD owner r 0) w n))
+  key-other-road n =
+      sym (ap (λ b. b && eqb (getD lanes (r * 10 + 3) 0) s && eqb (getD lanes (r * 10 + 4) 0) k)
+      (ne-eqb (getD owner r 0) w n))
 
   pub key-other-section : getD owner r 0 ≡ w → (getD lanes (r * 10 + 3) 0 ≡ s → ⊥) → false ≡ isKey lanes owner w s k r
   unfolding isKey
-  key-other-section e n = sym (ap₂ (λ a b. a && b && eqb (getD lanes (r * 10 + 4) 0) k) (eq-eqb (getD owner r 0) w e) (ne-eqb (getD lanes (r * 10 + 3) 0) s n))
+  key-other-section e n =
+      sym (ap₂ (λ a b. a && b && eqb (getD lanes (r * 10 + 4) 0) k) (eq-eqb (getD owner r 0) w e)
+      (ne-eqb (getD lanes (r * 10 + 3) 0) s n))
 
-  pub key-number : getD owner r 0 ≡ w → getD lanes (r * 10 + 3) 0 ≡ s → eqb (getD lanes (r * 10 + 4) 0) k ≡ isKey lanes owner w s k r
+  pub key-number : getD owner r 0 ≡ w → getD lanes (r * 10 + 3) 0 ≡ s
+      → eqb (getD lanes (r * 10 + 4) 0) k ≡ isKey lanes owner w s k r
   unfolding isKey
-  key-number e f = sym (ap₂ (λ a b. a && b && eqb (getD lanes (r * 10 + 4) 0) k) (eq-eqb (getD owner r 0) w e) (eq-eqb (getD lanes (r * 10 + 3) 0) s f))
+  key-number e f =
+      sym (ap₂ (λ a b. a && b && eqb (getD lanes (r * 10 + 4) 0) k) (eq-eqb (getD owner r 0) w e)
+      (eq-eqb (getD lanes (r * 10 + 3) 0) s f))
 
 -- ---- a name's part of the text
-pub name-inside : (text : List ℕ) (s n : ℕ) → s + n ≤ length text → take (s + n - s) (drop s text) ≡ nameBytes text (span s n)
+pub name-inside : (text : List ℕ) (s n : ℕ) → s + n ≤ length text
+    → take (s + n - s) (drop s text) ≡ nameBytes text (span s n)
 unfolding nameBytes placed bytesOf
-name-inside text s n h = ap (λ (k : ℕ). take k (drop s text)) (let e : s + n - s ≡ n = omega arith in e) ∙ sym (ap (λ b. cond b (take n (drop s text)) []) (le-leb (s + n) (length text) h))
+name-inside text s n h =
+    ap (λ (k : ℕ). take k (drop s text)) (let e : s + n - s ≡ n = omega arith in e)
+    ∙ sym (ap (λ b. cond b (take n (drop s text)) []) (le-leb (s + n) (length text) h))
 
-pub name-outside : (text : List ℕ) (s n : ℕ) → length text < s + n → take (0 - 0) (drop 0 text) ≡ nameBytes text (span s n)
+pub name-outside : (text : List ℕ) (s n : ℕ) → length text < s + n
+    → take (0 - 0) (drop 0 text) ≡ nameBytes text (span s n)
 unfolding nameBytes placed
 name-outside text s n h = sym (ap (λ b. cond b (bytesOf text (span s n)) []) (lt-leb (s + n) (length text) h))

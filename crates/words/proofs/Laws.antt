@@ -1,10 +1,12 @@
--- The laws of the definitions in specs/Rows.antt: scans, totals and lists by their numbers, and what a writer has put.
+-- The laws of the definitions in specs/Rows.antt: scans, totals and lists by their numbers, and what a writer
+-- has put.
 use Prim.Native.Nat.{ℕ, zero, suc, _+_, _<_, _≤_}
 use mathlib.Core.Path.{_≡_, refl, sym, ap, ap₂, _∙_, subst}
 use mathlib.Core.Logic.{⊎-elim}
 use mathlib.Core.List.{List, [], _∷_, _++_, append-assoc, map, zipWith}
 use mathlib.Core.Bool.{Bool, true, false, _||_}
-use native.Mathlib.Nat.{add-assoc, le-of-suc-le-suc, not-suc-le-zero, eq-or-lt-of-le, le-refl, le-trans, le-step, zero-add}
+use native.Mathlib.Nat.{add-assoc, le-of-suc-le-suc, not-suc-le-zero, eq-or-lt-of-le, le-refl, le-trans}
+use native.Mathlib.Nat.{le-step, zero-add}
 use native.Mathlib.Numerals.{add-one}
 use native.Mathlib.Omega.{arith}
 use lib.ListN.{length, getD, take, drop, length-append, length-take, length-drop, List·getD-append}
@@ -48,13 +50,15 @@ pub any-hit : (n i : ℕ) (p : ℕ → Bool) → i < n → p i ≡ true → any 
 unfolding any
 any-hit zero i p h e = absurd (not-suc-le-zero h)
 any-hit (suc n) i p h e =
-    ⊎-elim (λ q. or-right (any n p) (p n) (ap p (sym q) ∙ e)) (λ lt. or-left (any n p) (p n) (any-hit n i p lt e)) (eq-or-lt-of-le (le-of-suc-le-suc h))
+    ⊎-elim (λ q. or-right (any n p) (p n) (ap p (sym q) ∙ e))
+    (λ lt. or-left (any n p) (p n) (any-hit n i p lt e)) (eq-or-lt-of-le (le-of-suc-le-suc h))
 
 pub any-at : (n i : ℕ) (p : ℕ → Bool) → any n p ≡ false → i < n → p i ≡ false
 unfolding any
 any-at zero i p e h = absurd (not-suc-le-zero h)
 any-at (suc n) i p e h =
-    ⊎-elim (λ q. ap p q ∙ or-false-right (any n p) (p n) e) (λ lt. any-at n i p (or-false-left (any n p) (p n) e) lt) (eq-or-lt-of-le (le-of-suc-le-suc h))
+    ⊎-elim (λ q. ap p q ∙ or-false-right (any n p) (p n) e)
+    (λ lt. any-at n i p (or-false-left (any n p) (p n) e) lt) (eq-or-lt-of-le (le-of-suc-le-suc h))
 
 pub any-all : (n : ℕ) (p : ℕ → Bool) → ((i : ℕ) → i < n → p i ≡ false) → any n p ≡ false
 unfolding any
@@ -81,13 +85,15 @@ total-more n f = rw add-one
 pub total-same : (n : ℕ) (f g : ℕ → ℕ) → ((i : ℕ) → i < n → f i ≡ g i) → total n f ≡ total n g
 unfolding total
 total-same zero f g h = refl
-total-same (suc n) f g h = let a = total-same n f g (λ i lt. h i (le-step lt)) in let b = h n (le-refl (suc n)) in omega arith
+total-same (suc n) f g h =
+    let a = total-same n f g (λ i lt. h i (le-step lt)) in let b = h n (le-refl (suc n)) in omega arith
 
 pub total-le : (n m : ℕ) (f : ℕ → ℕ) → n ≤ m → total n f ≤ total m f
 unfolding total
 total-le n zero f h = let e : n ≡ 0 = omega arith in rw e (le-refl 0)
 total-le n (suc m) f h =
-    ⊎-elim (λ q. subst (λ (k : ℕ). total k f ≤ total m f + f m) (sym q) (le-refl (total m f + f m))) (λ lt. let ih = total-le n m f (le-of-suc-le-suc lt) in omega arith) (eq-or-lt-of-le h)
+    ⊎-elim (λ q. subst (λ (k : ℕ). total k f ≤ total m f + f m) (sym q) (le-refl (total m f + f m)))
+    (λ lt. let ih = total-le n m f (le-of-suc-le-suc lt) in omega arith) (eq-or-lt-of-le h)
 
 -- ---- tab
 module _ {ℓ} {A : Type ℓ} where
@@ -106,7 +112,9 @@ module _ {ℓ} {A : Type ℓ} where
   tab-at (suc n) f i d h =
       ⊎-elim
       (λ q. rw q (getD-at (tab n f) (f n) [] d n (tab-length n f)))
-      (λ lt. List·getD-append (tab n f) (f n ∷ []) d i (subst (λ (k : ℕ). i < k) (sym (tab-length n f)) lt) ∙ tab-at n f i d lt)
+      (λ lt.
+      List·getD-append (tab n f) (f n ∷ []) d i (subst (λ (k : ℕ). i < k) (sym (tab-length n f)) lt)
+      ∙ tab-at n f i d lt)
       (eq-or-lt-of-le (le-of-suc-le-suc h))
 
   -- a table is the tab of its rows
@@ -128,36 +136,43 @@ module _ {A B : Type 0} (g : A → B) where
 
 -- zipWith of two tabs
 module _ {A B C : Type 0} (g : A → B → C) where
-  zip-snoc : (xs : List A) (ys : List B) (x : A) (y : B) → length xs ≡ length ys → zipWith g (xs ++ (x ∷ [])) (ys ++ (y ∷ [])) ≡ zipWith g xs ys ++ (g x y ∷ [])
+  zip-snoc : (xs : List A) (ys : List B) (x : A) (y : B) → length xs ≡ length ys
+      → zipWith g (xs ++ (x ∷ [])) (ys ++ (y ∷ [])) ≡ zipWith g xs ys ++ (g x y ∷ [])
   unfolding zipWith
   zip-snoc [] [] x y e = refl
   zip-snoc [] (b ∷ ys) x y e = absurd (let z : 0 ≡ suc (length ys) = e in omega arith)
   zip-snoc (a ∷ xs) [] x y e = absurd (let z : suc (length xs) ≡ 0 = e in omega arith)
-  zip-snoc (a ∷ xs) (b ∷ ys) x y e = rw (zip-snoc xs ys x y (let z : suc (length xs) ≡ suc (length ys) = e in omega arith))
+  zip-snoc (a ∷ xs) (b ∷ ys) x y e =
+      rw (zip-snoc xs ys x y (let z : suc (length xs) ≡ suc (length ys) = e in omega arith))
 
   pub zip-tab : (n : ℕ) (a : ℕ → A) (b : ℕ → B) → zipWith g (tab n a) (tab n b) ≡ tab n (λ i. g (a i) (b i))
   unfolding zipWith tab
   zip-tab zero a b = refl
-  zip-tab (suc n) a b = rw (zip-snoc (tab n a) (tab n b) (a n) (b n) (tab-length n a ∙ sym (tab-length n b)), zip-tab n a b)
+  zip-tab (suc n) a b =
+      rw (zip-snoc (tab n a) (tab n b) (a n) (b n) (tab-length n a ∙ sym (tab-length n b)), zip-tab n a b)
 
 -- ---- outputs
 module _ {B : Type 0} where
-  pub spliced-length : (at : ℕ) (row out : List B) → at + length row ≤ length out → length (spliced at row out) ≡ length out
+  pub spliced-length : (at : ℕ) (row out : List B) → at + length row ≤ length out
+      → length (spliced at row out) ≡ length out
   unfolding spliced
   spliced-length at row out h =
       simp (length-append, length-take, length-drop) (omega arith)
 
   -- the law of every loop that writes rows: a row put after the content is content too
-  pub put-written : (content row out : List B) (at : ℕ) → at ≡ length content → at + length row ≤ length out → spliced at row (written content out) ≡ written (content ++ row) out
+  pub put-written : (content row out : List B) (at : ℕ) → at ≡ length content → at + length row ≤ length out
+      → spliced at row (written content out) ≡ written (content ++ row) out
   unfolding spliced written
   put-written content row out at e h =
-      let t : take at (content ++ drop (length content) out) ≡ content = take-at content (drop (length content) out) at (sym e) in
+      let t : take at (content ++ drop (length content) out) ≡ content =
+      take-at content (drop (length content) out) at (sym e) in
       let d : drop (at + length row) (content ++ drop (length content) out) ≡ drop (length (content ++ row)) out =
       rw (e, drop-append-add, drop-drop, length-append)
       in
       rw (t, d)
 
-  pub written-length : (content out : List B) → length content ≤ length out → length (written content out) ≡ length out
+  pub written-length : (content out : List B) → length content ≤ length out
+      → length (written content out) ≡ length out
   unfolding written
   written-length content out h = simp (length-append, length-drop) (omega arith)
 
@@ -166,9 +181,14 @@ module _ {B : Type 0} where
   written-none out = refl
 
   -- a loop's turn: what `put` leaves is the output with one more row written
-  pub put-step : (content row out₀ : List B) {content′ out out′ : List B} {at : ℕ} → out ≡ written content out₀ → out′ ≡ spliced at row out → at ≡ length content → content′ ≡ content ++ row → at + length row ≤ length out₀ → out′ ≡ written content′ out₀
+  pub put-step : (content row out₀ : List B) {content′ out out′ : List B} {at : ℕ} → out ≡ written content out₀
+      → out′ ≡ spliced at row out → at ≡ length content → content′ ≡ content ++ row
+      → at + length row ≤ length out₀ → out′ ≡ written content′ out₀
   put-step content row out₀ {content′} {out} {out′} {at} e f g h fits =
-      f ∙ ap (λ (o : List B). spliced at row o) e ∙ put-written content row out₀ at g fits ∙ ap (λ (w : List B). written w out₀) (sym h)
+      f
+      ∙ ap (λ (o : List B). spliced at row o) e
+      ∙ put-written content row out₀ at g fits
+      ∙ ap (λ (w : List B). written w out₀) (sym h)
 
 -- two tabs that agree below n
 module _ {A : Type 0} where
@@ -179,18 +199,24 @@ module _ {A : Type 0} where
 
 module _ {B : Type 0} where
   -- two rows put one after the other are one row
-  pub spliced-twice : (at : ℕ) (xs ys out : List B) → at + length xs + length ys ≤ length out → spliced (at + length xs) ys (spliced at xs out) ≡ spliced at (xs ++ ys) out
+  pub spliced-twice : (at : ℕ) (xs ys out : List B) → at + length xs + length ys ≤ length out
+      → spliced (at + length xs) ys (spliced at xs out) ≡ spliced at (xs ++ ys) out
   unfolding spliced
   spliced-twice at xs ys out h =
       let head = take at out ++ xs in
       let rest = drop (at + length xs) out in
-      let n : length head ≡ at + length xs = length-append (take at out) xs ∙ ap (λ (k : ℕ). k + length xs) (length-take-le at out (omega arith)) in
+      let n : length head ≡ at + length xs =
+      length-append (take at out) xs
+      ∙ ap (λ (k : ℕ). k + length xs) (length-take-le at out (omega arith)) in
       let t : take (at + length xs) (head ++ rest) ≡ head = take-at head rest (at + length xs) n in
       let d : drop (at + length xs + length ys) (head ++ rest) ≡ drop (at + length xs + length ys) out =
-      sym (drop-drop (length ys) (at + length xs) (head ++ rest)) ∙ ap (λ (l : List B). drop (length ys) l) (drop-at head rest (at + length xs) n) ∙ drop-drop (length ys) (at + length xs) out
+      sym (drop-drop (length ys) (at + length xs) (head ++ rest))
+      ∙ ap (λ (l : List B). drop (length ys) l) (drop-at head rest (at + length xs) n)
+      ∙ drop-drop (length ys) (at + length xs) out
       in
       ap₂ (λ (a b : List B). a ++ ys ++ b) t d
-      ∙ ap₂ (λ (a : List B) (k : ℕ). a ++ drop k out) (append-assoc (take at out) xs ys) (add-assoc at (length xs) (length ys) ∙ ap (λ (k : ℕ). at + k) (sym (length-append xs ys)))
+      ∙ ap₂ (λ (a : List B) (k : ℕ). a ++ drop k out) (append-assoc (take at out) xs ys)
+      (add-assoc at (length xs) (length ys) ∙ ap (λ (k : ℕ). at + k) (sym (length-append xs ys)))
 
 pub map-at : (f : ℕ → ℕ) (l : List ℕ) (k : ℕ) → k < length l → getD (map f l) k 0 ≡ f (getD l k 0)
 map-at f [] k h = absurd (not-suc-le-zero h)

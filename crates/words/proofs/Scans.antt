@@ -4,7 +4,8 @@ use mathlib.Core.Path.{_≡_, refl, sym, ap, ap₂, _∙_, subst}
 use mathlib.Core.Logic.{⊎-elim}
 use mathlib.Core.List.{List, [], _∷_, _++_, map}
 use mathlib.Core.Bool.{Bool, true, false, not, _&&_, _||_}
-use native.Mathlib.Nat.{le-of-suc-le-suc, not-suc-le-zero, eq-or-lt-of-le, le-refl, le-step, suc-mul, mul-le-mul-right}
+use native.Mathlib.Nat.{le-of-suc-le-suc, not-suc-le-zero, eq-or-lt-of-le, le-refl, le-step, suc-mul}
+use native.Mathlib.Nat.{mul-le-mul-right}
 use native.Mathlib.Numerals.{add-one}
 use lib.ListN.{length, getD, take, drop}
 use lib.Seq.{getD-take, ext-getD}
@@ -98,9 +99,12 @@ module _ {A : Type 0} where
       assoc true b c = refl
       assoc false b c = refl
 
-  distinct-snoc : (q : A → A → Bool) (xs : List A) (y : A) → distinct q (xs ++ (y ∷ [])) ≡ (distinct q xs && not (some? (λ x. q x y) xs))
+  distinct-snoc : (q : A → A → Bool) (xs : List A) (y : A)
+      → distinct q (xs ++ (y ∷ [])) ≡ (distinct q xs && not (some? (λ x. q x y) xs))
   distinct-snoc q [] y = refl
-  distinct-snoc q (x ∷ xs) y = ap₂ (λ a b. not a && b) (some-snoc (q x) xs y) (distinct-snoc q xs y) ∙ go (some? (q x) xs) (q x y) (distinct q xs) (some? (λ z. q z y) xs)
+  distinct-snoc q (x ∷ xs) y =
+      ap₂ (λ a b. not a && b) (some-snoc (q x) xs y) (distinct-snoc q xs y)
+      ∙ go (some? (q x) xs) (q x y) (distinct q xs) (some? (λ z. q z y) xs)
     where
       go : (a b d e : Bool) → (not (a || b) && (d && not e)) ≡ ((not a && d) && not (b || e))
       go true b d e = refl
@@ -118,7 +122,8 @@ module _ {A : Type 0} where
   some-tab p zero f = refl
   some-tab p (suc n) f = some-snoc p (tab n f) (f n) ∙ ap (λ b. b || p (f n)) (some-tab p n f)
 
-  pub distinct-tab : (q : A → A → Bool) (n : ℕ) (f : ℕ → A) → distinct q (tab n f) ≡ not (any n (λ i. any i (λ j. q (f j) (f i))))
+  pub distinct-tab : (q : A → A → Bool) (n : ℕ) (f : ℕ → A)
+      → distinct q (tab n f) ≡ not (any n (λ i. any i (λ j. q (f j) (f i))))
   unfolding any tab
   distinct-tab q zero f = refl
   distinct-tab q (suc n) f =
@@ -148,11 +153,20 @@ Local w {B} p = (l : List ℕ) → p (take w l) ≡ p l
 
 module _ (w : ℕ) (ws : List ℕ) where
   pub every-rows : (p : List ℕ → Bool) → Local w p → every p (table w ws) ≡ all (length ws / w) (λ i. p (from w ws i))
-  every-rows p h = ap (every p) (table-tab w ws) ∙ every-tab p (length ws / w) (λ i. take w (drop (i * w) ws)) ∙ all-same (length ws / w) (λ i. p (take w (drop (i * w) ws))) (λ i. p (drop (i * w) ws)) (λ i lt. h (drop (i * w) ws))
+  every-rows p h =
+      ap (every p) (table-tab w ws)
+      ∙ every-tab p (length ws / w) (λ i. take w (drop (i * w) ws))
+      ∙ all-same (length ws / w) (λ i. p (take w (drop (i * w) ws))) (λ i. p (drop (i * w) ws))
+      (λ i lt. h (drop (i * w) ws))
 
   -- the rows as records
-  pub map-rows : {R : Type 0} (f : List ℕ → R) → Local w f → map f (table w ws) ≡ tab (length ws / w) (λ i. f (from w ws i))
-  map-rows f h = ap (map f) (table-tab w ws) ∙ map-tab f (length ws / w) (λ i. take w (drop (i * w) ws)) ∙ tab-same (length ws / w) (λ i. f (take w (drop (i * w) ws))) (λ i. f (drop (i * w) ws)) (λ i lt. h (drop (i * w) ws))
+  pub map-rows : {R : Type 0} (f : List ℕ → R) → Local w f
+      → map f (table w ws) ≡ tab (length ws / w) (λ i. f (from w ws i))
+  map-rows f h =
+      ap (map f) (table-tab w ws)
+      ∙ map-tab f (length ws / w) (λ i. take w (drop (i * w) ws))
+      ∙ tab-same (length ws / w) (λ i. f (take w (drop (i * w) ws))) (λ i. f (drop (i * w) ws))
+      (λ i lt. h (drop (i * w) ws))
 
 -- the words of a row that code reads
 pub row-fits : (n w i : ℕ) → i < n → i * w + w ≤ n * w

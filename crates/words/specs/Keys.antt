@@ -1,4 +1,5 @@
--- The keys that rows are found by, and the bucket that a key lies in. A bucket is no part of what a call promises. Definitions only.
+-- The keys that rows are found by, and the bucket that a key lies in. A bucket is no part of what a call
+-- promises. Definitions only.
 use Prim.Native.Nat.{ℕ, zero, suc, _+_, _*_, _%_}
 use mathlib.Core.List.{List, [], _∷_}
 use mathlib.Core.Bool.{Bool, _&&_}
@@ -47,13 +48,15 @@ unfoldable pub keyHash : ℕ → ℕ → ℕ → ℕ
 keyHash road s k = (road * 1009 + s * 61 + k) % buckets
 
 unfoldable pub isKey : (lanes owner : List ℕ) → ℕ → ℕ → ℕ → ℕ → Bool
-isKey lanes owner road s k q = eqb (getD owner q 0) road && eqb (getD lanes (q * 10 + 3) 0) s && eqb (getD lanes (q * 10 + 4) 0) k
+isKey lanes owner road s k q =
+    eqb (getD owner q 0) road && eqb (getD lanes (q * 10 + 3) 0) s && eqb (getD lanes (q * 10 + 4) 0) k
 
 unfoldable pub laneHash : (lanes owner : List ℕ) → ℕ → ℕ
 laneHash lanes owner q = keyHash (getD owner q 0) (getD lanes (q * 10 + 3) 0) (getD lanes (q * 10 + 4) 0)
 
 unfoldable pub keyBefore : (lanes owner : List ℕ) → ℕ → Bool
-keyBefore lanes owner r = any r (isKey lanes owner (getD owner r 0) (getD lanes (r * 10 + 3) 0) (getD lanes (r * 10 + 4) 0))
+keyBefore lanes owner r =
+    any r (isKey lanes owner (getD owner r 0) (getD lanes (r * 10 + 3) 0) (getD lanes (r * 10 + 4) 0))
 
 -- ---- a direct junction of a name
 unfoldable pub isDirectOf : List ℕ → List ℕ → Span → ℕ → Bool

@@ -18,13 +18,66 @@ admitted-requires : tie.Need-admitted-requires
 admitted-requires c κs = search needs
 
 returns : tie.Need-returns
-returns c = let s = (c .before .before .before .before .before .before .before .before .before .before .before .before .before .before .before) in let t = (allTables (s .args .text .now) (s .args .roads .now) (s .args .sections .now) (s .args .junctions .now) (s .args .connections .now) (s .args .pairs .now) (s .args .lanes .now) (s .args .edges .now)) in let no : refusalOf (c .before .before .first-verdict .result) ≡ none → ⊥ = is-some (refusalOf (c .before .before .first-verdict .result)) (sym (c .before .admitted .ensures) ∙ not-true _ (c .if1 .taken)) in (gap-early t (s .args .offsets .now) (s .args .ids .now) (refusalOf (c .before .before .first-verdict .result)) no (c .before .before .first-verdict .ensures), λ e. absurd (no e))
+returns c =
+    let after-admitted : tie.After-admitted = search in
+    let after-first-verdict : tie.After-first-verdict = search in
+    let after-shared-slice-known6 = after-first-verdict .before .before .before .before .before .before .before in
+    let start = after-shared-slice-known6 .before .before .before .before .before .before in
+    let t = (allTables (start .args .text .now) (start .args .roads .now) (start .args .sections .now)
+    (start .args .junctions .now) (start .args .connections .now) (start .args .pairs .now)
+    (start .args .lanes .now) (start .args .edges .now)) in
+    let no : refusalOf (after-first-verdict .first-verdict .result) ≡ none → ⊥ =
+    is-some (refusalOf (after-first-verdict .first-verdict .result))
+    (sym (after-admitted .admitted .ensures) ∙ not-true _ (c .if1 .taken)) in (
+      gap-early t (start .args .offsets .now) (start .args .ids .now)
+          (refusalOf (after-first-verdict .first-verdict .result)) no
+          (after-first-verdict .first-verdict .ensures),
+      λ e. absurd (no e),
+    )
 
 link-ids-requires : tie.Need-link-ids-requires
-link-ids-requires c κs = let s = (c .before .before .before .before .before .before .before .before .before .before .before .before .before .before .before .before .before) in let t = (allTables (s .args .text .now) (s .args .roads .now) (s .args .sections .now) (s .args .junctions .now) (s .args .connections .now) (s .args .pairs .now) (s .args .lanes .now) (s .args .edges .now)) in let adm = is-none (refusalOf (c .before .before .before .before .first-verdict .result)) (sym (c .before .before .before .admitted .ensures) ∙ not-false _ (c .before .before .if1 .left)) in let first = sym adm ∙ c .before .before .before .before .first-verdict .ensures in let o = s .args .offsets .now in let ids = s .args .ids .now in let k = gap-kept t o ids first in ((rows-in (length (s .args .lanes .now)) 10, k .few, s .pre .0, s .pre .1), s .pre .2)
+link-ids-requires c κs =
+    let else1 : tie.Else1 = search in
+    let after-admitted : tie.After-admitted = search in
+    let after-first-verdict : tie.After-first-verdict = search in
+    let after-shared-slice-known6 = after-first-verdict .before .before .before .before .before .before .before in
+    let start = after-shared-slice-known6 .before .before .before .before .before .before in
+    let lanes = start .args .lanes .now in
+    let t = (allTables (start .args .text .now) (start .args .roads .now) (start .args .sections .now)
+    (start .args .junctions .now) (start .args .connections .now) (start .args .pairs .now) lanes
+    (start .args .edges .now)) in
+    let adm = is-none (refusalOf (after-first-verdict .first-verdict .result))
+    (sym (after-admitted .admitted .ensures) ∙ not-false _ (else1 .if1 .left)) in
+    let first = sym adm ∙ after-first-verdict .first-verdict .ensures in
+    let o = start .args .offsets .now in
+    let ids = start .args .ids .now in
+    let k = gap-kept t o ids first in
+    ((rows-in (length lanes) 10, k .few, start .pre .0, start .pre .1), start .pre .2)
 
 lists-fit-requires : tie.Need-lists-fit-requires
-lists-fit-requires c κs = let s = (c .before .before .before .before .before .before .before .before .before .before .before .before .before .before .before .before .before .before .before .before .before .before .before .before) in let t = (allTables (s .args .text .now) (s .args .roads .now) (s .args .sections .now) (s .args .junctions .now) (s .args .connections .now) (s .args .pairs .now) (s .args .lanes .now) (s .args .edges .now)) in let adm = is-none (refusalOf (c .before .before .before .before .before .before .before .before .before .before .before .first-verdict .result)) (sym (c .before .before .before .before .before .before .before .before .before .before .admitted .ensures) ∙ not-false _ (c .before .before .before .before .before .before .before .before .before .if1 .left)) in let first = sym adm ∙ c .before .before .before .before .before .before .before .before .before .before .before .first-verdict .ensures in let o = s .args .offsets .now in let ids = s .args .ids .now in let k = gap-kept t o ids first in ((k .few, c .before .before .before .before .before .before .link-ids .kept .1 .1 .0 ∙ s .pre .0, c .before .before .before .before .before .before .link-ids .kept .1 .1 .1 .0 ∙ s .pre .1), c .before .before .before .before .before .before .link-ids .ensures .1)
+lists-fit-requires c κs =
+    let after-link-ids : tie.After-link-ids = search in
+    let else1 : tie.Else1 = search in
+    let after-admitted : tie.After-admitted = search in
+    let after-first-verdict : tie.After-first-verdict = search in
+    let after-shared-slice-known6 = after-first-verdict .before .before .before .before .before .before .before in
+    let start = after-shared-slice-known6 .before .before .before .before .before .before in
+    let t = (allTables (start .args .text .now) (start .args .roads .now) (start .args .sections .now)
+    (start .args .junctions .now) (start .args .connections .now) (start .args .pairs .now)
+    (start .args .lanes .now) (start .args .edges .now)) in
+    let adm = is-none (refusalOf (after-first-verdict .first-verdict .result))
+    (sym (after-admitted .admitted .ensures) ∙ not-false _ (else1 .if1 .left)) in
+    let first = sym adm ∙ after-first-verdict .first-verdict .ensures in
+    let o = start .args .offsets .now in
+    let ids = start .args .ids .now in
+    let k = gap-kept t o ids first in (
+      (
+        k .few,
+        after-link-ids .link-ids .kept .1 .1 .0 ∙ start .pre .0,
+        after-link-ids .link-ids .kept .1 .1 .1 .0 ∙ start .pre .1,
+      ),
+      after-link-ids .link-ids .ensures .1,
+    )
 
 same-length : tie.Need-same-length
 same-length c = search needs
@@ -33,7 +86,22 @@ same-length-2 : tie.Need-same-length-2
 same-length-2 c = search needs
 
 returns-2 : tie.Need-returns-2
-returns-2 c = let s = (c .before .before .before .before .before .before .before .before .before .before .before .before .before .before .before .before .before .before .before .before .before .before .before .before .before .before) in let t = (allTables (s .args .text .now) (s .args .roads .now) (s .args .sections .now) (s .args .junctions .now) (s .args .connections .now) (s .args .pairs .now) (s .args .lanes .now) (s .args .edges .now)) in let adm = is-none (refusalOf (c .before .before .before .before .before .before .before .before .before .before .before .before .before .first-verdict .result)) (sym (c .before .before .before .before .before .before .before .before .before .before .before .before .admitted .ensures) ∙ not-false _ (c .before .before .before .before .before .before .before .before .before .before .before .if1 .left)) in let first = sym adm ∙ c .before .before .before .before .before .before .before .before .before .before .before .before .before .first-verdict .ensures in let o = s .args .offsets .now in let ids = s .args .ids .now in (gap-11 t o ids first (sym (c .before .lists-fit .ensures) ∙ not-true _ (c .if2 .taken)), refused 11)
+returns-2 c =
+    let after-lists-fit : tie.After-lists-fit = search in
+    let else1 : tie.Else1 = search in
+    let after-admitted : tie.After-admitted = search in
+    let after-first-verdict : tie.After-first-verdict = search in
+    let after-shared-slice-known6 = after-first-verdict .before .before .before .before .before .before .before in
+    let start = after-shared-slice-known6 .before .before .before .before .before .before in
+    let t = (allTables (start .args .text .now) (start .args .roads .now) (start .args .sections .now)
+    (start .args .junctions .now) (start .args .connections .now) (start .args .pairs .now)
+    (start .args .lanes .now) (start .args .edges .now)) in
+    let adm = is-none (refusalOf (after-first-verdict .first-verdict .result))
+    (sym (after-admitted .admitted .ensures) ∙ not-false _ (else1 .if1 .left)) in
+    let first = sym adm ∙ after-first-verdict .first-verdict .ensures in
+    let o = start .args .offsets .now in
+    let ids = start .args .ids .now in
+    (gap-11 t o ids first (sym (after-lists-fit .lists-fit .ensures) ∙ not-true _ (c .if2 .taken)), refused 11)
 
 same-length-3 : tie.Need-same-length-3
 same-length-3 c = search needs
@@ -42,7 +110,25 @@ same-length-4 : tie.Need-same-length-4
 same-length-4 c = search needs
 
 returns-3 : tie.Need-returns-3
-returns-3 c = let s = (c .before .before .before .before .before .before .before .before .before .before .before .before .before .before .before .before .before .before .before .before .before .before .before .before .before .before) in let t = (allTables (s .args .text .now) (s .args .roads .now) (s .args .sections .now) (s .args .junctions .now) (s .args .connections .now) (s .args .pairs .now) (s .args .lanes .now) (s .args .edges .now)) in let adm = is-none (refusalOf (c .before .before .before .before .before .before .before .before .before .before .before .before .before .first-verdict .result)) (sym (c .before .before .before .before .before .before .before .before .before .before .before .before .admitted .ensures) ∙ not-false _ (c .before .before .before .before .before .before .before .before .before .before .before .if1 .left)) in let first = sym adm ∙ c .before .before .before .before .before .before .before .before .before .before .before .before .before .first-verdict .ensures in let o = s .args .offsets .now in let ids = s .args .ids .now in (gap-0 t o ids first (sym (c .before .lists-fit .ensures) ∙ not-false _ (c .if2 .left)), λ e. c .before .before .before .before .before .before .before .before .link-ids .ensures .1)
+returns-3 c =
+    let after-lists-fit : tie.After-lists-fit = search in
+    let after-link-ids : tie.After-link-ids = search in
+    let else1 : tie.Else1 = search in
+    let after-admitted : tie.After-admitted = search in
+    let after-first-verdict : tie.After-first-verdict = search in
+    let after-shared-slice-known6 = after-first-verdict .before .before .before .before .before .before .before in
+    let start = after-shared-slice-known6 .before .before .before .before .before .before in
+    let t = (allTables (start .args .text .now) (start .args .roads .now) (start .args .sections .now)
+    (start .args .junctions .now) (start .args .connections .now) (start .args .pairs .now)
+    (start .args .lanes .now) (start .args .edges .now)) in
+    let adm = is-none (refusalOf (after-first-verdict .first-verdict .result))
+    (sym (after-admitted .admitted .ensures) ∙ not-false _ (else1 .if1 .left)) in
+    let first = sym adm ∙ after-first-verdict .first-verdict .ensures in
+    let o = start .args .offsets .now in
+    let ids = start .args .ids .now in (
+      gap-0 t o ids first (sym (after-lists-fit .lists-fit .ensures) ∙ not-false _ (c .if2 .left)),
+      λ e. after-link-ids .link-ids .ensures .1,
+    )
 
 pub gap-verdict-spec : {M : Type 1} → statement M
 gap-verdict-spec =

@@ -12,34 +12,106 @@ use Rattle.gaps.proofs.call.write_rows.Statement.{statement}
 use Rattle.gaps.proofs.call.write_rows.Tie as tie
 
 mul-if1 : tie.Need-mul-if1
-mul-if1 c = omega (arith, c .before .before .before .before .before .before .before .pre .0 .4)
+mul-if1 c =
+    let start : tie.Start = search in
+    omega (arith, start .pre .0 .4)
 
 all-rows-requires : tie.Need-all-rows-requires
-all-rows-requires c κs = let s = (c .before .before .before .before .before .before .before .before .before) in (s .pre .0, (s .pre .1 .0, (s .pre .1 .1, λ w. let m = total-most (s .args .lanes .now) (s .args .edges .now) (s .args .offsets .now) (s .args .ids .now) (s .pre .1 .1) in omega (arith, c .before .if1 .taken))))
+all-rows-requires c κs =
+    let then1 : tie.Then1 = search in
+    let start : tie.Start = search in (
+      start .pre .0,
+      (
+        start .pre .1 .0,
+        (
+          start .pre .1 .1,
+          λ w.
+              let m = total-most (start .args .lanes .now) (start .args .edges .now)
+              (start .args .offsets .now) (start .args .ids .now) (start .pre .1 .1) in
+              omega (arith, then1 .if1 .taken),
+        ),
+      ),
+    )
 
 same-length : tie.Need-same-length
-same-length c = c .before .before .all-rows .kept .1 .1 .1 .1 .1 .1 .0
+same-length c =
+    let after-all-rows : tie.After-all-rows = search in
+    after-all-rows .all-rows .kept .1 .1 .1 .1 .1 .1 .0
 
 returns : tie.Need-returns
-returns c = let s = (c .before .before .before .before .before .before .before .before .before .before .before .before) in let m = total-most (s .args .lanes .now) (s .args .edges .now) (s .args .offsets .now) (s .args .ids .now) (s .pre .1 .1) in whole-written (rowsBelow (s .args .lanes .now) (s .args .edges .now) (s .args .offsets .now) (s .args .ids .now) (length (s .args .lanes .now) / 10)) (s .args .out .now) (c .before .before .all-rows .ensures .0) (omega (arith, c .before .before .before .before .if1 .taken)) (c .before .before .all-rows .ensures .1 ∙ put-begin (rowsBelow (s .args .lanes .now) (s .args .edges .now) (s .args .offsets .now) (s .args .ids .now) (length (s .args .lanes .now) / 10)) (s .args .out .now))
+returns c =
+    let after-all-rows : tie.After-all-rows = search in
+    let then1 : tie.Then1 = search in
+    let start : tie.Start = search in
+    let lanes = start .args .lanes .now in let edges = start .args .edges .now in
+    let offsets = start .args .offsets .now in let ids = start .args .ids .now in
+    let out = start .args .out .now in
+    let m = total-most lanes edges offsets ids (start .pre .1 .1) in
+    whole-written (rowsBelow lanes edges offsets ids (length lanes / 10)) out
+    (after-all-rows .all-rows .ensures .0) (omega (arith, then1 .if1 .taken))
+    (after-all-rows .all-rows .ensures .1
+    ∙ put-begin (rowsBelow lanes edges offsets ids (length lanes / 10)) out)
 
 all-rows-requires-2 : tie.Need-all-rows-requires-2
-all-rows-requires-2 c κs = let s = (c .before .before .before .before .before .before .before .before .before) in (s .pre .0, (s .pre .1 .0, (s .pre .1 .1, λ w. absurd (true≢false (sym w)))))
+all-rows-requires-2 c κs =
+    let start : tie.Start = search in
+    (start .pre .0, (start .pre .1 .0, (start .pre .1 .1, λ w. absurd (true≢false (sym w)))))
 
 same-length-2 : tie.Need-same-length-2
-same-length-2 c = c .before .before .before .all-rows2 .kept .1 .1 .1 .1 .1 .1 .0
+same-length-2 c =
+    let after-all-rows2 : tie.After-all-rows2 = search in
+    after-all-rows2 .all-rows2 .kept .1 .1 .1 .1 .1 .1 .0
 
 returns-2 : tie.Need-returns-2
-returns-2 c = let s = (c .before .before .before .before .before .before .before .before .before .before .before .before .before) in whole-short (rowsBelow (s .args .lanes .now) (s .args .edges .now) (s .args .offsets .now) (s .args .ids .now) (length (s .args .lanes .now) / 10)) (s .args .out .now) (let k = c .before .before .before .all-rows2 .kept .1 .1 .1 .1 .1 .1 .0 in omega (arith, c .if2 .taken, c .before .before .before .all-rows2 .ensures .0)) (c .before .before .before .all-rows2 .ensures .1 ∙ put-off 0 (rowsBelow (s .args .lanes .now) (s .args .edges .now) (s .args .offsets .now) (s .args .ids .now) (length (s .args .lanes .now) / 10)) (s .args .out .now))
+returns-2 c =
+    let after-all-rows2 : tie.After-all-rows2 = search in
+    let start : tie.Start = search in
+    let lanes = start .args .lanes .now in let edges = start .args .edges .now in
+    let offsets = start .args .offsets .now in let ids = start .args .ids .now in
+    let out = start .args .out .now in
+    whole-short (rowsBelow lanes edges offsets ids (length lanes / 10)) out
+    (let k = after-all-rows2 .all-rows2 .kept .1 .1 .1 .1 .1 .1 .0 in
+    omega (arith, c .if2 .taken, after-all-rows2 .all-rows2 .ensures .0))
+    (after-all-rows2 .all-rows2 .ensures .1
+    ∙ put-off 0 (rowsBelow lanes edges offsets ids (length lanes / 10)) out)
 
 all-rows-requires-3 : tie.Need-all-rows-requires-3
-all-rows-requires-3 c κs = let s = (c .before .before .before .before .before .before .before .before .before .before .before .before .before .before) in (s .pre .0, (s .pre .1 .0, (s .pre .1 .1, λ w. omega (arith, c .before .if2 .left, c .before .before .before .before .all-rows2 .ensures .0))))
+all-rows-requires-3 c κs =
+    let else2 : tie.Else2 = search in
+    let after-all-rows2 : tie.After-all-rows2 = search in
+    let start : tie.Start = search in (
+      start .pre .0,
+      (
+        start .pre .1 .0,
+        (start .pre .1 .1, λ w. omega (arith, else2 .if2 .left, after-all-rows2 .all-rows2 .ensures .0)),
+      ),
+    )
 
 same-length-3 : tie.Need-same-length-3
-same-length-3 c = c .before .before .all-rows3 .kept .1 .1 .1 .1 .1 .1 .0 ∙ c .before .before .before .before .before .before .before .all-rows2 .kept .1 .1 .1 .1 .1 .1 .0
+same-length-3 c =
+    let after-all-rows3 : tie.After-all-rows3 = search in
+    let after-all-rows2 : tie.After-all-rows2 = search in
+    after-all-rows3 .all-rows3 .kept .1 .1 .1 .1 .1 .1 .0
+    ∙ after-all-rows2 .all-rows2 .kept .1 .1 .1 .1 .1 .1 .0
 
 returns-3 : tie.Need-returns-3
-returns-3 c = let s = (c .before .before .before .before .before .before .before .before .before .before .before .before .before .before .before .before .before) in let k = c .before .before .before .before .before .before .before .all-rows2 .kept .1 .1 .1 .1 .1 .1 .0 in whole-written (rowsBelow (s .args .lanes .now) (s .args .edges .now) (s .args .offsets .now) (s .args .ids .now) (length (s .args .lanes .now) / 10)) (s .args .out .now) (c .before .before .all-rows3 .ensures .0) (omega (arith, c .before .before .before .before .if2 .left, c .before .before .before .before .before .before .before .all-rows2 .ensures .0)) (c .before .before .all-rows3 .ensures .1 ∙ ap (λ (o : List ℕ). putIf true 0 (rowsBelow (s .args .lanes .now) (s .args .edges .now) (s .args .offsets .now) (s .args .ids .now) (length (s .args .lanes .now) / 10)) o) (c .before .before .before .before .before .before .before .all-rows2 .ensures .1 ∙ put-off 0 (rowsBelow (s .args .lanes .now) (s .args .edges .now) (s .args .offsets .now) (s .args .ids .now) (length (s .args .lanes .now) / 10)) (s .args .out .now)) ∙ put-begin (rowsBelow (s .args .lanes .now) (s .args .edges .now) (s .args .offsets .now) (s .args .ids .now) (length (s .args .lanes .now) / 10)) (s .args .out .now))
+returns-3 c =
+    let after-all-rows3 : tie.After-all-rows3 = search in
+    let else2 : tie.Else2 = search in
+    let after-all-rows2 : tie.After-all-rows2 = search in
+    let after-shared-slice-known3 = after-all-rows2 .before .before .before .before .before .before .before in
+    let start = after-shared-slice-known3 .before .before .before in
+    let lanes = start .args .lanes .now in let edges = start .args .edges .now in
+    let offsets = start .args .offsets .now in let ids = start .args .ids .now in
+    let out = start .args .out .now in
+    let rowsBelow′ = rowsBelow lanes edges offsets ids (length lanes / 10) in
+    let k = after-all-rows2 .all-rows2 .kept .1 .1 .1 .1 .1 .1 .0 in
+    whole-written rowsBelow′ out (after-all-rows3 .all-rows3 .ensures .0)
+    (omega (arith, else2 .if2 .left, after-all-rows2 .all-rows2 .ensures .0))
+    (after-all-rows3 .all-rows3 .ensures .1
+    ∙ ap (λ (o : List ℕ). putIf true 0 rowsBelow′ o)
+    (after-all-rows2 .all-rows2 .ensures .1 ∙ put-off 0 rowsBelow′ out)
+    ∙ put-begin rowsBelow′ out)
 
 pub write-rows-spec : {M : Type 1} → statement M
 write-rows-spec =

@@ -10,7 +10,9 @@ returns-2 : tie.Need-returns-2
 returns-2 c = search needs
 
 returns-3 : tie.Need-returns-3
-returns-3 c = other-word (c .before .args .word) (c .match .rest .0 .1) (c .match .rest .1)
+returns-3 c =
+    let start : tie.Start = search in
+    other-word (start .args .word) (c .match .rest .0 .1) (c .match .rest .1)
 
 pub direction-spec : {M : Type 1} → statement M
 direction-spec = tie.close (tie.spec returns returns-2 returns-3)

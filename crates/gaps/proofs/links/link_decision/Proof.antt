@@ -52,11 +52,21 @@ gap-decision-requires c κs = search needs
 
 returns : tie.Need-returns
 unfolding decisionAt
-returns c = let s = (c .before .before .before .before .before .before .before .before .before .before) in
-    let l = s .args .lanes .now in
-    let es = s .args .edges .now in
-    let g = link-gap (c .before .least-gap .ensures) (c .before .before .before .ends-at .ensures) (c .before .before .before .before .before .before .direction .ensures) (c .before .before .ends-at2 .ensures) (c .before .before .before .before .direction2 .ensures) in
-    decision-is (endsAt es (s .args .lane)) (directionOf (getD l (s .args .lane * 10 + 5) 0)) (endsAt es (s .args .next)) (directionOf (getD l (s .args .next * 10 + 5) 0)) (c .gap-decision .ensures) g
+returns c =
+    let after-least-gap : tie.After-least-gap = search in
+    let after-ends-at2 : tie.After-ends-at2 = search in
+    let after-ends-at : tie.After-ends-at = search in
+    let after-direction2 : tie.After-direction2 = search in
+    let after-direction : tie.After-direction = search in
+    let start : tie.Start = search in
+    let lane = start .args .lane in let next = start .args .next in
+    let l = start .args .lanes .now in
+    let es = start .args .edges .now in
+    let g = link-gap (after-least-gap .least-gap .ensures) (after-ends-at .ends-at .ensures)
+    (after-direction .direction .ensures) (after-ends-at2 .ends-at2 .ensures)
+    (after-direction2 .direction2 .ensures) in
+    decision-is (endsAt es lane) (directionOf (getD l (lane * 10 + 5) 0)) (endsAt es next)
+    (directionOf (getD l (next * 10 + 5) 0)) (c .gap-decision .ensures) g
 
 pub link-decision-spec : {M : Type 1} → statement M
 link-decision-spec =

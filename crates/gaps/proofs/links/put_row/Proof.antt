@@ -14,28 +14,52 @@ add-result : tie.Need-add-result
 add-result c = search needs
 
 returns : tie.Need-returns
-returns c = let s = (c .before .before .before .before .before) in wide-counted (s .args .write) (s .args .out .now) (s .args .at) (s .args .lane) (s .args .next) (s .args .decision) (c .before .before .decision .given .0 .0) (c .before .before .decision .given .1) (not-true _ (c .if1 .taken))
+returns c =
+    let after-decision : tie.After-decision = search in
+    let start : tie.Start = search in
+    wide-counted (start .args .write) (start .args .out .now) (start .args .at) (start .args .lane)
+    (start .args .next) (start .args .decision) (after-decision .decision .given .0 .0)
+    (after-decision .decision .given .1) (not-true _ (c .if1 .taken))
 
 float-to-bits-t11 : tie.Need-float-to-bits-t11
-float-to-bits-t11 c = wide-number _ _ (c .before .before .decision .given .1) (c .before .before .before .before .before .pre .2)
+float-to-bits-t11 c =
+    let after-decision : tie.After-decision = search in
+    let start : tie.Start = search in
+    wide-number _ _ (after-decision .decision .given .1) (start .pre .2)
 
 slice-aggregate-put : tie.Need-slice-aggregate-put
 slice-aggregate-put c = search needs
 
 put-requires : tie.Need-put-requires
-put-requires c κs = let s = (c .before .before .before .before .before .before .before) in wide-room (s .args .write) (s .args .out .now) (s .args .at) (s .args .lane) (s .args .next) (s .args .decision) (c .before .before .before .before .decision .given .0 .0) (c .before .before .before .before .decision .given .1) (not-false _ (c .before .before .if1 .left)) (s .pre .1)
+put-requires c κs =
+    let else1 : tie.Else1 = search in
+    let after-decision : tie.After-decision = search in
+    let start : tie.Start = search in
+    wide-room (start .args .write) (start .args .out .now) (start .args .at) (start .args .lane)
+    (start .args .next) (start .args .decision) (after-decision .decision .given .0 .0)
+    (after-decision .decision .given .1) (not-false _ (else1 .if1 .left)) (start .pre .1)
 
 add-result-2 : tie.Need-add-result-2
 add-result-2 c = search needs
 
 returns-2 : tie.Need-returns-2
-returns-2 c = let s = (c .before .before .before) in passed-row (s .args .write) (s .args .out .now) (s .args .at) (s .args .lane) (s .args .next) (s .args .decision) (c .enum-told .given .1)
+returns-2 c =
+    let start : tie.Start = search in
+    passed-row (start .args .write) (start .args .out .now) (start .args .at) (start .args .lane)
+    (start .args .next) (start .args .decision) (c .enum-told .given .1)
 
 same-length : tie.Need-same-length
 same-length c = search needs
 
 returns-3 : tie.Need-returns-3
-returns-3 c = let s = (c .before .before .before .before .before .before .before .before .before .before) in wide-put (s .args .write) (s .args .out .now) (s .args .at) (s .args .lane) (s .args .next) (s .args .decision) (c .before .before .before .before .before .before .before .decision .given .0 .0) (c .before .before .before .before .before .before .before .decision .given .1) (not-false _ (c .before .before .before .before .before .if1 .left)) (c .before .before .put .ensures)
+returns-3 c =
+    let after-put : tie.After-put = search in
+    let else1 : tie.Else1 = search in
+    let after-decision : tie.After-decision = search in
+    let start : tie.Start = search in
+    wide-put (start .args .write) (start .args .out .now) (start .args .at) (start .args .lane)
+    (start .args .next) (start .args .decision) (after-decision .decision .given .0 .0)
+    (after-decision .decision .given .1) (not-false _ (else1 .if1 .left)) (after-put .put .ensures)
 
 pub put-row-spec : {M : Type 1} → statement M
 put-row-spec =

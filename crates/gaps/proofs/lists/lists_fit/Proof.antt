@@ -24,7 +24,16 @@ both-requires-2 : tie.Need-both-requires-2
 both-requires-2 c κs = search needs
 
 returns : tie.Need-returns
-returns c = both-is (c .both2 .ensures) (both-is (c .before .before .both .ensures) (ap (λ (m : ℕ). eqb (length (c .before .before .before .before .before .before .before .before .before .args .offsets .now)) m) (add-one (length (c .before .before .before .before .before .before .before .before .before .args .lanes .now) / 10))) (c .before .before .before .offsets-climb .ensures)) (c .before .all-borne .ensures)
+returns c =
+    let after-all-borne : tie.After-all-borne = search in
+    let after-both : tie.After-both = search in
+    let after-offsets-climb : tie.After-offsets-climb = search in
+    let start : tie.Start = search in
+    both-is (c .both2 .ensures)
+    (both-is (after-both .both .ensures)
+    (ap (λ (m : ℕ). eqb (length (start .args .offsets .now)) m)
+    (add-one (length (start .args .lanes .now) / 10))) (after-offsets-climb .offsets-climb .ensures))
+    (after-all-borne .all-borne .ensures)
 
 pub lists-fit-spec : {M : Type 1} → statement M
 lists-fit-spec =

@@ -3,7 +3,8 @@ use Prim.Native.Nat.{ℕ, _+_, _-_, _<_}
 use native.Mathlib.Omega.{arith}
 use mathlib.Core.Path.{_≡_, sym, ap, _∙_}
 use Rattle.model.specs.Rules.{climbs, climbsTo}
-use Rattle.gaps.proofs.Climbs.{climbs-begin, climbs-end, climbs-falls, climbs-none, climbs-off, climbs-on}
+use Rattle.gaps.proofs.Climbs.{climbs-begin, climbs-end, climbs-falls, climbs-none, climbs-off}
+use Rattle.gaps.proofs.Climbs.{climbs-on}
 use Rattle.gaps.proofs.lists.offsets_climb.Statement.{statement}
 use Rattle.gaps.proofs.lists.offsets_climb.Tie as tie
 
@@ -14,34 +15,72 @@ abbrev μ-loop : tie.MeasureT-loop
 μ-loop offsets end last₀ i₀ last i = length offsets - i
 
 returns : tie.Need-returns Inv-loop μ-loop
-returns c = climbs-none (c .before .before .args .end) (c .before .before .args .offsets .now) (c .if1 .taken)
+returns c =
+    let start : tie.Start Inv-loop μ-loop = search in
+    climbs-none (start .args .end) (start .args .offsets .now) (c .if1 .taken)
 
 shared-slice-read-if2 : tie.Need-shared-slice-read-if2 Inv-loop μ-loop
-shared-slice-read-if2 c = omega (arith, c .before .if1 .left)
+shared-slice-read-if2 c =
+    let else1 : tie.Else1 Inv-loop μ-loop = search in
+    omega (arith, else1 .if1 .left)
 
 returns-2 : tie.Need-returns-2 Inv-loop μ-loop
-returns-2 c = climbs-off (c .before .before .before .before .args .end) (c .before .before .before .before .args .offsets .now) (c .before .before .if1 .left) (c .if2 .taken)
+returns-2 c =
+    let else1 : tie.Else1 Inv-loop μ-loop = search in
+    let start : tie.Start Inv-loop μ-loop = search in
+    climbs-off (start .args .end) (start .args .offsets .now) (else1 .if1 .left) (c .if2 .taken)
 
 loop-holds : tie.Need-loop-holds Inv-loop μ-loop
-loop-holds c = (omega arith, climbs-begin (c .before .before .before .before .args .end) (c .before .before .before .before .args .offsets .now) (c .before .before .if1 .left) (c .if2 .left))
+loop-holds c =
+    let else1 : tie.Else1 Inv-loop μ-loop = search in
+    let start : tie.Start Inv-loop μ-loop = search in
+    (omega arith, climbs-begin (start .args .end) (start .args .offsets .now) (else1 .if1 .left) (c .if2 .left))
 
 word-requires : tie.Need-word-requires Inv-loop μ-loop
 word-requires c κs = omega (arith, c .loop-test .taken)
 
 returns-3 : tie.Need-returns-3 Inv-loop μ-loop
-returns-3 c = sym (c .before .before .before .loop .inv .1 ∙ climbs-falls (c .before .before .before .before .before .before .before .before .args .end) (c .before .before .before .before .before .before .before .before .args .offsets .now) (c .before .before .before .loop .last) (c .before .before .before .loop .i) (c .before .before .loop-test .taken) (let t = c .if3 .taken in let e = c .before .word .ensures .0 in omega arith))
+returns-3 c =
+    let after-word : tie.After-word Inv-loop μ-loop = search in
+    let in-loop : tie.In-loop Inv-loop μ-loop = search in
+    let at-loop : tie.At-loop Inv-loop μ-loop = search in
+    let start : tie.Start Inv-loop μ-loop = search in
+    sym (at-loop .loop .inv .1
+    ∙ climbs-falls (start .args .end) (start .args .offsets .now) (at-loop .loop .last) (at-loop .loop .i)
+    (in-loop .loop-test .taken) (let t = c .if3 .taken in let e = after-word .word .ensures .0 in omega arith))
 
 add-i : tie.Need-add-i Inv-loop μ-loop
-add-i c = omega (arith, c .before .before .loop-test .taken)
+add-i c =
+    let in-loop : tie.In-loop Inv-loop μ-loop = search in
+    omega (arith, in-loop .loop-test .taken)
 
 loop-less : tie.Need-loop-less Inv-loop μ-loop
-loop-less c = omega (arith, c .before .before .loop-test .taken)
+loop-less c =
+    let in-loop : tie.In-loop Inv-loop μ-loop = search in
+    omega (arith, in-loop .loop-test .taken)
 
 loop-again : tie.Need-loop-again Inv-loop μ-loop
-loop-again c = let e = c .before .word .ensures .0 in (omega (arith, c .before .before .before .loop .inv .0), c .before .before .before .loop .inv .1 ∙ climbs-on (c .before .before .before .before .before .before .before .before .args .end) (c .before .before .before .before .before .before .before .before .args .offsets .now) (c .before .before .before .loop .last) (c .before .before .before .loop .i) (c .before .before .loop-test .taken) (let t = c .if3 .left in omega arith) ∙ ap (λ (w : ℕ). climbsTo (c .before .before .before .before .before .before .before .before .args .end) w (drop (c .before .before .before .loop .i + 1) (c .before .before .before .before .before .before .before .before .args .offsets .now))) (sym e))
+loop-again c =
+    let after-word : tie.After-word Inv-loop μ-loop = search in
+    let in-loop : tie.In-loop Inv-loop μ-loop = search in
+    let at-loop : tie.At-loop Inv-loop μ-loop = search in
+    let start : tie.Start Inv-loop μ-loop = search in
+    let end = start .args .end in let offsets = start .args .offsets .now in
+    let e = after-word .word .ensures .0 in (
+      omega (arith, at-loop .loop .inv .0),
+      at-loop .loop .inv .1
+          ∙ climbs-on end offsets (at-loop .loop .last) (at-loop .loop .i) (in-loop .loop-test .taken)
+          (let t = c .if3 .left in omega arith)
+          ∙ ap (λ (w : ℕ). climbsTo end w (drop (at-loop .loop .i + 1) offsets)) (sym e),
+    )
 
 returns-4 : tie.Need-returns-4 Inv-loop μ-loop
-returns-4 c = sym (c .before .loop .inv .1 ∙ climbs-end (c .before .before .before .before .before .before .args .end) (c .before .before .before .before .before .before .args .offsets .now) (c .before .loop .last) (c .before .loop .i) (omega (arith, c .loop-test .left)))
+returns-4 c =
+    let at-loop : tie.At-loop Inv-loop μ-loop = search in
+    let start : tie.Start Inv-loop μ-loop = search in
+    sym (at-loop .loop .inv .1
+    ∙ climbs-end (start .args .end) (start .args .offsets .now) (at-loop .loop .last) (at-loop .loop .i)
+    (omega (arith, c .loop-test .left)))
 
 pub offsets-climb-spec : {M : Type 1} → statement M
 offsets-climb-spec =

@@ -11,7 +11,9 @@ returns c = search needs
 
 -- src/bits.rt:34:5
 float-to-bits-result : tie.Need-float-to-bits-result
-float-to-bits-result c = is-no-nan (c .before .args .x) (c .if1 .left)
+float-to-bits-result c =
+    let start : tie.Start = search in
+    is-no-nan (start .args .x) (c .if1 .left)
 
 -- src/bits.rt:30:1
 returns-2 : tie.Need-returns-2

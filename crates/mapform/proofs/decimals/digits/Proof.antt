@@ -21,7 +21,9 @@ loop-holds c = omega arith
 
 -- src/decimals.rt:90:24
 shared-slice-read-further : tie.Need-shared-slice-read-further Inv-loop μ-loop
-shared-slice-read-further c = omega (arith, c .before .loop-test .taken)
+shared-slice-read-further c =
+    let in-loop : tie.In-loop Inv-loop μ-loop = search in
+    omega (arith, in-loop .loop-test .taken)
 
 -- src/decimals.rt:90:9
 further-requires : tie.Need-further-requires Inv-loop μ-loop
@@ -29,11 +31,15 @@ further-requires c κs = search needs
 
 -- src/decimals.rt:91:9
 add-i : tie.Need-add-i Inv-loop μ-loop
-add-i c = omega (arith, c .before .before .loop-test .taken)
+add-i c =
+    let in-loop : tie.In-loop Inv-loop μ-loop = search in
+    omega (arith, in-loop .loop-test .taken)
 
 -- src/decimals.rt:89:5
 loop-less : tie.Need-loop-less Inv-loop μ-loop
-loop-less c = omega (arith, c .before .before .loop-test .taken)
+loop-less c =
+    let in-loop : tie.In-loop Inv-loop μ-loop = search in
+    omega (arith, in-loop .loop-test .taken)
 
 -- src/decimals.rt:89:5
 loop-again : tie.Need-loop-again Inv-loop μ-loop

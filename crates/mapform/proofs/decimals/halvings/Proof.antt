@@ -25,7 +25,9 @@ more-requires c κs = search needs
 
 -- src/decimals.rt:114:5
 loop-less : tie.Need-loop-less Inv-loop μ-loop
-loop-less c = omega (arith, c .before .loop-test .taken)
+loop-less c =
+    let in-loop : tie.In-loop Inv-loop μ-loop = search in
+    omega (arith, in-loop .loop-test .taken)
 
 -- src/decimals.rt:114:5
 loop-again : tie.Need-loop-again Inv-loop μ-loop

@@ -30,7 +30,9 @@ loop-holds c = omega arith
 
 -- src/integers.rt:47:23
 shared-slice-read-longer : tie.Need-shared-slice-read-longer Inv-loop μ-loop
-shared-slice-read-longer c = omega (arith, c .before .loop-test .taken)
+shared-slice-read-longer c =
+    let in-loop : tie.In-loop Inv-loop μ-loop = search in
+    omega (arith, in-loop .loop-test .taken)
 
 -- src/integers.rt:47:9
 longer-requires : tie.Need-longer-requires Inv-loop μ-loop
@@ -38,11 +40,15 @@ longer-requires c κs = search needs
 
 -- src/integers.rt:48:9
 add-i : tie.Need-add-i Inv-loop μ-loop
-add-i c = omega (arith, c .before .before .loop-test .taken)
+add-i c =
+    let in-loop : tie.In-loop Inv-loop μ-loop = search in
+    omega (arith, in-loop .loop-test .taken)
 
 -- src/integers.rt:46:5
 loop-less : tie.Need-loop-less Inv-loop μ-loop
-loop-less c = omega (arith, c .before .before .loop-test .taken)
+loop-less c =
+    let in-loop : tie.In-loop Inv-loop μ-loop = search in
+    omega (arith, in-loop .loop-test .taken)
 
 -- src/integers.rt:46:5
 loop-again : tie.Need-loop-again Inv-loop μ-loop

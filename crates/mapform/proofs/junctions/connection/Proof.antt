@@ -112,7 +112,13 @@ choice-requires c κs = search needs
 
 -- src/junctions.rt:113:15
 add-put : tie.Need-add-put
-add-put c = omega (arith, c .before .before .before .before .before .before .before .before .before .before .before .before .before .before .before .before .before .before .before .before .before .before .before .before .before .before .before .before .before .before .before .before .before .before .before .before .before .before .before .before .before .count2 .ensures)
+add-put c =
+    let after-choice-arg2 = c .before .before .before .before .before .before .before .before .before .before in
+    let after-name2 = after-choice-arg2 .before .before .before .before .before .before .before .before .before .before in
+    let after-text = after-name2 .before .before .before .before .before .before .before .before .before .before in
+    let after-room-arg = after-text .before .before .before .before .before .before .before .before .before .before in
+    let after-count2 = after-room-arg .before in
+    omega (arith, after-count2 .count2 .ensures)
 
 -- src/junctions.rt:113:23
 count-requires-3 : tie.Need-count-requires-3
@@ -128,11 +134,23 @@ put-requires c κs = search needs
 
 -- src/junctions.rt:114:33
 mul-bump : tie.Need-mul-bump
-mul-bump c = omega (arith, c .before .before .before .before .before .before .before .before .before .before .before .before .before .before .before .before .before .before .before .before .before .before .before .before .before .before .before .before .before .before .before .before .before .before .before .before .before .before .before .before .before .before .before .before .before .before .before .before .before .before .count .ensures)
+mul-bump c =
+    let after-state5 = c .before .before .before .before .before .before .before .before .before .before in
+    let after-slice-known13 = after-state5 .before .before .before .before .before .before .before .before .before .before in
+    let after-name-arg5 = after-slice-known13 .before .before .before .before .before .before .before .before .before .before in
+    let after-name-arg4 = after-name-arg5 .before .before .before .before .before .before .before .before .before .before in
+    let after-count = after-name-arg4 .before .before .before .before .before .before .before .before .before .before in
+    omega (arith, after-count .count .ensures)
 
 -- src/junctions.rt:114:16
 add-bump : tie.Need-add-bump
-add-bump c = omega (arith, c .before .before .before .before .before .before .before .before .before .before .before .before .before .before .before .before .before .before .before .before .before .before .before .before .before .before .before .before .before .before .before .before .before .before .before .before .before .before .before .before .before .before .before .before .before .before .before .before .before .before .count .ensures)
+add-bump c =
+    let after-state5 = c .before .before .before .before .before .before .before .before .before .before in
+    let after-slice-known13 = after-state5 .before .before .before .before .before .before .before .before .before .before in
+    let after-name-arg5 = after-slice-known13 .before .before .before .before .before .before .before .before .before .before in
+    let after-name-arg4 = after-name-arg5 .before .before .before .before .before .before .before .before .before .before in
+    let after-count = after-name-arg4 .before .before .before .before .before .before .before .before .before .before in
+    omega (arith, after-count .count .ensures)
 
 -- src/junctions.rt:114:16
 sub-bump : tie.Need-sub-bump
@@ -148,19 +166,47 @@ bump-requires-2 c κs = search needs
 
 -- src/junctions.rt:83:1
 same-length-4 : tie.Need-same-length-4
-same-length-4 c = c .before .before .bump2 .kept .0 ∙ c .before .before .before .before .before .before .before .before .before .before .before .before .before .before .before .before .before .before .choice .kept .1 .1 .0 ∙ c .before .before .before .before .before .before .before .before .before .before .before .before .before .before .before .before .before .before .before .before .before .before .before .before .before .before .before .before .before .before .before .before .before .name2 .kept .1 .1 .0 ∙ c .before .before .before .before .before .before .before .before .before .before .before .before .before .before .before .before .before .before .before .before .before .before .before .before .before .before .before .before .before .before .before .before .before .before .before .before .before .before .before .before .before .before .before .before .before .before .name .kept .1 .1 .0
+same-length-4 c =
+    let after-bump2 : tie.After-bump2 = search in
+    let after-choice : tie.After-choice = search in
+    let after-index2 = after-choice .before .before .before .before .before .before .before .before .before .before in
+    let after-name2 = after-index2 .before .before .before .before .before in
+    let after-text = after-name2 .before .before .before .before .before .before .before .before .before .before in
+    let after-name = after-text .before .before .before in
+    after-bump2 .bump2 .kept .0
+    ∙ after-choice .choice .kept .1 .1 .0
+    ∙ after-name2 .name2 .kept .1 .1 .0
+    ∙ after-name .name .kept .1 .1 .0
 
 -- src/junctions.rt:83:1
 same-length-5 : tie.Need-same-length-5
-same-length-5 c = c .before .before .before .before .before .before .before .before .before .before .before .before .before .before .before .before .before .before .before .before .before .before .before .before .before .before .before .before .before .before .before .before .before .name2 .kept .1 .1 .1 .0 ∙ c .before .before .before .before .before .before .before .before .before .before .before .before .before .before .before .before .before .before .before .before .before .before .before .before .before .before .before .before .before .before .before .before .before .before .before .before .before .before .before .before .before .before .before .before .before .before .name .kept .1 .1 .1 .0
+same-length-5 c =
+    let after-name2 : tie.After-name2 = search in
+    let after-name : tie.After-name = search in
+    after-name2 .name2 .kept .1 .1 .1 .0 ∙ after-name .name .kept .1 .1 .1 .0
 
 -- src/junctions.rt:83:1
 same-length-6 : tie.Need-same-length-6
-same-length-6 c = c .before .before .before .before .before .before .before .before .before .before .before .before .before .before .before .before .before .before .before .before .before .before .before .before .before .before .before .before .before .before .before .before .before .name2 .kept .1 .1 .1 .1 .0 ∙ c .before .before .before .before .before .before .before .before .before .before .before .before .before .before .before .before .before .before .before .before .before .before .before .before .before .before .before .before .before .before .before .before .before .before .before .before .before .before .before .before .before .before .before .before .before .before .name .kept .1 .1 .1 .1 .0
+same-length-6 c =
+    let after-name2 : tie.After-name2 = search in
+    let after-name : tie.After-name = search in
+    after-name2 .name2 .kept .1 .1 .1 .1 .0 ∙ after-name .name .kept .1 .1 .1 .1 .0
 
 -- src/junctions.rt:83:1
 same-length-7 : tie.Need-same-length-7
-same-length-7 c = c .before .before .before .before .before .before .bump .kept .0 ∙ c .before .before .before .before .before .before .before .before .before .before .put .kept .0 ∙ c .before .before .before .before .before .before .before .before .before .before .before .before .before .before .before .before .before .before .choice .kept .1 .1 .1 .0 ∙ c .before .before .before .before .before .before .before .before .before .before .before .before .before .before .before .before .before .before .before .before .before .before .before .before .before .before .before .before .before .before .before .before .before .name2 .kept .1 .1 .1 .1 .1 .0 ∙ c .before .before .before .before .before .before .before .before .before .before .before .before .before .before .before .before .before .before .before .before .before .before .before .before .before .before .before .before .before .before .before .before .before .before .before .before .before .before .before .before .before .before .before .before .before .before .name .kept .1 .1 .1 .1 .1 .0
+same-length-7 c =
+    let after-bump : tie.After-bump = search in
+    let after-put : tie.After-put = search in
+    let after-choice : tie.After-choice = search in
+    let after-index2 = after-choice .before .before .before .before .before .before .before .before .before .before in
+    let after-name2 = after-index2 .before .before .before .before .before in
+    let after-text = after-name2 .before .before .before .before .before .before .before .before .before .before in
+    let after-name = after-text .before .before .before in
+    after-bump .bump .kept .0
+    ∙ after-put .put .kept .0
+    ∙ after-choice .choice .kept .1 .1 .1 .0
+    ∙ after-name2 .name2 .kept .1 .1 .1 .1 .1 .0
+    ∙ after-name .name .kept .1 .1 .1 .1 .1 .0
 
 -- src/junctions.rt:83:1
 returns-3 : tie.Need-returns-3

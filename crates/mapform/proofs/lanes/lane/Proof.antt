@@ -80,7 +80,12 @@ lane-number-requires c κs = search needs
 
 -- src/lanes.rt:87:9
 add-choice : tie.Need-add-choice
-add-choice c = omega (arith, c .before .before .before .before .before .before .before .before .before .before .before .before .before .before .before .before .before .before .before .before .before .before .before .before .before .before .before .before .before .before .before .before .before .before .before .before .before .before .before .count .ensures)
+add-choice c =
+    let after-rest3 = c .before .before .before .before .before .before .before .before .before .before in
+    let after-index = after-rest3 .before .before .before .before .before .before .before .before .before .before in
+    let after-slice-known7 = after-index .before .before .before .before .before .before .before .before .before .before in
+    let after-count = after-slice-known7 .before .before .before .before .before .before .before .before .before in
+    omega (arith, after-count .count .ensures)
 
 -- src/lanes.rt:88:9
 slice-aggregate-choice : tie.Need-slice-aggregate-choice
@@ -104,7 +109,13 @@ choice-requires c κs = search needs
 
 -- src/lanes.rt:93:40
 add-link : tie.Need-add-link
-add-link c = omega (arith, c .before .before .before .before .before .before .before .before .before .before .before .before .before .before .before .before .before .before .before .before .before .before .before .before .before .before .before .before .before .before .before .before .before .before .before .before .before .before .before .before .before .before .before .before .before .before .before .before .before .before .count .ensures)
+add-link c =
+    let after-choice-arg3 = c .before .before .before .before .before .before .before .before .before .before in
+    let after-slice-known13 = after-choice-arg3 .before .before .before .before .before .before .before .before .before .before in
+    let after-slice-known10 = after-slice-known13 .before .before .before .before .before .before .before .before .before .before in
+    let after-name-arg = after-slice-known10 .before .before .before .before .before .before .before .before .before .before in
+    let after-count = after-name-arg .before .before .before .before .before .before .before .before .before .before in
+    omega (arith, after-count .count .ensures)
 
 -- src/lanes.rt:93:48
 slice-aggregate-link : tie.Need-slice-aggregate-link
@@ -116,7 +127,14 @@ link-requires c κs = search needs
 
 -- src/lanes.rt:94:40
 add-link-2 : tie.Need-add-link-2
-add-link-2 c = omega (arith, c .before .before .before .before .before .before .before .before .before .before .before .before .before .before .before .before .before .before .before .before .before .before .before .before .before .before .before .before .before .before .before .before .before .before .before .before .before .before .before .before .before .before .before .before .before .before .before .before .before .before .before .before .before .before .before .before .before .before .count .ensures)
+add-link-2 c =
+    let after-slice-known17 = c .before .before .before .before .before .before .before .before .before .before in
+    let after-choice-arg = after-slice-known17 .before .before .before .before .before .before .before .before .before .before in
+    let after-slice-known12 = after-choice-arg .before .before .before .before .before .before .before .before .before .before in
+    let after-slice-known9 = after-slice-known12 .before .before .before .before .before .before .before .before .before .before in
+    let after-rest = after-slice-known9 .before .before .before .before .before .before .before .before .before .before in
+    let after-count = after-rest .before .before .before .before .before .before .before .before in
+    omega (arith, after-count .count .ensures)
 
 -- src/lanes.rt:94:48
 slice-aggregate-link-2 : tie.Need-slice-aggregate-link-2
@@ -132,19 +150,67 @@ bump-requires c κs = search needs
 
 -- src/lanes.rt:65:1
 same-length-2 : tie.Need-same-length-2
-same-length-2 c = c .before .before .bump .kept .0 ∙ c .before .before .before .before .before .before .before .before .link2 .kept .1 .1 .0 ∙ c .before .before .before .before .before .before .before .before .before .before .before .before .before .before .before .before .link .kept .1 .1 .0 ∙ c .before .before .before .before .before .before .before .before .before .before .before .before .before .before .before .before .before .before .before .before .before .before .before .before .choice .kept .1 .1 .0 ∙ c .before .before .before .before .before .before .before .before .before .before .before .before .before .before .before .before .before .before .before .before .before .before .before .before .before .before .before .before .before .before .before .before .before .before .before .lane-number .kept .1 .1 .0 ∙ c .before .before .before .before .before .before .before .before .before .before .before .before .before .before .before .before .before .before .before .before .before .before .before .before .before .before .before .before .before .before .before .before .before .before .before .before .before .before .before .before .before .before .number2 .kept .1 .1 .0 ∙ c .before .before .before .before .before .before .before .before .before .before .before .before .before .before .before .before .before .before .before .before .before .before .before .before .before .before .before .before .before .before .before .before .before .before .before .before .before .before .before .before .before .before .before .before .before .before .before .before .before .before .before .before .before .before .name .kept .1 .1 .0 ∙ c .before .before .before .before .before .before .before .before .before .before .before .before .before .before .before .before .before .before .before .before .before .before .before .before .before .before .before .before .before .before .before .before .before .before .before .before .before .before .before .before .before .before .before .before .before .before .before .before .before .before .before .before .before .before .before .before .before .before .before .before .before .before .before .number .kept .1 .1 .0
+same-length-2 c =
+    let after-bump : tie.After-bump = search in
+    let after-link2 : tie.After-link2 = search in
+    let after-link : tie.After-link = search in
+    let after-choice : tie.After-choice = search in
+    let after-state5 = after-choice .before .before .before .before .before .before .before .before .before .before in
+    let after-lane-number = after-state5 .before in
+    let after-number2 = after-lane-number .before .before .before .before .before .before .before in
+    let after-slice-known8 = after-number2 .before .before .before .before .before .before .before .before .before .before in
+    let after-name = after-slice-known8 .before .before in
+    let after-number = after-name .before .before .before .before .before .before .before .before .before in
+    after-bump .bump .kept .0
+    ∙ after-link2 .link2 .kept .1 .1 .0
+    ∙ after-link .link .kept .1 .1 .0
+    ∙ after-choice .choice .kept .1 .1 .0
+    ∙ after-lane-number .lane-number .kept .1 .1 .0
+    ∙ after-number2 .number2 .kept .1 .1 .0
+    ∙ after-name .name .kept .1 .1 .0
+    ∙ after-number .number .kept .1 .1 .0
 
 -- src/lanes.rt:65:1
 same-length-3 : tie.Need-same-length-3
-same-length-3 c = c .before .before .before .before .before .before .before .before .before .before .before .before .before .before .before .before .before .before .before .before .before .before .before .before .before .before .before .before .before .before .before .before .before .before .before .before .before .before .before .before .before .before .before .before .before .before .before .before .before .before .before .before .before .before .name .kept .1 .1 .1 .0
+same-length-3 c =
+    let after-link-arg5 = c .before .before .before .before .before .before .before .before .before .before in
+    let after-slice-known17 = after-link-arg5 .before .before .before .before .before .before .before .before .before .before in
+    let after-choice-arg = after-slice-known17 .before .before .before .before .before .before .before .before .before .before in
+    let after-slice-known12 = after-choice-arg .before .before .before .before .before .before .before .before .before .before in
+    let after-slice-known9 = after-slice-known12 .before .before .before .before .before .before .before .before .before .before in
+    let after-name = after-slice-known9 .before .before .before .before in
+    after-name .name .kept .1 .1 .1 .0
 
 -- src/lanes.rt:65:1
 same-length-4 : tie.Need-same-length-4
-same-length-4 c = c .before .before .before .before .before .before .before .before .before .before .before .before .before .before .before .before .before .before .before .before .before .before .before .before .before .before .before .before .before .before .before .before .before .before .before .before .before .before .before .before .before .before .before .before .before .before .before .before .before .before .before .before .before .before .name .kept .1 .1 .1 .1 .0
+same-length-4 c =
+    let after-link-arg5 = c .before .before .before .before .before .before .before .before .before .before in
+    let after-slice-known17 = after-link-arg5 .before .before .before .before .before .before .before .before .before .before in
+    let after-choice-arg = after-slice-known17 .before .before .before .before .before .before .before .before .before .before in
+    let after-slice-known12 = after-choice-arg .before .before .before .before .before .before .before .before .before .before in
+    let after-slice-known9 = after-slice-known12 .before .before .before .before .before .before .before .before .before .before in
+    let after-name = after-slice-known9 .before .before .before .before in
+    after-name .name .kept .1 .1 .1 .1 .0
 
 -- src/lanes.rt:65:1
 same-length-5 : tie.Need-same-length-5
-same-length-5 c = c .before .before .before .before .before .before .before .before .link2 .kept .1 .1 .1 .0 ∙ c .before .before .before .before .before .before .before .before .before .before .before .before .before .before .before .before .link .kept .1 .1 .1 .0 ∙ c .before .before .before .before .before .before .before .before .before .before .before .before .before .before .before .before .before .before .before .before .before .before .before .before .choice .kept .1 .1 .1 .0 ∙ c .before .before .before .before .before .before .before .before .before .before .before .before .before .before .before .before .before .before .before .before .before .before .before .before .before .before .before .before .before .before .before .before .before .before .before .lane-number .kept .1 .1 .1 .0 ∙ c .before .before .before .before .before .before .before .before .before .before .before .before .before .before .before .before .before .before .before .before .before .before .before .before .before .before .before .before .before .before .before .before .before .before .before .before .before .before .before .before .before .before .number2 .kept .1 .1 .1 .0 ∙ c .before .before .before .before .before .before .before .before .before .before .before .before .before .before .before .before .before .before .before .before .before .before .before .before .before .before .before .before .before .before .before .before .before .before .before .before .before .before .before .before .before .before .before .before .before .before .before .before .before .before .before .before .before .before .name .kept .1 .1 .1 .1 .1 .0 ∙ c .before .before .before .before .before .before .before .before .before .before .before .before .before .before .before .before .before .before .before .before .before .before .before .before .before .before .before .before .before .before .before .before .before .before .before .before .before .before .before .before .before .before .before .before .before .before .before .before .before .before .before .before .before .before .before .before .before .before .before .before .before .before .before .number .kept .1 .1 .1 .0
+same-length-5 c =
+    let after-link2 : tie.After-link2 = search in
+    let after-link : tie.After-link = search in
+    let after-choice : tie.After-choice = search in
+    let after-state5 = after-choice .before .before .before .before .before .before .before .before .before .before in
+    let after-lane-number = after-state5 .before in
+    let after-number2 = after-lane-number .before .before .before .before .before .before .before in
+    let after-slice-known8 = after-number2 .before .before .before .before .before .before .before .before .before .before in
+    let after-name = after-slice-known8 .before .before in
+    let after-number = after-name .before .before .before .before .before .before .before .before .before in
+    after-link2 .link2 .kept .1 .1 .1 .0
+    ∙ after-link .link .kept .1 .1 .1 .0
+    ∙ after-choice .choice .kept .1 .1 .1 .0
+    ∙ after-lane-number .lane-number .kept .1 .1 .1 .0
+    ∙ after-number2 .number2 .kept .1 .1 .1 .0
+    ∙ after-name .name .kept .1 .1 .1 .1 .1 .0
+    ∙ after-number .number .kept .1 .1 .1 .0
 
 -- src/lanes.rt:65:1
 returns-2 : tie.Need-returns-2

@@ -11,7 +11,8 @@ use Rattle.mapform.proofs.lanes.edge.Reads as edge-reads
 use Rattle.mapform.proofs.lanes.place.Reads as place-reads
 
 abbrev Inv-loop : tie.InvT-loop
-Inv-loop line at state₀ edges₀ lane p₀ i₀ state edges p i = (0 ≤ i) × (length state ≡ length state₀) × (length edges ≡ length edges₀)
+Inv-loop line at state₀ edges₀ lane p₀ i₀ state edges p i =
+    (0 ≤ i) × (length state ≡ length state₀) × (length edges ≡ length edges₀)
 
 abbrev μ-loop : tie.MeasureT-loop
 μ-loop line at state₀ edges₀ lane p₀ i₀ state edges p i = 12 - i
@@ -30,23 +31,37 @@ edge-requires c κs = search needs
 
 -- src/lanes.rt:128:9
 add-i : tie.Need-add-i Inv-loop μ-loop
-add-i c = omega (arith, c .before .before .before .before .before .before .before .before .loop-test .taken)
+add-i c =
+    let in-loop : tie.In-loop Inv-loop μ-loop = search in
+    omega (arith, in-loop .loop-test .taken)
 
 -- src/lanes.rt:126:5
 loop-less : tie.Need-loop-less Inv-loop μ-loop
-loop-less c = omega (arith, c .before .before .before .before .before .before .before .before .loop-test .taken)
+loop-less c =
+    let in-loop : tie.In-loop Inv-loop μ-loop = search in
+    omega (arith, in-loop .loop-test .taken)
 
 -- src/lanes.rt:126:5
 loop-again : tie.Need-loop-again Inv-loop μ-loop
-loop-again c = (omega arith, c .before .before .before .before .edge .kept .1 .1 .0 ∙ c .before .before .before .before .before .before .before .before .before .loop .inv .1, c .before .before .before .before .edge .kept .1 .1 .1 .0 ∙ c .before .before .before .before .before .before .before .before .before .loop .inv .2)
+loop-again c =
+    let after-edge : tie.After-edge Inv-loop μ-loop = search in
+    let at-loop : tie.At-loop Inv-loop μ-loop = search in (
+      omega arith,
+      after-edge .edge .kept .1 .1 .0 ∙ at-loop .loop .inv .1,
+      after-edge .edge .kept .1 .1 .1 .0 ∙ at-loop .loop .inv .2,
+    )
 
 -- src/lanes.rt:123:1
 same-length : tie.Need-same-length Inv-loop μ-loop
-same-length c = c .before .loop .inv .1
+same-length c =
+    let at-loop : tie.At-loop Inv-loop μ-loop = search in
+    at-loop .loop .inv .1
 
 -- src/lanes.rt:123:1
 same-length-2 : tie.Need-same-length-2 Inv-loop μ-loop
-same-length-2 c = c .before .loop .inv .2
+same-length-2 c =
+    let at-loop : tie.At-loop Inv-loop μ-loop = search in
+    at-loop .loop .inv .2
 
 -- src/lanes.rt:123:1
 returns : tie.Need-returns Inv-loop μ-loop

@@ -21,7 +21,9 @@ loop-holds c = omega arith
 
 -- src/names.rt:28:22
 shared-slice-read-mixed : tie.Need-shared-slice-read-mixed Inv-loop μ-loop
-shared-slice-read-mixed c = omega (arith, c .before .loop-test .taken)
+shared-slice-read-mixed c =
+    let in-loop : tie.In-loop Inv-loop μ-loop = search in
+    omega (arith, in-loop .loop-test .taken)
 
 -- src/names.rt:28:9
 mixed-requires : tie.Need-mixed-requires Inv-loop μ-loop
@@ -29,11 +31,15 @@ mixed-requires c κs = search needs
 
 -- src/names.rt:29:9
 add-i : tie.Need-add-i Inv-loop μ-loop
-add-i c = omega (arith, c .before .before .loop-test .taken)
+add-i c =
+    let in-loop : tie.In-loop Inv-loop μ-loop = search in
+    omega (arith, in-loop .loop-test .taken)
 
 -- src/names.rt:27:5
 loop-less : tie.Need-loop-less Inv-loop μ-loop
-loop-less c = omega (arith, c .before .before .loop-test .taken)
+loop-less c =
+    let in-loop : tie.In-loop Inv-loop μ-loop = search in
+    omega (arith, in-loop .loop-test .taken)
 
 -- src/names.rt:27:5
 loop-again : tie.Need-loop-again Inv-loop μ-loop

@@ -22,7 +22,9 @@ loop-holds c = (omega arith, refl)
 
 -- src/names.rt:85:23
 shared-slice-read-set : tie.Need-shared-slice-read-set Inv-loop μ-loop
-shared-slice-read-set c = omega (arith, c .before .before .loop-test .taken)
+shared-slice-read-set c =
+    let in-loop : tie.In-loop Inv-loop μ-loop = search in
+    omega (arith, in-loop .loop-test .taken)
 
 -- src/names.rt:85:9
 set-requires : tie.Need-set-requires Inv-loop μ-loop
@@ -34,19 +36,28 @@ next-requires c κs = search needs
 
 -- src/names.rt:87:9
 add-i : tie.Need-add-i Inv-loop μ-loop
-add-i c = omega (arith, c .before .before .before .before .before .before .loop-test .taken)
+add-i c =
+    let in-loop : tie.In-loop Inv-loop μ-loop = search in
+    omega (arith, in-loop .loop-test .taken)
 
 -- src/names.rt:84:5
 loop-less : tie.Need-loop-less Inv-loop μ-loop
-loop-less c = omega (arith, c .before .before .before .before .before .before .loop-test .taken)
+loop-less c =
+    let in-loop : tie.In-loop Inv-loop μ-loop = search in
+    omega (arith, in-loop .loop-test .taken)
 
 -- src/names.rt:84:5
 loop-again : tie.Need-loop-again Inv-loop μ-loop
-loop-again c = (omega arith, c .before .before .before .set .kept .0 ∙ c .before .before .before .before .before .before .before .loop .inv .1)
+loop-again c =
+    let after-set : tie.After-set Inv-loop μ-loop = search in
+    let at-loop : tie.At-loop Inv-loop μ-loop = search in
+    (omega arith, after-set .set .kept .0 ∙ at-loop .loop .inv .1)
 
 -- src/names.rt:81:1
 same-length : tie.Need-same-length Inv-loop μ-loop
-same-length c = c .before .loop .inv .1
+same-length c =
+    let at-loop : tie.At-loop Inv-loop μ-loop = search in
+    at-loop .loop .inv .1
 
 -- src/names.rt:81:1
 returns : tie.Need-returns Inv-loop μ-loop

@@ -49,7 +49,9 @@ returns c = search needs
 
 -- src/names.rt:65:42
 sub-entry : tie.Need-sub-entry Inv-loop μ-loop
-sub-entry c = omega (arith, c .before .before .before .loop-test .taken)
+sub-entry c =
+    let in-loop : tie.In-loop Inv-loop μ-loop = search in
+    omega (arith, in-loop .loop-test .taken)
 
 -- src/names.rt:65:13
 entry-requires : tie.Need-entry-requires Inv-loop μ-loop

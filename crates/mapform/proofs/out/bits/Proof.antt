@@ -26,7 +26,9 @@ text-requires c κs = search needs
 
 -- src/out.rt:102:1
 same-length : tie.Need-same-length
-same-length c = c .before .before .text .kept .0
+same-length c =
+    let after-text : tie.After-text = search in
+    after-text .text .kept .0
 
 -- src/out.rt:102:1
 returns : tie.Need-returns

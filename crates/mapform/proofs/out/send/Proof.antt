@@ -29,7 +29,9 @@ returns c = search needs
 
 -- src/out.rt:29:5
 loop-less : tie.Need-loop-less Inv-loop μ-loop
-loop-less c = omega (arith, c .before .before .loop-test .taken)
+loop-less c =
+    let in-loop : tie.In-loop Inv-loop μ-loop = search in
+    omega (arith, in-loop .loop-test .taken)
 
 -- src/out.rt:29:5
 loop-again : tie.Need-loop-again Inv-loop μ-loop

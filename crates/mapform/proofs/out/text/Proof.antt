@@ -21,7 +21,9 @@ loop-holds c = (omega arith, refl)
 
 -- src/out.rt:47:26
 shared-slice-read-byte : tie.Need-shared-slice-read-byte Inv-loop μ-loop
-shared-slice-read-byte c = omega (arith, c .before .before .loop-test .taken)
+shared-slice-read-byte c =
+    let in-loop : tie.In-loop Inv-loop μ-loop = search in
+    omega (arith, in-loop .loop-test .taken)
 
 -- src/out.rt:47:9
 byte-requires : tie.Need-byte-requires Inv-loop μ-loop
@@ -29,19 +31,28 @@ byte-requires c κs = search needs
 
 -- src/out.rt:48:9
 add-i : tie.Need-add-i Inv-loop μ-loop
-add-i c = omega (arith, c .before .before .before .before .before .loop-test .taken)
+add-i c =
+    let in-loop : tie.In-loop Inv-loop μ-loop = search in
+    omega (arith, in-loop .loop-test .taken)
 
 -- src/out.rt:46:5
 loop-less : tie.Need-loop-less Inv-loop μ-loop
-loop-less c = omega (arith, c .before .before .before .before .before .loop-test .taken)
+loop-less c =
+    let in-loop : tie.In-loop Inv-loop μ-loop = search in
+    omega (arith, in-loop .loop-test .taken)
 
 -- src/out.rt:46:5
 loop-again : tie.Need-loop-again Inv-loop μ-loop
-loop-again c = (omega arith, c .before .before .byte .kept .0 ∙ c .before .before .before .before .before .before .loop .inv .1)
+loop-again c =
+    let after-byte : tie.After-byte Inv-loop μ-loop = search in
+    let at-loop : tie.At-loop Inv-loop μ-loop = search in
+    (omega arith, after-byte .byte .kept .0 ∙ at-loop .loop .inv .1)
 
 -- src/out.rt:43:1
 same-length : tie.Need-same-length Inv-loop μ-loop
-same-length c = c .before .loop .inv .1
+same-length c =
+    let at-loop : tie.At-loop Inv-loop μ-loop = search in
+    at-loop .loop .inv .1
 
 -- src/out.rt:43:1
 returns : tie.Need-returns Inv-loop μ-loop

@@ -11,7 +11,8 @@ use Rattle.mapform.proofs.roads.ended.Reads as ended-reads
 use Rattle.mapform.proofs.roads.section.Reads as section-reads
 
 abbrev Inv-loop : tie.InvT-loop
-Inv-loop line at state₀ rest₀ p₀ i₀ state rest p i = (0 ≤ i) × (length state ≡ length state₀) × (length rest ≡ length rest₀)
+Inv-loop line at state₀ rest₀ p₀ i₀ state rest p i =
+    (0 ≤ i) × (length state ≡ length state₀) × (length rest ≡ length rest₀)
 
 abbrev μ-loop : tie.MeasureT-loop
 μ-loop line at state₀ rest₀ p₀ i₀ state rest p i = length line - i
@@ -26,11 +27,15 @@ ended-requires c κs = search needs
 
 -- src/roads.rt:198:13
 same-length : tie.Need-same-length Inv-loop μ-loop
-same-length c = c .before .before .before .loop .inv .1
+same-length c =
+    let at-loop : tie.At-loop Inv-loop μ-loop = search in
+    at-loop .loop .inv .1
 
 -- src/roads.rt:198:13
 same-length-2 : tie.Need-same-length-2 Inv-loop μ-loop
-same-length-2 c = c .before .before .before .loop .inv .2
+same-length-2 c =
+    let at-loop : tie.At-loop Inv-loop μ-loop = search in
+    at-loop .loop .inv .2
 
 -- src/roads.rt:198:13
 returns : tie.Need-returns Inv-loop μ-loop
@@ -42,23 +47,37 @@ section-requires c κs = search needs
 
 -- src/roads.rt:201:9
 add-i : tie.Need-add-i Inv-loop μ-loop
-add-i c = omega (arith, c .before .before .before .before .before .before .before .before .before .loop-test .taken)
+add-i c =
+    let in-loop : tie.In-loop Inv-loop μ-loop = search in
+    omega (arith, in-loop .loop-test .taken)
 
 -- src/roads.rt:196:5
 loop-less : tie.Need-loop-less Inv-loop μ-loop
-loop-less c = omega (arith, c .before .before .before .before .before .before .before .before .before .loop-test .taken)
+loop-less c =
+    let in-loop : tie.In-loop Inv-loop μ-loop = search in
+    omega (arith, in-loop .loop-test .taken)
 
 -- src/roads.rt:196:5
 loop-again : tie.Need-loop-again Inv-loop μ-loop
-loop-again c = (omega arith, c .before .before .before .before .section .kept .1 .1 .0 ∙ c .before .before .before .before .before .before .before .before .before .before .loop .inv .1, c .before .before .before .before .section .kept .1 .1 .1 .0 ∙ c .before .before .before .before .before .before .before .before .before .before .loop .inv .2)
+loop-again c =
+    let after-section : tie.After-section Inv-loop μ-loop = search in
+    let at-loop : tie.At-loop Inv-loop μ-loop = search in (
+      omega arith,
+      after-section .section .kept .1 .1 .0 ∙ at-loop .loop .inv .1,
+      after-section .section .kept .1 .1 .1 .0 ∙ at-loop .loop .inv .2,
+    )
 
 -- src/roads.rt:193:1
 same-length-3 : tie.Need-same-length-3 Inv-loop μ-loop
-same-length-3 c = c .before .loop .inv .1
+same-length-3 c =
+    let at-loop : tie.At-loop Inv-loop μ-loop = search in
+    at-loop .loop .inv .1
 
 -- src/roads.rt:193:1
 same-length-4 : tie.Need-same-length-4 Inv-loop μ-loop
-same-length-4 c = c .before .loop .inv .2
+same-length-4 c =
+    let at-loop : tie.At-loop Inv-loop μ-loop = search in
+    at-loop .loop .inv .2
 
 -- src/roads.rt:193:1
 returns-2 : tie.Need-returns-2 Inv-loop μ-loop

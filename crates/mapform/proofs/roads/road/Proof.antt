@@ -65,7 +65,13 @@ target-after-requires c κs = search needs
 
 -- src/roads.rt:255:62
 add-target-after-2 : tie.Need-add-target-after-2
-add-target-after-2 c = omega (arith, c .before .before .before .before .before .before .before .before .before .before .before .before .before .before .before .before .before .before .before .before .before .before .before .before .before .before .before .before .before .before .before .before .before .before .before .before .before .before .before .before .before .before .before .before .before .count .ensures)
+add-target-after-2 c =
+    let after-slice-known15 = c .before .before .before .before .before .before .before .before .before .before in
+    let after-slice-known13 = after-slice-known15 .before .before .before .before .before .before .before .before .before .before in
+    let after-inside-arg = after-slice-known13 .before .before .before .before .before .before .before .before .before .before in
+    let after-name-arg4 = after-inside-arg .before .before .before .before .before .before .before .before .before .before in
+    let after-count = after-name-arg4 .before .before .before .before .before in
+    omega (arith, after-count .count .ensures)
 
 -- src/roads.rt:255:71
 slice-aggregate-target-after-2 : tie.Need-slice-aggregate-target-after-2
@@ -89,7 +95,16 @@ count-requires-3 c κs = search needs
 
 -- src/roads.rt:259:16
 add-put : tie.Need-add-put
-add-put c = omega (arith, c .before .count3 .ensures, c .before .before .before .before .before .before .before .before .before .before .count2 .ensures, c .before .before .before .before .before .before .before .before .before .before .before .before .before .before .before .before .before .before .before .before .before .before .before .before .before .before .before .before .before .before .before .before .before .before .before .before .before .before .before .before .before .before .before .before .before .before .before .before .before .before .before .before .before .before .before .before .before .before .before .before .before .before .before .before .before .before .before .count .ensures)
+add-put c =
+    let after-count3 : tie.After-count3 = search in
+    let after-count2 : tie.After-count2 = search in
+    let after-target-after2 = after-count2 .before .before .before .before .before .before .before .before .before .before in
+    let after-slice-known16 = after-target-after2 .before .before .before .before .before .before .before .before .before .before in
+    let after-slice-known14 = after-slice-known16 .before .before .before .before .before .before .before .before .before .before in
+    let after-inside-arg3 = after-slice-known14 .before .before .before .before .before .before .before .before .before .before in
+    let after-state2 = after-inside-arg3 .before .before .before .before .before .before .before .before .before .before in
+    let after-count = after-state2 .before .before .before .before .before .before .before in
+    omega (arith, after-count3 .count3 .ensures, after-count2 .count2 .ensures, after-count .count .ensures)
 
 -- src/roads.rt:259:25
 cast-put : tie.Need-cast-put
@@ -101,7 +116,16 @@ put-requires c κs = search needs
 
 -- src/roads.rt:260:16
 add-put-2 : tie.Need-add-put-2
-add-put-2 c = omega (arith, c .before .before .before .before .before .count3 .ensures, c .before .before .before .before .before .before .before .before .before .before .before .before .before .before .count2 .ensures, c .before .before .before .before .before .before .before .before .before .before .before .before .before .before .before .before .before .before .before .before .before .before .before .before .before .before .before .before .before .before .before .before .before .before .before .before .before .before .before .before .before .before .before .before .before .before .before .before .before .before .before .before .before .before .before .before .before .before .before .before .before .before .before .before .before .before .before .before .before .before .before .count .ensures)
+add-put-2 c =
+    let after-count3 : tie.After-count3 = search in
+    let after-count2 : tie.After-count2 = search in
+    let after-target-after2 = after-count2 .before .before .before .before .before .before .before .before .before .before in
+    let after-slice-known16 = after-target-after2 .before .before .before .before .before .before .before .before .before .before in
+    let after-slice-known14 = after-slice-known16 .before .before .before .before .before .before .before .before .before .before in
+    let after-inside-arg3 = after-slice-known14 .before .before .before .before .before .before .before .before .before .before in
+    let after-state2 = after-inside-arg3 .before .before .before .before .before .before .before .before .before .before in
+    let after-count = after-state2 .before .before .before .before .before .before .before in
+    omega (arith, after-count3 .count3 .ensures, after-count2 .count2 .ensures, after-count .count .ensures)
 
 -- src/roads.rt:260:25
 less-requires : tie.Need-less-requires
@@ -117,19 +141,71 @@ bump-requires c κs = search needs
 
 -- src/roads.rt:238:1
 same-length-2 : tie.Need-same-length-2
-same-length-2 c = c .before .before .bump .kept .0 ∙ c .before .before .before .before .before .before .before .before .before .before .before .before .before .before .before .before .before .before .before .sections .kept .1 .1 .0 ∙ c .before .before .before .before .before .before .before .before .before .before .before .before .before .before .before .before .before .before .before .before .before .before .before .before .before .before .before .before .before .before .before .before .target-after2 .kept .1 .1 .0 ∙ c .before .before .before .before .before .before .before .before .before .before .before .before .before .before .before .before .before .before .before .before .before .before .before .before .before .before .before .before .before .before .before .before .before .before .before .before .before .before .before .before .before .before .before .before .before .before .target-after .kept .1 .1 .0 ∙ c .before .before .before .before .before .before .before .before .before .before .before .before .before .before .before .before .before .before .before .before .before .before .before .before .before .before .before .before .before .before .before .before .before .before .before .before .before .before .before .before .before .before .before .before .before .before .before .before .before .before .before .before .before .before .before .before .before .before .before .before .inside .kept .1 .1 .0 ∙ c .before .before .before .before .before .before .before .before .before .before .before .before .before .before .before .before .before .before .before .before .before .before .before .before .before .before .before .before .before .before .before .before .before .before .before .before .before .before .before .before .before .before .before .before .before .before .before .before .before .before .before .before .before .before .before .before .before .before .before .before .before .before .before .before .before .before .before .before .before .before .before .before .before .name .kept .1 .1 .0
+same-length-2 c =
+    let after-bump : tie.After-bump = search in
+    let after-sections : tie.After-sections = search in
+    let after-target-after2 : tie.After-target-after2 = search in
+    let after-slice-known16 = after-target-after2 .before .before .before .before .before .before .before .before .before .before in
+    let after-target-after = after-slice-known16 .before .before .before .before in
+    let after-slice-known12 = after-target-after .before .before .before .before .before .before .before .before .before .before in
+    let after-inside = after-slice-known12 .before .before .before .before in
+    let after-text = after-inside .before .before .before .before .before .before .before .before .before .before in
+    let after-name = after-text .before .before .before in
+    after-bump .bump .kept .0
+    ∙ after-sections .sections .kept .1 .1 .0
+    ∙ after-target-after2 .target-after2 .kept .1 .1 .0
+    ∙ after-target-after .target-after .kept .1 .1 .0
+    ∙ after-inside .inside .kept .1 .1 .0
+    ∙ after-name .name .kept .1 .1 .0
 
 -- src/roads.rt:238:1
 same-length-3 : tie.Need-same-length-3
-same-length-3 c = c .before .before .before .before .before .before .before .before .before .before .before .before .before .before .before .before .before .before .before .before .before .before .before .before .before .before .before .before .before .before .before .before .target-after2 .kept .1 .1 .1 .0 ∙ c .before .before .before .before .before .before .before .before .before .before .before .before .before .before .before .before .before .before .before .before .before .before .before .before .before .before .before .before .before .before .before .before .before .before .before .before .before .before .before .before .before .before .before .before .before .before .target-after .kept .1 .1 .1 .0 ∙ c .before .before .before .before .before .before .before .before .before .before .before .before .before .before .before .before .before .before .before .before .before .before .before .before .before .before .before .before .before .before .before .before .before .before .before .before .before .before .before .before .before .before .before .before .before .before .before .before .before .before .before .before .before .before .before .before .before .before .before .before .inside .kept .1 .1 .1 .0 ∙ c .before .before .before .before .before .before .before .before .before .before .before .before .before .before .before .before .before .before .before .before .before .before .before .before .before .before .before .before .before .before .before .before .before .before .before .before .before .before .before .before .before .before .before .before .before .before .before .before .before .before .before .before .before .before .before .before .before .before .before .before .before .before .before .before .before .before .before .before .before .before .before .before .before .name .kept .1 .1 .1 .0
+same-length-3 c =
+    let after-target-after2 : tie.After-target-after2 = search in
+    let after-target-after : tie.After-target-after = search in
+    let after-slice-known12 = after-target-after .before .before .before .before .before .before .before .before .before .before in
+    let after-inside = after-slice-known12 .before .before .before .before in
+    let after-text = after-inside .before .before .before .before .before .before .before .before .before .before in
+    let after-name = after-text .before .before .before in
+    after-target-after2 .target-after2 .kept .1 .1 .1 .0
+    ∙ after-target-after .target-after .kept .1 .1 .1 .0
+    ∙ after-inside .inside .kept .1 .1 .1 .0
+    ∙ after-name .name .kept .1 .1 .1 .0
 
 -- src/roads.rt:238:1
 same-length-4 : tie.Need-same-length-4
-same-length-4 c = c .before .before .before .before .before .before .before .before .before .before .before .before .before .before .before .before .before .before .before .before .before .before .before .before .before .before .before .before .before .before .before .before .target-after2 .kept .1 .1 .1 .1 .0 ∙ c .before .before .before .before .before .before .before .before .before .before .before .before .before .before .before .before .before .before .before .before .before .before .before .before .before .before .before .before .before .before .before .before .before .before .before .before .before .before .before .before .before .before .before .before .before .before .target-after .kept .1 .1 .1 .1 .0 ∙ c .before .before .before .before .before .before .before .before .before .before .before .before .before .before .before .before .before .before .before .before .before .before .before .before .before .before .before .before .before .before .before .before .before .before .before .before .before .before .before .before .before .before .before .before .before .before .before .before .before .before .before .before .before .before .before .before .before .before .before .before .inside .kept .1 .1 .1 .1 .0 ∙ c .before .before .before .before .before .before .before .before .before .before .before .before .before .before .before .before .before .before .before .before .before .before .before .before .before .before .before .before .before .before .before .before .before .before .before .before .before .before .before .before .before .before .before .before .before .before .before .before .before .before .before .before .before .before .before .before .before .before .before .before .before .before .before .before .before .before .before .before .before .before .before .before .before .name .kept .1 .1 .1 .1 .0
+same-length-4 c =
+    let after-target-after2 : tie.After-target-after2 = search in
+    let after-target-after : tie.After-target-after = search in
+    let after-slice-known12 = after-target-after .before .before .before .before .before .before .before .before .before .before in
+    let after-inside = after-slice-known12 .before .before .before .before in
+    let after-text = after-inside .before .before .before .before .before .before .before .before .before .before in
+    let after-name = after-text .before .before .before in
+    after-target-after2 .target-after2 .kept .1 .1 .1 .1 .0
+    ∙ after-target-after .target-after .kept .1 .1 .1 .1 .0
+    ∙ after-inside .inside .kept .1 .1 .1 .1 .0
+    ∙ after-name .name .kept .1 .1 .1 .1 .0
 
 -- src/roads.rt:238:1
 same-length-5 : tie.Need-same-length-5
-same-length-5 c = c .before .before .before .before .before .before .put2 .kept .0 ∙ c .before .before .before .before .before .before .before .before .before .before .before .put .kept .0 ∙ c .before .before .before .before .before .before .before .before .before .before .before .before .before .before .before .before .before .before .before .before .before .before .before .before .before .before .before .before .before .before .before .before .target-after2 .kept .1 .1 .1 .1 .1 .0 ∙ c .before .before .before .before .before .before .before .before .before .before .before .before .before .before .before .before .before .before .before .before .before .before .before .before .before .before .before .before .before .before .before .before .before .before .before .before .before .before .before .before .before .before .before .before .before .before .target-after .kept .1 .1 .1 .1 .1 .0 ∙ c .before .before .before .before .before .before .before .before .before .before .before .before .before .before .before .before .before .before .before .before .before .before .before .before .before .before .before .before .before .before .before .before .before .before .before .before .before .before .before .before .before .before .before .before .before .before .before .before .before .before .before .before .before .before .before .before .before .before .before .before .inside .kept .1 .1 .1 .1 .1 .0 ∙ c .before .before .before .before .before .before .before .before .before .before .before .before .before .before .before .before .before .before .before .before .before .before .before .before .before .before .before .before .before .before .before .before .before .before .before .before .before .before .before .before .before .before .before .before .before .before .before .before .before .before .before .before .before .before .before .before .before .before .before .before .before .before .before .before .before .before .before .before .before .before .before .before .before .name .kept .1 .1 .1 .1 .1 .0
+same-length-5 c =
+    let after-put2 : tie.After-put2 = search in
+    let after-put : tie.After-put = search in
+    let after-sections-arg = after-put .before .before .before .before .before .before .before .before .before .before in
+    let after-state5 = after-sections-arg .before .before .before .before .before .before .before .before .before .before in
+    let after-target-after2 = after-state5 .before in
+    let after-slice-known16 = after-target-after2 .before .before .before .before .before .before .before .before .before .before in
+    let after-target-after = after-slice-known16 .before .before .before .before in
+    let after-slice-known12 = after-target-after .before .before .before .before .before .before .before .before .before .before in
+    let after-inside = after-slice-known12 .before .before .before .before in
+    let after-text = after-inside .before .before .before .before .before .before .before .before .before .before in
+    let after-name = after-text .before .before .before in
+    after-put2 .put2 .kept .0
+    ∙ after-put .put .kept .0
+    ∙ after-target-after2 .target-after2 .kept .1 .1 .1 .1 .1 .0
+    ∙ after-target-after .target-after .kept .1 .1 .1 .1 .1 .0
+    ∙ after-inside .inside .kept .1 .1 .1 .1 .1 .0
+    ∙ after-name .name .kept .1 .1 .1 .1 .1 .0
 
 -- src/roads.rt:238:1
 same-length-6 : tie.Need-same-length-6

@@ -31,11 +31,15 @@ numbers-requires c κs = search needs
 
 -- src/roads.rt:220:9
 same-length : tie.Need-same-length
-same-length c = c .before .before .before .before .numbers .kept .1 .1 .0
+same-length c =
+    let after-numbers : tie.After-numbers = search in
+    after-numbers .numbers .kept .1 .1 .0
 
 -- src/roads.rt:220:9
 same-length-2 : tie.Need-same-length-2
-same-length-2 c = c .before .before .before .before .numbers .kept .1 .1 .1 .0
+same-length-2 c =
+    let after-numbers : tie.After-numbers = search in
+    after-numbers .numbers .kept .1 .1 .1 .0
 
 -- src/roads.rt:220:9
 returns-2 : tie.Need-returns-2

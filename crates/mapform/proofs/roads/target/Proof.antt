@@ -96,7 +96,12 @@ contact-requires c κs = search needs
 
 -- src/roads.rt:124:27
 add-along : tie.Need-add-along
-add-along c = omega (arith, c .before .before .before .before .before .before .before .before .before .before .before .before .before .before .before .before .before .before .before .before .before .before .before .before .before .before .before .before .before .before .before .before .before .before .before .before .if2 .left)
+add-along c =
+    let after-slice-known10 = c .before .before .before .before .before .before .before .before .before .before in
+    let after-name-arg = after-slice-known10 .before .before .before .before .before .before .before .before .before .before in
+    let else3 = after-name-arg .before .before .before .before .before .before .before .before .before .before in
+    let else2 = else3 .before .before .before .before .before .before in
+    omega (arith, else2 .if2 .left)
 
 -- src/roads.rt:124:5
 along-requires : tie.Need-along-requires

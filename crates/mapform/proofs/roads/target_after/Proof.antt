@@ -31,19 +31,27 @@ target-requires c κs = search needs
 
 -- src/roads.rt:135:1
 same-length : tie.Need-same-length
-same-length c = c .before .before .before .before .before .before .before .before .target .kept .1 .1 .0
+same-length c =
+    let after-target : tie.After-target = search in
+    after-target .target .kept .1 .1 .0
 
 -- src/roads.rt:135:1
 same-length-2 : tie.Need-same-length-2
-same-length-2 c = c .before .before .before .before .before .before .before .before .target .kept .1 .1 .1 .0
+same-length-2 c =
+    let after-target : tie.After-target = search in
+    after-target .target .kept .1 .1 .1 .0
 
 -- src/roads.rt:135:1
 same-length-3 : tie.Need-same-length-3
-same-length-3 c = c .before .before .before .before .before .before .before .before .target .kept .1 .1 .1 .1 .0
+same-length-3 c =
+    let after-target : tie.After-target = search in
+    after-target .target .kept .1 .1 .1 .1 .0
 
 -- src/roads.rt:135:1
 same-length-4 : tie.Need-same-length-4
-same-length-4 c = c .before .before .before .before .before .before .before .before .target .kept .1 .1 .1 .1 .1 .0
+same-length-4 c =
+    let after-target : tie.After-target = search in
+    after-target .target .kept .1 .1 .1 .1 .1 .0
 
 -- src/roads.rt:135:1
 returns-3 : tie.Need-returns-3

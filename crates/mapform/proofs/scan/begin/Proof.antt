@@ -21,7 +21,9 @@ loop-holds c = omega arith
 
 -- src/scan.rt:19:12
 shared-slice-read-if1 : tie.Need-shared-slice-read-if1 Inv-loop μ-loop
-shared-slice-read-if1 c = omega (arith, c .before .loop-test .taken)
+shared-slice-read-if1 c =
+    let in-loop : tie.In-loop Inv-loop μ-loop = search in
+    omega (arith, in-loop .loop-test .taken)
 
 -- src/scan.rt:20:13
 returns : tie.Need-returns Inv-loop μ-loop
@@ -29,7 +31,9 @@ returns c = search needs
 
 -- src/scan.rt:22:19
 shared-slice-read-blank : tie.Need-shared-slice-read-blank Inv-loop μ-loop
-shared-slice-read-blank c = omega (arith, c .before .before .before .loop-test .taken)
+shared-slice-read-blank c =
+    let in-loop : tie.In-loop Inv-loop μ-loop = search in
+    omega (arith, in-loop .loop-test .taken)
 
 -- src/scan.rt:22:13
 blank-requires : tie.Need-blank-requires Inv-loop μ-loop
@@ -41,11 +45,15 @@ returns-2 c = search needs
 
 -- src/scan.rt:25:9
 add-i : tie.Need-add-i Inv-loop μ-loop
-add-i c = omega (arith, c .before .before .before .before .before .loop-test .taken)
+add-i c =
+    let in-loop : tie.In-loop Inv-loop μ-loop = search in
+    omega (arith, in-loop .loop-test .taken)
 
 -- src/scan.rt:18:5
 loop-less : tie.Need-loop-less Inv-loop μ-loop
-loop-less c = omega (arith, c .before .before .before .before .before .loop-test .taken)
+loop-less c =
+    let in-loop : tie.In-loop Inv-loop μ-loop = search in
+    omega (arith, in-loop .loop-test .taken)
 
 -- src/scan.rt:18:5
 loop-again : tie.Need-loop-again Inv-loop μ-loop

@@ -21,7 +21,9 @@ loop-holds c = omega arith
 
 -- src/scan.rt:34:18
 shared-slice-read-blank : tie.Need-shared-slice-read-blank Inv-loop μ-loop
-shared-slice-read-blank c = omega (arith, c .before .loop-test .taken)
+shared-slice-read-blank c =
+    let in-loop : tie.In-loop Inv-loop μ-loop = search in
+    omega (arith, in-loop .loop-test .taken)
 
 -- src/scan.rt:34:12
 blank-requires : tie.Need-blank-requires Inv-loop μ-loop
@@ -33,11 +35,15 @@ returns c = search needs
 
 -- src/scan.rt:37:9
 add-i : tie.Need-add-i Inv-loop μ-loop
-add-i c = omega (arith, c .before .before .before .loop-test .taken)
+add-i c =
+    let in-loop : tie.In-loop Inv-loop μ-loop = search in
+    omega (arith, in-loop .loop-test .taken)
 
 -- src/scan.rt:33:5
 loop-less : tie.Need-loop-less Inv-loop μ-loop
-loop-less c = omega (arith, c .before .before .before .loop-test .taken)
+loop-less c =
+    let in-loop : tie.In-loop Inv-loop μ-loop = search in
+    omega (arith, in-loop .loop-test .taken)
 
 -- src/scan.rt:33:5
 loop-again : tie.Need-loop-again Inv-loop μ-loop

@@ -17,7 +17,9 @@ text-requires c κs = search needs
 
 -- src/write.rt:77:9
 same-length : tie.Need-same-length
-same-length c = c .before .before .text .kept .0
+same-length c =
+    let after-text : tie.After-text = search in
+    after-text .text .kept .0
 
 -- src/write.rt:77:9
 returns : tie.Need-returns

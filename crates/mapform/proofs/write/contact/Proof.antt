@@ -17,7 +17,9 @@ text-requires c κs = search needs
 
 -- src/write.rt:65:13
 same-length : tie.Need-same-length
-same-length c = c .before .before .text .kept .0
+same-length c =
+    let after-text : tie.After-text = search in
+    after-text .text .kept .0
 
 -- src/write.rt:65:13
 returns : tie.Need-returns
@@ -33,7 +35,9 @@ text-requires-2 c κs = search needs
 
 -- src/write.rt:67:9
 same-length-2 : tie.Need-same-length-2
-same-length-2 c = c .before .before .text2 .kept .0
+same-length-2 c =
+    let after-text2 : tie.After-text2 = search in
+    after-text2 .text2 .kept .0
 
 -- src/write.rt:67:9
 returns-2 : tie.Need-returns-2
@@ -49,7 +53,9 @@ text-requires-3 c κs = search needs
 
 -- src/write.rt:70:9
 same-length-3 : tie.Need-same-length-3
-same-length-3 c = c .before .before .text3 .kept .0
+same-length-3 c =
+    let after-text3 : tie.After-text3 = search in
+    after-text3 .text3 .kept .0
 
 -- src/write.rt:70:9
 returns-3 : tie.Need-returns-3
@@ -65,7 +71,9 @@ text-requires-4 c κs = search needs
 
 -- src/write.rt:62:1
 same-length-4 : tie.Need-same-length-4
-same-length-4 c = c .before .before .text4 .kept .0
+same-length-4 c =
+    let after-text4 : tie.After-text4 = search in
+    after-text4 .text4 .kept .0
 
 -- src/write.rt:62:1
 returns-4 : tie.Need-returns-4

@@ -20,7 +20,9 @@ loop-holds c = omega arith
 
 -- src/write.rt:23:12
 shared-slice-read-if1 : tie.Need-shared-slice-read-if1 Inv-loop μ-loop
-shared-slice-read-if1 c = omega (arith, c .before .loop-test .taken)
+shared-slice-read-if1 c =
+    let in-loop : tie.In-loop Inv-loop μ-loop = search in
+    omega (arith, in-loop .loop-test .taken)
 
 -- src/write.rt:24:13
 returns : tie.Need-returns Inv-loop μ-loop
@@ -28,7 +30,9 @@ returns c = search needs
 
 -- src/write.rt:26:12
 shared-slice-read-if2 : tie.Need-shared-slice-read-if2 Inv-loop μ-loop
-shared-slice-read-if2 c = omega (arith, c .before .before .before .loop-test .taken)
+shared-slice-read-if2 c =
+    let in-loop : tie.In-loop Inv-loop μ-loop = search in
+    omega (arith, in-loop .loop-test .taken)
 
 -- src/write.rt:27:13
 returns-2 : tie.Need-returns-2 Inv-loop μ-loop
@@ -36,7 +40,9 @@ returns-2 c = search needs
 
 -- src/write.rt:29:12
 shared-slice-read-if3 : tie.Need-shared-slice-read-if3 Inv-loop μ-loop
-shared-slice-read-if3 c = omega (arith, c .before .before .before .before .before .loop-test .taken)
+shared-slice-read-if3 c =
+    let in-loop : tie.In-loop Inv-loop μ-loop = search in
+    omega (arith, in-loop .loop-test .taken)
 
 -- src/write.rt:30:13
 returns-3 : tie.Need-returns-3 Inv-loop μ-loop
@@ -44,11 +50,15 @@ returns-3 c = search needs
 
 -- src/write.rt:32:9
 add-i : tie.Need-add-i Inv-loop μ-loop
-add-i c = omega (arith, c .before .before .before .before .before .before .loop-test .taken)
+add-i c =
+    let in-loop : tie.In-loop Inv-loop μ-loop = search in
+    omega (arith, in-loop .loop-test .taken)
 
 -- src/write.rt:22:5
 loop-less : tie.Need-loop-less Inv-loop μ-loop
-loop-less c = omega (arith, c .before .before .before .before .before .before .loop-test .taken)
+loop-less c =
+    let in-loop : tie.In-loop Inv-loop μ-loop = search in
+    omega (arith, in-loop .loop-test .taken)
 
 -- src/write.rt:22:5
 loop-again : tie.Need-loop-again Inv-loop μ-loop

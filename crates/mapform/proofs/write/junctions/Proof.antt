@@ -25,19 +25,28 @@ junction-requires c κs = search needs
 
 -- src/write.rt:308:9
 add-j : tie.Need-add-j Inv-loop μ-loop
-add-j c = omega (arith, c .before .before .before .before .loop-test .taken)
+add-j c =
+    let in-loop : tie.In-loop Inv-loop μ-loop = search in
+    omega (arith, in-loop .loop-test .taken)
 
 -- src/write.rt:306:5
 loop-less : tie.Need-loop-less Inv-loop μ-loop
-loop-less c = omega (arith, c .before .before .before .before .loop-test .taken)
+loop-less c =
+    let in-loop : tie.In-loop Inv-loop μ-loop = search in
+    omega (arith, in-loop .loop-test .taken)
 
 -- src/write.rt:306:5
 loop-again : tie.Need-loop-again Inv-loop μ-loop
-loop-again c = (omega arith, c .before .before .junction .kept .0 ∙ c .before .before .before .before .before .loop .inv .1)
+loop-again c =
+    let after-junction : tie.After-junction Inv-loop μ-loop = search in
+    let at-loop : tie.At-loop Inv-loop μ-loop = search in
+    (omega arith, after-junction .junction .kept .0 ∙ at-loop .loop .inv .1)
 
 -- src/write.rt:295:1
 same-length : tie.Need-same-length Inv-loop μ-loop
-same-length c = c .before .loop .inv .1
+same-length c =
+    let at-loop : tie.At-loop Inv-loop μ-loop = search in
+    at-loop .loop .inv .1
 
 -- src/write.rt:295:1
 returns : tie.Need-returns Inv-loop μ-loop

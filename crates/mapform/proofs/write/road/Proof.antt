@@ -76,7 +76,9 @@ text-requires-2 c κs = search needs
 
 -- src/write.rt:159:60
 add-get : tie.Need-add-get
-add-get c = omega (arith, c .before .before .before .before .before .before .before .before .before .before .before .before .before .before .before .before .before .before .before .before .before .before .before .before .before .before .before .before .if1 .left)
+add-get c =
+    let else1 : tie.Else1 = search in
+    omega (arith, else1 .if1 .left)
 
 -- src/write.rt:159:49
 get-requires : tie.Need-get-requires
@@ -84,7 +86,9 @@ get-requires c κs = search needs
 
 -- src/write.rt:159:80
 add-get-2 : tie.Need-add-get-2
-add-get-2 c = omega (arith, c .before .before .before .before .before .before .before .before .before .before .before .before .before .before .before .before .before .before .before .before .before .before .before .before .before .before .before .before .before .if1 .left)
+add-get-2 c =
+    let else1 : tie.Else1 = search in
+    omega (arith, else1 .if1 .left)
 
 -- src/write.rt:159:69
 get-requires-2 : tie.Need-get-requires-2
@@ -104,7 +108,23 @@ byte-requires c κs = search needs
 
 -- src/write.rt:141:1
 same-length : tie.Need-same-length
-same-length c = c .before .before .byte .kept .0 ∙ c .before .before .before .before .before .before .sections .kept .0 ∙ c .before .before .before .before .before .before .before .before .before .before .before .before .before .text2 .kept .0 ∙ c .before .before .before .before .before .before .before .before .before .before .before .before .before .before .before .before .before .before .target2 .kept .0 ∙ c .before .before .before .before .before .before .before .before .before .before .before .before .before .before .before .before .before .before .before .before .before .before .before .target .kept .0 ∙ c .before .before .before .before .before .before .before .before .before .before .before .before .before .before .before .before .before .before .before .before .before .before .before .before .before .before .before .before .inside .kept .0 ∙ c .before .before .before .before .before .before .before .before .before .before .before .before .before .before .before .before .before .before .before .before .before .before .before .before .before .before .before .before .before .before .before .before .name .kept .0 ∙ c .before .before .before .before .before .before .before .before .before .before .before .before .before .before .before .before .before .before .before .before .before .before .before .before .before .before .before .before .before .before .before .before .before .before .before .before .text .kept .0
+same-length c =
+    let after-byte : tie.After-byte = search in
+    let after-sections : tie.After-sections = search in
+    let after-text2 : tie.After-text2 = search in
+    let after-target2 : tie.After-target2 = search in
+    let after-target : tie.After-target = search in
+    let after-inside : tie.After-inside = search in
+    let after-name : tie.After-name = search in
+    let after-text : tie.After-text = search in
+    after-byte .byte .kept .0
+    ∙ after-sections .sections .kept .0
+    ∙ after-text2 .text2 .kept .0
+    ∙ after-target2 .target2 .kept .0
+    ∙ after-target .target .kept .0
+    ∙ after-inside .inside .kept .0
+    ∙ after-name .name .kept .0
+    ∙ after-text .text .kept .0
 
 -- src/write.rt:141:1
 returns-2 : tie.Need-returns-2

@@ -25,7 +25,9 @@ mul-spaced c = search needs
 
 -- src/write.rt:124:28
 shared-slice-read-spaced : tie.Need-shared-slice-read-spaced Inv-loop μ-loop
-shared-slice-read-spaced c = omega (arith, c .before .before .loop-test .taken)
+shared-slice-read-spaced c =
+    let in-loop : tie.In-loop Inv-loop μ-loop = search in
+    omega (arith, in-loop .loop-test .taken)
 
 -- src/write.rt:124:9
 spaced-requires : tie.Need-spaced-requires Inv-loop μ-loop
@@ -33,19 +35,28 @@ spaced-requires c κs = search needs
 
 -- src/write.rt:125:9
 add-i : tie.Need-add-i Inv-loop μ-loop
-add-i c = omega (arith, c .before .before .before .before .before .loop-test .taken)
+add-i c =
+    let in-loop : tie.In-loop Inv-loop μ-loop = search in
+    omega (arith, in-loop .loop-test .taken)
 
 -- src/write.rt:123:5
 loop-less : tie.Need-loop-less Inv-loop μ-loop
-loop-less c = omega (arith, c .before .before .before .before .before .loop-test .taken)
+loop-less c =
+    let in-loop : tie.In-loop Inv-loop μ-loop = search in
+    omega (arith, in-loop .loop-test .taken)
 
 -- src/write.rt:123:5
 loop-again : tie.Need-loop-again Inv-loop μ-loop
-loop-again c = (omega arith, c .before .before .spaced .kept .0 ∙ c .before .before .before .before .before .before .loop .inv .1)
+loop-again c =
+    let after-spaced : tie.After-spaced Inv-loop μ-loop = search in
+    let at-loop : tie.At-loop Inv-loop μ-loop = search in
+    (omega arith, after-spaced .spaced .kept .0 ∙ at-loop .loop .inv .1)
 
 -- src/write.rt:120:1
 same-length : tie.Need-same-length Inv-loop μ-loop
-same-length c = c .before .loop .inv .1
+same-length c =
+    let at-loop : tie.At-loop Inv-loop μ-loop = search in
+    at-loop .loop .inv .1
 
 -- src/write.rt:120:1
 returns : tie.Need-returns Inv-loop μ-loop

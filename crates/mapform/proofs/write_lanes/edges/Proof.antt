@@ -35,7 +35,9 @@ mul-edge c = search needs
 
 -- src/write_lanes.rt:177:26
 shared-slice-read-edge : tie.Need-shared-slice-read-edge Inv-loop μ-loop
-shared-slice-read-edge c = omega (arith, c .before .before .loop-test .taken)
+shared-slice-read-edge c =
+    let in-loop : tie.In-loop Inv-loop μ-loop = search in
+    omega (arith, in-loop .loop-test .taken)
 
 -- src/write_lanes.rt:177:9
 edge-requires : tie.Need-edge-requires Inv-loop μ-loop
@@ -43,15 +45,22 @@ edge-requires c κs = search needs
 
 -- src/write_lanes.rt:178:9
 add-i : tie.Need-add-i Inv-loop μ-loop
-add-i c = omega (arith, c .before .before .before .before .before .loop-test .taken)
+add-i c =
+    let in-loop : tie.In-loop Inv-loop μ-loop = search in
+    omega (arith, in-loop .loop-test .taken)
 
 -- src/write_lanes.rt:176:5
 loop-less : tie.Need-loop-less Inv-loop μ-loop
-loop-less c = omega (arith, c .before .before .before .before .before .loop-test .taken)
+loop-less c =
+    let in-loop : tie.In-loop Inv-loop μ-loop = search in
+    omega (arith, in-loop .loop-test .taken)
 
 -- src/write_lanes.rt:176:5
 loop-again : tie.Need-loop-again Inv-loop μ-loop
-loop-again c = (omega arith, c .before .before .edge .kept .0 ∙ c .before .before .before .before .before .before .loop .inv .1)
+loop-again c =
+    let after-edge : tie.After-edge Inv-loop μ-loop = search in
+    let at-loop : tie.At-loop Inv-loop μ-loop = search in
+    (omega arith, after-edge .edge .kept .0 ∙ at-loop .loop .inv .1)
 
 -- src/write_lanes.rt:180:5
 byte-requires : tie.Need-byte-requires Inv-loop μ-loop
@@ -59,7 +68,11 @@ byte-requires c κs = search needs
 
 -- src/write_lanes.rt:173:1
 same-length : tie.Need-same-length Inv-loop μ-loop
-same-length c = c .before .before .byte .kept .0 ∙ c .before .before .before .before .before .loop .inv .1 ∙ c .before .before .before .before .before .before .before .before .text .kept .0
+same-length c =
+    let after-byte : tie.After-byte Inv-loop μ-loop = search in
+    let at-loop : tie.At-loop Inv-loop μ-loop = search in
+    let after-text : tie.After-text Inv-loop μ-loop = search in
+    after-byte .byte .kept .0 ∙ at-loop .loop .inv .1 ∙ after-text .text .kept .0
 
 -- src/write_lanes.rt:173:1
 returns : tie.Need-returns Inv-loop μ-loop

@@ -22,7 +22,9 @@ edges-requires c κs = search needs
 
 -- src/write_lanes.rt:199:1
 same-length : tie.Need-same-length
-same-length c = c .before .before .edges .kept .0
+same-length c =
+    let after-edges : tie.After-edges = search in
+    after-edges .edges .kept .0
 
 -- src/write_lanes.rt:199:1
 returns-2 : tie.Need-returns-2

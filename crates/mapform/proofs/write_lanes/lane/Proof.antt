@@ -88,7 +88,12 @@ direction-requires c κs = search needs
 
 -- src/write_lanes.rt:42:36
 add-at-4 : tie.Need-add-at-4
-add-at-4 c = omega (arith, c .before .before .before .before .before .before .before .before .before .before .before .before .before .before .before .before .before .before .before .before .before .before .before .before .before .before .before .before .before .before .before .before .before .before .if1 .left)
+add-at-4 c =
+    let after-spaced-signed-arg = c .before .before .before .before .before .before .before .before .before .before in
+    let after-slice-known4 = after-spaced-signed-arg .before .before .before .before .before .before .before .before .before .before in
+    let after-out = after-slice-known4 .before .before .before .before .before .before .before .before .before .before in
+    let else1 = after-out .before .before .before .before in
+    omega (arith, else1 .if1 .left)
 
 -- src/write_lanes.rt:42:26
 at-requires-5 : tie.Need-at-requires-5
@@ -96,7 +101,12 @@ at-requires-5 c κs = search needs
 
 -- src/write_lanes.rt:42:54
 add-at-5 : tie.Need-add-at-5
-add-at-5 c = omega (arith, c .before .before .before .before .before .before .before .before .before .before .before .before .before .before .before .before .before .before .before .before .before .before .before .before .before .before .before .before .before .before .before .before .before .before .before .if1 .left)
+add-at-5 c =
+    let after-at3 = c .before .before .before .before .before .before .before .before .before .before in
+    let after-name-arg = after-at3 .before .before .before .before .before .before .before .before .before .before in
+    let after-slice-known2 = after-name-arg .before .before .before .before .before .before .before .before .before .before in
+    let else1 = after-slice-known2 .before .before .before .before .before in
+    omega (arith, else1 .if1 .left)
 
 -- src/write_lanes.rt:42:44
 at-requires-6 : tie.Need-at-requires-6
@@ -112,7 +122,13 @@ link-requires c κs = search needs
 
 -- src/write_lanes.rt:43:36
 add-at-6 : tie.Need-add-at-6
-add-at-6 c = omega (arith, c .before .before .before .before .before .before .before .before .before .before .before .before .before .before .before .before .before .before .before .before .before .before .before .before .before .before .before .before .before .before .before .before .before .before .before .before .before .before .before .before .before .if1 .left)
+add-at-6 c =
+    let after-direction = c .before .before .before .before .before .before .before .before .before .before in
+    let after-spaced2 = after-direction .before .before .before .before .before .before .before .before .before .before in
+    let after-byte-arg = after-spaced2 .before .before .before .before .before .before .before .before .before .before in
+    let after-text-arg = after-byte-arg .before .before .before .before .before .before .before .before .before .before in
+    let else1 = after-text-arg .before in
+    omega (arith, else1 .if1 .left)
 
 -- src/write_lanes.rt:43:26
 at-requires-7 : tie.Need-at-requires-7
@@ -120,7 +136,13 @@ at-requires-7 c κs = search needs
 
 -- src/write_lanes.rt:43:54
 add-at-7 : tie.Need-add-at-7
-add-at-7 c = omega (arith, c .before .before .before .before .before .before .before .before .before .before .before .before .before .before .before .before .before .before .before .before .before .before .before .before .before .before .before .before .before .before .before .before .before .before .before .before .before .before .before .before .before .before .if1 .left)
+add-at-7 c =
+    let after-out7 = c .before .before .before .before .before .before .before .before .before .before in
+    let after-out5 = after-out7 .before .before .before .before .before .before .before .before .before .before in
+    let after-byte = after-out5 .before .before .before .before .before .before .before .before .before .before in
+    let after-text-arg2 = after-byte .before .before .before .before .before .before .before .before .before .before in
+    let else1 = after-text-arg2 .before .before in
+    omega (arith, else1 .if1 .left)
 
 -- src/write_lanes.rt:43:44
 at-requires-8 : tie.Need-at-requires-8
@@ -140,7 +162,27 @@ byte-requires-2 c κs = search needs
 
 -- src/write_lanes.rt:30:1
 same-length : tie.Need-same-length
-same-length c = c .before .before .byte2 .kept .0 ∙ c .before .before .before .before .before .before .link2 .kept .0 ∙ c .before .before .before .before .before .before .before .before .before .before .before .before .before .link .kept .0 ∙ c .before .before .before .before .before .before .before .before .before .before .before .before .before .before .before .before .before .before .before .before .direction .kept .0 ∙ c .before .before .before .before .before .before .before .before .before .before .before .before .before .before .before .before .before .before .before .before .before .before .before .before .before .spaced-signed .kept .0 ∙ c .before .before .before .before .before .before .before .before .before .before .before .before .before .before .before .before .before .before .before .before .before .before .before .before .before .before .before .before .before .before .spaced2 .kept .0 ∙ c .before .before .before .before .before .before .before .before .before .before .before .before .before .before .before .before .before .before .before .before .before .before .before .before .before .before .before .before .before .before .before .before .before .before .before .name .kept .0 ∙ c .before .before .before .before .before .before .before .before .before .before .before .before .before .before .before .before .before .before .before .before .before .before .before .before .before .before .before .before .before .before .before .before .before .before .before .before .before .before .before .byte .kept .0 ∙ c .before .before .before .before .before .before .before .before .before .before .before .before .before .before .before .before .before .before .before .before .before .before .before .before .before .before .before .before .before .before .before .before .before .before .before .before .before .before .before .before .before .before .before .spaced .kept .0 ∙ c .before .before .before .before .before .before .before .before .before .before .before .before .before .before .before .before .before .before .before .before .before .before .before .before .before .before .before .before .before .before .before .before .before .before .before .before .before .before .before .before .before .before .before .before .before .before .before .before .text .kept .0
+same-length c =
+    let after-byte2 : tie.After-byte2 = search in
+    let after-link2 : tie.After-link2 = search in
+    let after-link : tie.After-link = search in
+    let after-direction : tie.After-direction = search in
+    let after-spaced-signed : tie.After-spaced-signed = search in
+    let after-spaced2 : tie.After-spaced2 = search in
+    let after-name : tie.After-name = search in
+    let after-byte : tie.After-byte = search in
+    let after-spaced : tie.After-spaced = search in
+    let after-text = after-spaced .before .before .before .before .before in
+    after-byte2 .byte2 .kept .0
+    ∙ after-link2 .link2 .kept .0
+    ∙ after-link .link .kept .0
+    ∙ after-direction .direction .kept .0
+    ∙ after-spaced-signed .spaced-signed .kept .0
+    ∙ after-spaced2 .spaced2 .kept .0
+    ∙ after-name .name .kept .0
+    ∙ after-byte .byte .kept .0
+    ∙ after-spaced .spaced .kept .0
+    ∙ after-text .text .kept .0
 
 -- src/write_lanes.rt:30:1
 returns-2 : tie.Need-returns-2

@@ -30,19 +30,29 @@ edges-row-requires c κs = search needs
 
 -- src/write_lanes.rt:217:9
 add-l : tie.Need-add-l Inv-loop μ-loop
-add-l c = omega (arith, c .before .before .before .before .before .before .before .before .loop-test .taken)
+add-l c =
+    let in-loop : tie.In-loop Inv-loop μ-loop = search in
+    omega (arith, in-loop .loop-test .taken)
 
 -- src/write_lanes.rt:214:5
 loop-less : tie.Need-loop-less Inv-loop μ-loop
-loop-less c = omega (arith, c .before .before .before .before .before .before .before .before .loop-test .taken)
+loop-less c =
+    let in-loop : tie.In-loop Inv-loop μ-loop = search in
+    omega (arith, in-loop .loop-test .taken)
 
 -- src/write_lanes.rt:214:5
 loop-again : tie.Need-loop-again Inv-loop μ-loop
-loop-again c = (omega arith, c .before .before .edges-row .kept .0 ∙ c .before .before .before .before .before .before .lane .kept .0 ∙ c .before .before .before .before .before .before .before .before .before .loop .inv .1)
+loop-again c =
+    let after-edges-row : tie.After-edges-row Inv-loop μ-loop = search in
+    let after-lane : tie.After-lane Inv-loop μ-loop = search in
+    let at-loop : tie.At-loop Inv-loop μ-loop = search in
+    (omega arith, after-edges-row .edges-row .kept .0 ∙ after-lane .lane .kept .0 ∙ at-loop .loop .inv .1)
 
 -- src/write_lanes.rt:204:1
 same-length : tie.Need-same-length Inv-loop μ-loop
-same-length c = c .before .loop .inv .1
+same-length c =
+    let at-loop : tie.At-loop Inv-loop μ-loop = search in
+    at-loop .loop .inv .1
 
 -- src/write_lanes.rt:204:1
 returns : tie.Need-returns Inv-loop μ-loop

@@ -14,7 +14,9 @@ bit-requires : tie.Need-bit-requires
 bit-requires c κs = search needs
 
 returns : tie.Need-returns
-returns c = c .bit .ensures ∙ ap bit (c .before .reads-at .ensures)
+returns c =
+    let after-reads-at : tie.After-reads-at = search in
+    c .bit .ensures ∙ ap bit (after-reads-at .reads-at .ensures)
 
 pub contact-at-spec : {M : Type 1} → statement M
 contact-at-spec =

@@ -9,7 +9,11 @@ absent-at-requires : tie.Need-absent-at-requires
 absent-at-requires c κs = search needs
 
 returns : tie.Need-returns
-returns c = let s = (c .before .before .before .before) in fits-absent (s .args .text .now) (s .args .ws .now) (s .args .at) (sym (c .before .absent-at .ensures) ∙ c .if1 .taken)
+returns c =
+    let after-absent-at : tie.After-absent-at = search in
+    let start : tie.Start = search in
+    fits-absent (start .args .text .now) (start .args .ws .now) (start .args .at)
+    (sym (after-absent-at .absent-at .ensures) ∙ c .if1 .taken)
 
 word-requires : tie.Need-word-requires
 word-requires c κs = search needs
@@ -25,7 +29,14 @@ add-result c = search needs
 
 returns-2 : tie.Need-returns-2
 unfolding placed
-returns-2 c = let s = (c .before .before .before .before .before .before) in fits-there (s .args .text .now) (s .args .ws .now) (s .args .at) (sym (c .before .before .before .absent-at .ensures) ∙ c .before .before .if1 .left) (rw (c .before .word .ensures .0, c .word2 .ensures .0))
+returns-2 c =
+    let after-word : tie.After-word = search in
+    let else1 : tie.Else1 = search in
+    let after-absent-at : tie.After-absent-at = search in
+    let start : tie.Start = search in
+    fits-there (start .args .text .now) (start .args .ws .now) (start .args .at)
+    (sym (after-absent-at .absent-at .ensures) ∙ else1 .if1 .left)
+    (rw (after-word .word .ensures .0, c .word2 .ensures .0))
 
 pub name-fits-spec : {M : Type 1} → statement M
 name-fits-spec =

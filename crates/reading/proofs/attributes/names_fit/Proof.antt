@@ -16,7 +16,13 @@ abbrev μ-loop : tie.MeasureT-loop
 μ-loop text ws at n i₀ i = n - i
 
 loop-holds : tie.Need-loop-holds Inv-loop μ-loop
-loop-holds c = let s = (c .before .before) in (omega arith, ap₂ (λ (m k : ℕ). namesWorded (s .args .text .now) m (s .args .ws .now) k) (let z : s .args .n ≡ s .args .n - 0 = omega arith in z) (let z : s .args .at ≡ s .args .at + 0 * 2 = omega arith in z))
+loop-holds c =
+    let start : tie.Start Inv-loop μ-loop = search in
+    let n = start .args .n in let at = start .args .at in (
+      omega arith,
+      ap₂ (λ (m k : ℕ). namesWorded (start .args .text .now) m (start .args .ws .now) k)
+          (let z : n ≡ n - 0 = omega arith in z) (let z : at ≡ at + 0 * 2 = omega arith in z),
+    )
 
 mul-name-fits : tie.Need-mul-name-fits Inv-loop μ-loop
 mul-name-fits c = search needs
@@ -28,7 +34,17 @@ name-fits-requires : tie.Need-name-fits-requires Inv-loop μ-loop
 name-fits-requires c κs = search needs
 
 returns : tie.Need-returns Inv-loop μ-loop
-returns c = let s = (c .before .before .before .before .before .before) in let l = c .before .before .before .loop in sym (l .inv .1 ∙ names-step (s .args .text .now) (s .args .n) (l .i) (s .args .at) (s .args .ws .now) (omega arith) ∙ and-off-left _ (namesWorded (s .args .text .now) (s .args .n - (l .i + 1)) (s .args .ws .now) (s .args .at + (l .i + 1) * 2)) (sym (c .before .name-fits .ensures) ∙ not-true _ (c .if1 .taken)))
+returns c =
+    let after-name-fits : tie.After-name-fits Inv-loop μ-loop = search in
+    let at-loop : tie.At-loop Inv-loop μ-loop = search in
+    let start : tie.Start Inv-loop μ-loop = search in
+    let text = start .args .text .now in let n = start .args .n in let at = start .args .at in
+    let ws = start .args .ws .now in
+    let l = at-loop .loop in
+    sym (l .inv .1
+    ∙ names-step text n (l .i) at ws (omega arith)
+    ∙ and-off-left _ (namesWorded text (n - (l .i + 1)) ws (at + (l .i + 1) * 2))
+    (sym (after-name-fits .name-fits .ensures) ∙ not-true _ (c .if1 .taken)))
 
 add-i : tie.Need-add-i Inv-loop μ-loop
 add-i c = omega arith
@@ -37,10 +53,29 @@ loop-less : tie.Need-loop-less Inv-loop μ-loop
 loop-less c = omega arith
 
 loop-again : tie.Need-loop-again Inv-loop μ-loop
-loop-again c = let s = (c .before .before .before .before .before .before) in let l = c .before .before .before .loop in (omega arith, l .inv .1 ∙ names-step (s .args .text .now) (s .args .n) (l .i) (s .args .at) (s .args .ws .now) (omega arith) ∙ and-on _ (namesWorded (s .args .text .now) (s .args .n - (l .i + 1)) (s .args .ws .now) (s .args .at + (l .i + 1) * 2)) (sym (c .before .name-fits .ensures) ∙ not-false _ (c .if1 .left)))
+loop-again c =
+    let after-name-fits : tie.After-name-fits Inv-loop μ-loop = search in
+    let at-loop : tie.At-loop Inv-loop μ-loop = search in
+    let start : tie.Start Inv-loop μ-loop = search in
+    let text = start .args .text .now in let n = start .args .n in let at = start .args .at in
+    let ws = start .args .ws .now in
+    let l = at-loop .loop in (
+      omega arith,
+      l .inv .1
+          ∙ names-step text n (l .i) at ws (omega arith)
+          ∙ and-on _ (namesWorded text (n - (l .i + 1)) ws (at + (l .i + 1) * 2))
+          (sym (after-name-fits .name-fits .ensures) ∙ not-false _ (c .if1 .left)),
+    )
 
 returns-2 : tie.Need-returns-2 Inv-loop μ-loop
-returns-2 c = let s = (c .before .before .before .before) in let l = c .before .loop in sym (l .inv .1 ∙ ap (λ (m : ℕ). namesWorded (s .args .text .now) m (s .args .ws .now) (s .args .at + l .i * 2)) (let z : s .args .n - l .i ≡ 0 = omega arith in z))
+returns-2 c =
+    let at-loop : tie.At-loop Inv-loop μ-loop = search in
+    let start : tie.Start Inv-loop μ-loop = search in
+    let l = at-loop .loop in
+    sym (l .inv .1
+    ∙ ap
+    (λ (m : ℕ). namesWorded (start .args .text .now) m (start .args .ws .now) (start .args .at + l .i * 2))
+    (let z : start .args .n - l .i ≡ 0 = omega arith in z))
 
 pub names-fit-spec : {M : Type 1} → statement M
 names-fit-spec =

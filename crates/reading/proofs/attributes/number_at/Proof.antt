@@ -13,7 +13,14 @@ no-link-requires : tie.Need-no-link-requires
 no-link-requires c κs = search needs
 
 returns : tie.Need-returns
-returns c = let s = (c .before .before .before .before .before) in c .no-link .ensures ∙ sym (ap (λ o. linkRead (numberOf (s .args .text .now) o)) (name-absent (s .args .ws .now) (s .args .at) (sym (c .before .before .absent-at .ensures) ∙ c .before .if1 .taken)))
+returns c =
+    let then1 : tie.Then1 = search in
+    let after-absent-at : tie.After-absent-at = search in
+    let start : tie.Start = search in
+    c .no-link .ensures
+    ∙ sym (ap (λ o. linkRead (numberOf (start .args .text .now) o))
+    (name-absent (start .args .ws .now) (start .args .at)
+    (sym (after-absent-at .absent-at .ensures) ∙ then1 .if1 .taken)))
 
 word-requires : tie.Need-word-requires
 word-requires c κs = search needs
@@ -31,7 +38,19 @@ lane-number-requires : tie.Need-lane-number-requires
 lane-number-requires c κs = search needs
 
 returns-2 : tie.Need-returns-2
-returns-2 c = let s = (c .before .before .before .before .before .before .before .before) in c .lane-number .ensures ∙ ap (λ l. linkRead (laneNumber l)) (c .before .name .ensures) ∙ sym (ap (λ o. linkRead (numberOf (s .args .text .now) o)) (name-there (s .args .ws .now) (s .args .at) (sym (c .before .before .before .before .before .absent-at .ensures) ∙ c .before .before .before .before .if1 .left) (c .before .before .before .word .ensures .0) (c .before .before .word2 .ensures .0)))
+returns-2 c =
+    let after-name : tie.After-name = search in
+    let after-word2 : tie.After-word2 = search in
+    let after-word : tie.After-word = search in
+    let else1 : tie.Else1 = search in
+    let after-absent-at : tie.After-absent-at = search in
+    let start : tie.Start = search in
+    c .lane-number .ensures
+    ∙ ap (λ l. linkRead (laneNumber l)) (after-name .name .ensures)
+    ∙ sym (ap (λ o. linkRead (numberOf (start .args .text .now) o))
+    (name-there (start .args .ws .now) (start .args .at)
+    (sym (after-absent-at .absent-at .ensures) ∙ else1 .if1 .left) (after-word .word .ensures .0)
+    (after-word2 .word2 .ensures .0)))
 
 pub number-at-spec : {M : Type 1} → statement M
 number-at-spec =

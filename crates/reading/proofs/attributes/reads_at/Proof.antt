@@ -10,7 +10,12 @@ absent-at-requires : tie.Need-absent-at-requires
 absent-at-requires c κs = search needs
 
 returns : tie.Need-returns
-returns c = let s = (c .before .before .before .before .before) in sym (ap (reads (s .args .text .now) (s .args .bytes .now)) (name-absent (s .args .ws .now) (s .args .at) (sym (c .before .absent-at .ensures) ∙ c .if1 .taken)))
+returns c =
+    let after-absent-at : tie.After-absent-at = search in
+    let start : tie.Start = search in
+    sym (ap (reads (start .args .text .now) (start .args .bytes .now))
+    (name-absent (start .args .ws .now) (start .args .at)
+    (sym (after-absent-at .absent-at .ensures) ∙ c .if1 .taken)))
 
 word-requires : tie.Need-word-requires
 word-requires c κs = search needs
@@ -28,7 +33,20 @@ same-bytes-requires : tie.Need-same-bytes-requires
 same-bytes-requires c κs = search needs
 
 returns-2 : tie.Need-returns-2
-returns-2 c = let s = (c .before .before .before .before .before .before .before .before .before) in c .same-bytes .ensures ∙ ap (λ l. equalBytes l (s .args .bytes .now)) (c .before .name .ensures) ∙ sym (ap (reads (s .args .text .now) (s .args .bytes .now)) (name-there (s .args .ws .now) (s .args .at) (sym (c .before .before .before .before .before .absent-at .ensures) ∙ c .before .before .before .before .if1 .left) (c .before .before .before .word .ensures .0) (c .before .before .word2 .ensures .0)))
+returns-2 c =
+    let after-name : tie.After-name = search in
+    let after-word2 : tie.After-word2 = search in
+    let after-word : tie.After-word = search in
+    let else1 : tie.Else1 = search in
+    let after-absent-at : tie.After-absent-at = search in
+    let start : tie.Start = search in
+    let bytes = start .args .bytes .now in
+    c .same-bytes .ensures
+    ∙ ap (λ l. equalBytes l bytes) (after-name .name .ensures)
+    ∙ sym (ap (reads (start .args .text .now) bytes)
+    (name-there (start .args .ws .now) (start .args .at)
+    (sym (after-absent-at .absent-at .ensures) ∙ else1 .if1 .left) (after-word .word .ensures .0)
+    (after-word2 .word2 .ensures .0)))
 
 pub reads-at-spec : {M : Type 1} → statement M
 reads-at-spec =

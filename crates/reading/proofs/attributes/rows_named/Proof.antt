@@ -26,25 +26,63 @@ loop-holds : tie.Need-loop-holds Inv-loop μ-loop
 loop-holds c = (omega arith, all-none _)
 
 mul-names-fit : tie.Need-mul-names-fit Inv-loop μ-loop
-mul-names-fit c = let s = (c .before .before .before .before) in let l = c .before .loop in let a = row-fits (length (s .args .ws .now) / s .args .w) (s .args .w) (l .i) (c .loop-test .taken) in let b = rows-in (length (s .args .ws .now)) (s .args .w) in omega arith
+mul-names-fit c =
+    let at-loop : tie.At-loop Inv-loop μ-loop = search in
+    let start : tie.Start Inv-loop μ-loop = search in
+    let ws = start .args .ws .now in let w = start .args .w in
+    let l = at-loop .loop in
+    let a = row-fits (length ws / w) w (l .i) (c .loop-test .taken) in
+    let b = rows-in (length ws) w in omega arith
 
 names-fit-requires : tie.Need-names-fit-requires Inv-loop μ-loop
-names-fit-requires c κs = let s = (c .before .before .before .before) in let l = c .before .loop in let a = row-fits (length (s .args .ws .now) / s .args .w) (s .args .w) (l .i) (c .loop-test .taken) in let b = rows-in (length (s .args .ws .now)) (s .args .w) in (omega (arith, s .pre .2), s .pre .3)
+names-fit-requires c κs =
+    let at-loop : tie.At-loop Inv-loop μ-loop = search in
+    let start : tie.Start Inv-loop μ-loop = search in
+    let ws = start .args .ws .now in let w = start .args .w in
+    let l = at-loop .loop in
+    let a = row-fits (length ws / w) w (l .i) (c .loop-test .taken) in
+    let b = rows-in (length ws) w in (omega (arith, start .pre .2), start .pre .3)
 
 returns : tie.Need-returns Inv-loop μ-loop
-returns c = let s = (c .before .before .before .before .before .before) in let l = c .before .before .before .loop in sym (rows-named (s .args .text .now) (s .args .w) (s .args .n) (s .args .ws .now) (s .pre .2) ∙ all-miss (length (s .args .ws .now) / s .args .w) (l .i) (λ k. namesWorded (s .args .text .now) (s .args .n) (s .args .ws .now) (k * s .args .w)) (omega arith) (sym (c .before .names-fit .ensures) ∙ not-true _ (c .if1 .taken)))
+returns c =
+    let after-names-fit : tie.After-names-fit Inv-loop μ-loop = search in
+    let at-loop : tie.At-loop Inv-loop μ-loop = search in
+    let start : tie.Start Inv-loop μ-loop = search in
+    let text = start .args .text .now in let w = start .args .w in let n = start .args .n in
+    let ws = start .args .ws .now in
+    let l = at-loop .loop in
+    sym (rows-named text w n ws (start .pre .2)
+    ∙ all-miss (length ws / w) (l .i) (λ k. namesWorded text n ws (k * w)) (omega arith)
+    (sym (after-names-fit .names-fit .ensures) ∙ not-true _ (c .if1 .taken)))
 
 add-i : tie.Need-add-i Inv-loop μ-loop
-add-i c = let s = (c .before .before .before .before .before .before) in omega (arith, div-le-self (length (s .args .ws .now)) (s .args .w))
+add-i c =
+    let start : tie.Start Inv-loop μ-loop = search in
+    omega (arith, div-le-self (length (start .args .ws .now)) (start .args .w))
 
 loop-less : tie.Need-loop-less Inv-loop μ-loop
 loop-less c = omega arith
 
 loop-again : tie.Need-loop-again Inv-loop μ-loop
-loop-again c = (omega arith, all-step _ _ (c .before .before .before .loop .inv .1) (sym (c .before .names-fit .ensures) ∙ not-false _ (c .if1 .left)))
+loop-again c =
+    let after-names-fit : tie.After-names-fit Inv-loop μ-loop = search in
+    let at-loop : tie.At-loop Inv-loop μ-loop = search in (
+      omega arith,
+      all-step _ _ (at-loop .loop .inv .1)
+          (sym (after-names-fit .names-fit .ensures) ∙ not-false _ (c .if1 .left)),
+    )
 
 returns-2 : tie.Need-returns-2 Inv-loop μ-loop
-returns-2 c = let s = (c .before .before .before .before) in let l = c .before .loop in let past : length (s .args .ws .now) / s .args .w ≡ l .i = omega arith in sym (rows-named (s .args .text .now) (s .args .w) (s .args .n) (s .args .ws .now) (s .pre .2) ∙ ap (λ (m : ℕ). all m (λ k. namesWorded (s .args .text .now) (s .args .n) (s .args .ws .now) (k * s .args .w))) past ∙ l .inv .1)
+returns-2 c =
+    let at-loop : tie.At-loop Inv-loop μ-loop = search in
+    let start : tie.Start Inv-loop μ-loop = search in
+    let ws = start .args .ws .now in let w = start .args .w in let text = start .args .text .now in
+    let n = start .args .n in
+    let l = at-loop .loop in
+    let past : length ws / w ≡ l .i = omega arith in
+    sym (rows-named text w n ws (start .pre .2)
+    ∙ ap (λ (m : ℕ). all m (λ k. namesWorded text n ws (k * w))) past
+    ∙ l .inv .1)
 
 pub rows-named-spec : {M : Type 1} → statement M
 rows-named-spec =

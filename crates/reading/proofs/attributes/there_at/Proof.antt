@@ -10,10 +10,18 @@ absent-at-requires : tie.Need-absent-at-requires
 absent-at-requires c κs = search needs
 
 returns : tie.Need-returns
-returns c = let s = (c .before .before .before) in sym (ap (λ o. bit (isSome o)) (name-absent (s .args .ws .now) (s .args .at) (sym (c .before .absent-at .ensures) ∙ c .if1 .taken)))
+returns c =
+    let after-absent-at : tie.After-absent-at = search in
+    let start : tie.Start = search in
+    sym (ap (λ o. bit (isSome o)) (name-absent (start .args .ws .now) (start .args .at)
+    (sym (after-absent-at .absent-at .ensures) ∙ c .if1 .taken)))
 
 returns-2 : tie.Need-returns-2
-returns-2 c = let s = (c .before .before .before) in sym (ap (λ o. bit (isSome o)) (name-there (s .args .ws .now) (s .args .at) (sym (c .before .absent-at .ensures) ∙ c .if1 .left) refl refl))
+returns-2 c =
+    let after-absent-at : tie.After-absent-at = search in
+    let start : tie.Start = search in
+    sym (ap (λ o. bit (isSome o)) (name-there (start .args .ws .now) (start .args .at)
+    (sym (after-absent-at .absent-at .ensures) ∙ c .if1 .left) refl refl))
 
 pub there-at-spec : {M : Type 1} → statement M
 there-at-spec = tie.close (tie.spec absent-at-requires returns returns-2)

@@ -12,13 +12,27 @@ absent-at-requires : tie.Need-absent-at-requires
 absent-at-requires c κs = search needs
 
 returns : tie.Need-returns
-returns c = let s = (c .before .before .before) in sym (and-off-left _ (isSome (nameIn (s .args .ws .now) (s .args .b))) (sym (there-is (s .args .ws .now) (s .args .a)) ∙ ap not (sym (c .before .absent-at .ensures) ∙ c .if1 .taken)))
+returns c =
+    let after-absent-at : tie.After-absent-at = search in
+    let start : tie.Start = search in
+    let ws = start .args .ws .now in
+    sym (and-off-left _ (isSome (nameIn ws (start .args .b)))
+    (sym (there-is ws (start .args .a)) ∙ ap not (sym (after-absent-at .absent-at .ensures) ∙ c .if1 .taken)))
 
 absent-at-requires-2 : tie.Need-absent-at-requires-2
 absent-at-requires-2 c κs = search needs
 
 returns-2 : tie.Need-returns-2
-returns-2 c = let s = (c .before .before .before .before) in ap not (c .absent-at2 .ensures) ∙ there-is (s .args .ws .now) (s .args .b) ∙ sym (and-on _ (isSome (nameIn (s .args .ws .now) (s .args .b))) (sym (there-is (s .args .ws .now) (s .args .a)) ∙ ap not (sym (c .before .before .absent-at .ensures) ∙ c .before .if1 .left)))
+returns-2 c =
+    let else1 : tie.Else1 = search in
+    let after-absent-at : tie.After-absent-at = search in
+    let start : tie.Start = search in
+    let ws = start .args .ws .now in let b = start .args .b in
+    ap not (c .absent-at2 .ensures)
+    ∙ there-is ws b
+    ∙ sym (and-on _ (isSome (nameIn ws b))
+    (sym (there-is ws (start .args .a))
+    ∙ ap not (sym (after-absent-at .absent-at .ensures) ∙ else1 .if1 .left)))
 
 pub both-there-spec : {M : Type 1} → statement M
 both-there-spec = tie.close (tie.spec absent-at-requires returns absent-at-requires-2 returns-2)

@@ -49,13 +49,24 @@ shared-slice-read-t23 : tie.Need-shared-slice-read-t23
 shared-slice-read-t23 c = search needs
 
 cast-t24 : tie.Need-cast-t24
-cast-t24 c = omega (arith, (c .before .before .before .before .before .before .before) .pre .2)
+cast-t24 c =
+    let start : tie.Start = search in
+    omega (arith, start .pre .2)
 
 cast-t25 : tie.Need-cast-t25
-cast-t25 c = omega (arith, (c .before .before .before .before .before .before .before) .pre .3)
+cast-t25 c =
+    let start : tie.Start = search in
+    omega (arith, start .pre .3)
 
 returns : tie.Need-returns
-returns c = let e = c .before .before .before .before .contact-at .ensures in let s = (c .before .before .before .before .before .before .before) in λ z. getD (s .args .connections .now) (s .args .at + 4) 0 ∷ getD (s .args .connections .now) (s .args .at + 4 + 1) 0 ∷ getD (s .args .connections .now) (s .args .k) 0 ∷ getD (s .args .connections .now) (s .args .k + 1) 0 ∷ e z ∷ s .args .first ∷ s .args .count ∷ []
+returns c =
+    let after-contact-at : tie.After-contact-at = search in
+    let start : tie.Start = search in
+    let connections = start .args .connections .now in let at = start .args .at in let k = start .args .k in
+    let e = after-contact-at .contact-at .ensures in
+    λ z.
+    getD connections (at + 4) 0 ∷ getD connections (at + 4 + 1) 0 ∷ getD connections k 0
+    ∷ getD connections (k + 1) 0 ∷ e z ∷ start .args .first ∷ start .args .count ∷ []
 
 pub connection-row-spec : {M : Type 1} → statement M
 connection-row-spec =

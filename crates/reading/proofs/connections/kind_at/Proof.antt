@@ -12,7 +12,11 @@ reads-at-requires : tie.Need-reads-at-requires
 reads-at-requires c κs = search needs
 
 returns : tie.Need-returns
-returns c = let s = (c .before .before .before .before .before) in kind-direct (s .args .text .now) (nameIn (s .args .ws .now) (s .args .at)) (sym (c .before .reads-at .ensures) ∙ c .if1 .taken)
+returns c =
+    let after-reads-at : tie.After-reads-at = search in
+    let start : tie.Start = search in
+    kind-direct (start .args .text .now) (nameIn (start .args .ws .now) (start .args .at))
+    (sym (after-reads-at .reads-at .ensures) ∙ c .if1 .taken)
 
 slice-aggregate-reads-at-2 : tie.Need-slice-aggregate-reads-at-2
 slice-aggregate-reads-at-2 c = search needs
@@ -21,10 +25,24 @@ reads-at-requires-2 : tie.Need-reads-at-requires-2
 reads-at-requires-2 c κs = search needs
 
 returns-2 : tie.Need-returns-2
-returns-2 c = let s = (c .before .before .before .before .before .before .before .before) in kind-virtual (s .args .text .now) (nameIn (s .args .ws .now) (s .args .at)) (sym (c .before .before .before .before .reads-at .ensures) ∙ c .before .before .before .if1 .left) (sym (c .before .reads-at2 .ensures) ∙ c .if2 .taken)
+returns-2 c =
+    let after-reads-at2 : tie.After-reads-at2 = search in
+    let else1 : tie.Else1 = search in
+    let after-reads-at : tie.After-reads-at = search in
+    let start : tie.Start = search in
+    kind-virtual (start .args .text .now) (nameIn (start .args .ws .now) (start .args .at))
+    (sym (after-reads-at .reads-at .ensures) ∙ else1 .if1 .left)
+    (sym (after-reads-at2 .reads-at2 .ensures) ∙ c .if2 .taken)
 
 returns-3 : tie.Need-returns-3
-returns-3 c = let s = (c .before .before .before .before .before .before .before .before) in kind-common (s .args .text .now) (nameIn (s .args .ws .now) (s .args .at)) (sym (c .before .before .before .before .reads-at .ensures) ∙ c .before .before .before .if1 .left) (sym (c .before .reads-at2 .ensures) ∙ c .if2 .left)
+returns-3 c =
+    let after-reads-at2 : tie.After-reads-at2 = search in
+    let else1 : tie.Else1 = search in
+    let after-reads-at : tie.After-reads-at = search in
+    let start : tie.Start = search in
+    kind-common (start .args .text .now) (nameIn (start .args .ws .now) (start .args .at))
+    (sym (after-reads-at .reads-at .ensures) ∙ else1 .if1 .left)
+    (sym (after-reads-at2 .reads-at2 .ensures) ∙ c .if2 .left)
 
 pub kind-at-spec : {M : Type 1} → statement M
 kind-at-spec =

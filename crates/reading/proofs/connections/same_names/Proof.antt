@@ -10,13 +10,27 @@ absent-at-requires : tie.Need-absent-at-requires
 absent-at-requires c κs = search needs
 
 returns : tie.Need-returns
-returns c = let s = (c .before .before .before .before .before) in sym (ap (λ o. sameNames (s .args .text .now) o (nameIn (s .args .ys .now) (s .args .b))) (name-absent (s .args .xs .now) (s .args .a) (sym (c .before .absent-at .ensures) ∙ c .if1 .taken)))
+returns c =
+    let after-absent-at : tie.After-absent-at = search in
+    let start : tie.Start = search in
+    sym (ap (λ o. sameNames (start .args .text .now) o (nameIn (start .args .ys .now) (start .args .b)))
+    (name-absent (start .args .xs .now) (start .args .a)
+    (sym (after-absent-at .absent-at .ensures) ∙ c .if1 .taken)))
 
 absent-at-requires-2 : tie.Need-absent-at-requires-2
 absent-at-requires-2 c κs = search needs
 
 returns-2 : tie.Need-returns-2
-returns-2 c = let s = (c .before .before .before .before .before .before .before) in sym (ap₂ (sameNames (s .args .text .now)) (name-there (s .args .xs .now) (s .args .a) (sym (c .before .before .before .absent-at .ensures) ∙ c .before .before .if1 .left) refl refl) (name-absent (s .args .ys .now) (s .args .b) (sym (c .before .absent-at2 .ensures) ∙ c .if2 .taken)))
+returns-2 c =
+    let after-absent-at2 : tie.After-absent-at2 = search in
+    let else1 : tie.Else1 = search in
+    let after-absent-at : tie.After-absent-at = search in
+    let start : tie.Start = search in
+    sym (ap₂ (sameNames (start .args .text .now))
+    (name-there (start .args .xs .now) (start .args .a)
+    (sym (after-absent-at .absent-at .ensures) ∙ else1 .if1 .left) refl refl)
+    (name-absent (start .args .ys .now) (start .args .b)
+    (sym (after-absent-at2 .absent-at2 .ensures) ∙ c .if2 .taken)))
 
 word-requires : tie.Need-word-requires
 word-requires c κs = search needs
@@ -31,7 +45,21 @@ named-requires : tie.Need-named-requires
 named-requires c κs = search needs
 
 returns-3 : tie.Need-returns-3
-returns-3 c = let s = (c .before .before .before .before .before .before .before .before .before .before) in c .named .ensures ∙ sym (ap₂ (sameNames (s .args .text .now)) (name-there (s .args .xs .now) (s .args .a) (sym (c .before .before .before .before .before .before .absent-at .ensures) ∙ c .before .before .before .before .before .if1 .left) refl refl) (name-there (s .args .ys .now) (s .args .b) (sym (c .before .before .before .before .absent-at2 .ensures) ∙ c .before .before .before .if2 .left) (c .before .before .word .ensures .0) (c .before .word2 .ensures .0)))
+returns-3 c =
+    let after-word2 : tie.After-word2 = search in
+    let after-word : tie.After-word = search in
+    let else2 : tie.Else2 = search in
+    let after-absent-at2 : tie.After-absent-at2 = search in
+    let else1 : tie.Else1 = search in
+    let after-absent-at : tie.After-absent-at = search in
+    let start : tie.Start = search in
+    c .named .ensures
+    ∙ sym (ap₂ (sameNames (start .args .text .now))
+    (name-there (start .args .xs .now) (start .args .a)
+    (sym (after-absent-at .absent-at .ensures) ∙ else1 .if1 .left) refl refl)
+    (name-there (start .args .ys .now) (start .args .b)
+    (sym (after-absent-at2 .absent-at2 .ensures) ∙ else2 .if2 .left) (after-word .word .ensures .0)
+    (after-word2 .word2 .ensures .0)))
 
 pub same-names-spec : {M : Type 1} → statement M
 same-names-spec =

@@ -19,7 +19,11 @@ number-at-requires-2 : tie.Need-number-at-requires-2
 number-at-requires-2 c κs = search needs
 
 returns : tie.Need-returns
-returns c = let s = (c .before .before .before .before) in lane-row (s .args .text .now) (s .args .raw .now) (s .args .i) (c .before .number-at .ensures) (c .number-at2 .ensures)
+returns c =
+    let after-number-at : tie.After-number-at = search in
+    let start : tie.Start = search in
+    lane-row (start .args .text .now) (start .args .raw .now) (start .args .i)
+    (after-number-at .number-at .ensures) (c .number-at2 .ensures)
 
 pub lane-row-spec : {M : Type 1} → statement M
 lane-row-spec =

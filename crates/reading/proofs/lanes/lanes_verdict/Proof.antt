@@ -9,16 +9,34 @@ raw-sized-requires : tie.Need-raw-sized-requires
 raw-sized-requires c κs = search needs
 
 returns : tie.Need-returns
-returns c = let s = (c .before .before .before .before) in lanes-1 (s .args .text .now) (s .args .raw .now) (sym (c .before .raw-sized .ensures) ∙ not-true _ (c .if1 .taken))
+returns c =
+    let after-raw-sized : tie.After-raw-sized = search in
+    let start : tie.Start = search in
+    lanes-1 (start .args .text .now) (start .args .raw .now)
+    (sym (after-raw-sized .raw-sized .ensures) ∙ not-true _ (c .if1 .taken))
 
 rows-named-requires : tie.Need-rows-named-requires
 rows-named-requires c κs = search needs
 
 returns-2 : tie.Need-returns-2
-returns-2 c = let s = (c .before .before .before .before .before .before) in lanes-2 (s .args .text .now) (s .args .raw .now) (sym (c .before .before .before .raw-sized .ensures) ∙ not-false _ (c .before .before .if1 .left)) (sym (c .before .rows-named .ensures) ∙ not-true _ (c .if2 .taken))
+returns-2 c =
+    let after-rows-named : tie.After-rows-named = search in
+    let else1 : tie.Else1 = search in
+    let after-raw-sized : tie.After-raw-sized = search in
+    let start : tie.Start = search in
+    lanes-2 (start .args .text .now) (start .args .raw .now)
+    (sym (after-raw-sized .raw-sized .ensures) ∙ not-false _ (else1 .if1 .left))
+    (sym (after-rows-named .rows-named .ensures) ∙ not-true _ (c .if2 .taken))
 
 returns-3 : tie.Need-returns-3
-returns-3 c = let s = (c .before .before .before .before .before .before) in lanes-0 (s .args .text .now) (s .args .raw .now) (sym (c .before .before .before .raw-sized .ensures) ∙ not-false _ (c .before .before .if1 .left)) (sym (c .before .rows-named .ensures) ∙ not-false _ (c .if2 .left))
+returns-3 c =
+    let after-rows-named : tie.After-rows-named = search in
+    let else1 : tie.Else1 = search in
+    let after-raw-sized : tie.After-raw-sized = search in
+    let start : tie.Start = search in
+    lanes-0 (start .args .text .now) (start .args .raw .now)
+    (sym (after-raw-sized .raw-sized .ensures) ∙ not-false _ (else1 .if1 .left))
+    (sym (after-rows-named .rows-named .ensures) ∙ not-false _ (c .if2 .left))
 
 pub lanes-verdict-spec : {M : Type 1} → statement M
 lanes-verdict-spec =

@@ -15,7 +15,11 @@ both-requires c κs = search needs
 
 returns : tie.Need-returns
 unfolding rawSized
-returns c = c .both .ensures ∙ ap (λ b. leb (length ((c .before .before .before) .args .text .now)) 1048576 && b) (c .before .fits2 .ensures)
+returns c =
+    let after-fits2 : tie.After-fits2 = search in
+    let start : tie.Start = search in
+    c .both .ensures
+    ∙ ap (λ b. leb (length (start .args .text .now)) 1048576 && b) (after-fits2 .fits2 .ensures)
 
 pub raw-sized-spec : {M : Type 1} → statement M
 raw-sized-spec = tie.close (tie.spec fits-requires both-requires returns)

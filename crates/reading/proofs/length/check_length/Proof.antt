@@ -7,10 +7,16 @@ use Rattle.reading.proofs.length.check_length.Statement.{statement}
 use Rattle.reading.proofs.length.check_length.Tie as tie
 
 returns : tie.Need-returns
-returns c = let s = (c .before .before .before) in length-uneven (s .args .starts .now) (s .args .lengths .now) (s .args .length) (c .if1 .taken)
+returns c =
+    let start : tie.Start = search in
+    length-uneven (start .args .starts .now) (start .args .lengths .now) (start .args .length) (c .if1 .taken)
 
 returns-2 : tie.Need-returns-2
-returns-2 c = let s = (c .before .before .before .before) in length-none (s .args .starts .now) (s .args .lengths .now) (s .args .length) (c .before .if1 .left) (c .if2 .taken)
+returns-2 c =
+    let else1 : tie.Else1 = search in
+    let start : tie.Start = search in
+    length-none (start .args .starts .now) (start .args .lengths .now) (start .args .length) (else1 .if1 .left)
+    (c .if2 .taken)
 
 sub-sum : tie.Need-sub-sum
 sub-sum c = search needs
@@ -34,10 +40,24 @@ far-off-requires : tie.Need-far-off-requires
 far-off-requires c κs = search needs
 
 returns-3 : tie.Need-returns-3
-returns-3 c = let s = (c .before .before .before .before .before .before .before .before) in length-off (s .args .starts .now) (s .args .lengths .now) (s .args .length) nan (length (s .args .starts .now)) refl (c .before .before .before .before .before .if1 .left) (c .before .before .before .before .if2 .left) (sym (c .before .far-off .ensures) ∙ c .if3 .taken)
+returns-3 c =
+    let after-far-off : tie.After-far-off = search in
+    let else2 : tie.Else2 = search in
+    let else1 : tie.Else1 = search in
+    let start : tie.Start = search in
+    let starts = start .args .starts .now in
+    length-off starts (start .args .lengths .now) (start .args .length) nan (length starts) refl
+    (else1 .if1 .left) (else2 .if2 .left) (sym (after-far-off .far-off .ensures) ∙ c .if3 .taken)
 
 returns-4 : tie.Need-returns-4
-returns-4 c = let s = (c .before .before .before .before .before .before .before .before) in length-fine (s .args .starts .now) (s .args .lengths .now) (s .args .length) nan (length (s .args .starts .now)) refl (c .before .before .before .before .before .if1 .left) (c .before .before .before .before .if2 .left) (sym (c .before .far-off .ensures) ∙ c .if3 .left)
+returns-4 c =
+    let after-far-off : tie.After-far-off = search in
+    let else2 : tie.Else2 = search in
+    let else1 : tie.Else1 = search in
+    let start : tie.Start = search in
+    let starts = start .args .starts .now in
+    length-fine starts (start .args .lengths .now) (start .args .length) nan (length starts) refl
+    (else1 .if1 .left) (else2 .if2 .left) (sym (after-far-off .far-off .ensures) ∙ c .if3 .left)
 
 pub check-length-spec : {M : Type 1} → statement M
 check-length-spec =

@@ -5,11 +5,15 @@ use Rattle.reading.proofs.length.far_off.Tie as tie
 
 returns : tie.Need-returns
 unfolding ofBits
-returns c = far-above ((c .before) .args .length) ((c .before) .args .sum) (c .if1 .taken)
+returns c =
+    let start : tie.Start = search in
+    far-above (start .args .length) (start .args .sum) (c .if1 .taken)
 
 returns-2 : tie.Need-returns-2
 unfolding ofBits
-returns-2 c = far-below ((c .before) .args .length) ((c .before) .args .sum) (c .if1 .left)
+returns-2 c =
+    let start : tie.Start = search in
+    far-below (start .args .length) (start .args .sum) (c .if1 .left)
 
 pub far-off-spec : {M : Type 1} → statement M
 far-off-spec = tie.close (tie.spec returns returns-2)

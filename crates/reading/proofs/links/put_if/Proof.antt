@@ -10,10 +10,14 @@ put-requires : tie.Need-put-requires
 put-requires c κs = search needs
 
 same-length : tie.Need-same-length
-same-length c = c .before .before .put .kept .0
+same-length c =
+    let after-put : tie.After-put = search in
+    after-put .put .kept .0
 
 returns : tie.Need-returns
-returns c = λ h. c .before .before .put .ensures
+returns c =
+    let after-put : tie.After-put = search in
+    λ h. after-put .put .ensures
 
 returns-2 : tie.Need-returns-2
 returns-2 c = λ h. absurd (omega (arith, h, c .if1 .left))

@@ -10,13 +10,20 @@ mul-result : tie.Need-mul-result
 mul-result c = search needs
 
 sub-result : tie.Need-sub-result
-sub-result c = omega (arith, leb-true 48 ((c) .args .b) (left-on (leb 48 ((c) .args .b)) (leb ((c) .args .b) 57) (c .pre .1)))
+sub-result c =
+    omega (arith, leb-true 48 (c .args .b) (left-on (leb 48 (c .args .b)) (leb (c .args .b) 57) (c .pre .1)))
 
 cast-result : tie.Need-cast-result
-cast-result c = omega (arith, leb-true ((c) .args .b) 57 (right-on (leb 48 ((c) .args .b)) (leb ((c) .args .b) 57) (c .pre .1)))
+cast-result c =
+    omega (arith, leb-true (c .args .b) 57 (right-on (leb 48 (c .args .b)) (leb (c .args .b) 57) (c .pre .1)))
 
 add-result : tie.Need-add-result
-add-result c = omega (arith, leb-true ((c) .args .b) 57 (right-on (leb 48 ((c) .args .b)) (leb ((c) .args .b) 57) (c .pre .1)), c .pre .0)
+add-result c =
+    omega (
+      arith,
+      leb-true (c .args .b) 57 (right-on (leb 48 (c .args .b)) (leb (c .args .b) 57) (c .pre .1)),
+      c .pre .0,
+    )
 
 returns : tie.Need-returns
 returns c = search needs

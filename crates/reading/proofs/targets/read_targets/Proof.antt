@@ -20,24 +20,71 @@ admitted-requires c κs = search needs
 
 returns : tie.Need-returns
 unfolding readTargetsCall
-returns c = let s = (c .before .before .before .before .before .before) in one-refused (targetRules (s .args .text .now) (s .args .raw .now)) 7 (targetContent (s .args .text .now) (s .args .raw .now)) (s .args .out .now) (c .before .before .targets-verdict .result) (is-some (refusalOf (c .before .before .targets-verdict .result)) (sym (c .before .admitted .ensures) ∙ not-true _ (c .if1 .taken))) (c .before .before .targets-verdict .ensures)
+returns c =
+    let after-admitted : tie.After-admitted = search in
+    let after-targets-verdict : tie.After-targets-verdict = search in
+    let start : tie.Start = search in
+    let text = start .args .text .now in let raw = start .args .raw .now in
+    one-refused (targetRules text raw) 7 (targetContent text raw) (start .args .out .now)
+    (after-targets-verdict .targets-verdict .result)
+    (is-some (refusalOf (after-targets-verdict .targets-verdict .result))
+    (sym (after-admitted .admitted .ensures) ∙ not-true _ (c .if1 .taken)))
+    (after-targets-verdict .targets-verdict .ensures)
 
 mul-if2 : tie.Need-mul-if2
-mul-if2 c = let s = (c .before .before .before .before .before .before) in let b = rows-in (length (s .args .raw .now)) 9 in omega arith
+mul-if2 c =
+    let start : tie.Start = search in
+    let b = rows-in (length (start .args .raw .now)) 9 in omega arith
 
 returns-2 : tie.Need-returns-2
 unfolding readTargetsCall
-returns-2 c = let s = (c .before .before .before .before .before .before .before) in let adm = is-none (refusalOf (c .before .before .before .targets-verdict .result)) (sym (c .before .before .admitted .ensures) ∙ not-false _ (c .before .if1 .left)) in let first = sym adm ∙ c .before .before .before .targets-verdict .ensures in let len = targets-length (s .args .text .now) (s .args .raw .now) in one-short (targetRules (s .args .text .now) (s .args .raw .now)) 7 (targetContent (s .args .text .now) (s .args .raw .now)) (s .args .out .now) first (omega (arith, c .if2 .taken))
+returns-2 c =
+    let else1 : tie.Else1 = search in
+    let after-admitted : tie.After-admitted = search in
+    let after-targets-verdict : tie.After-targets-verdict = search in
+    let start : tie.Start = search in
+    let text = start .args .text .now in let raw = start .args .raw .now in
+    let adm = is-none (refusalOf (after-targets-verdict .targets-verdict .result))
+    (sym (after-admitted .admitted .ensures) ∙ not-false _ (else1 .if1 .left)) in
+    let first = sym adm ∙ after-targets-verdict .targets-verdict .ensures in
+    let len = targets-length text raw in
+    one-short (targetRules text raw) 7 (targetContent text raw) (start .args .out .now) first
+    (omega (arith, c .if2 .taken))
 
 put-targets-requires : tie.Need-put-targets-requires
-put-targets-requires c κs = let s = (c .before .before .before .before .before .before .before .before) in let adm = is-none (refusalOf (c .before .before .before .before .targets-verdict .result)) (sym (c .before .before .before .admitted .ensures) ∙ not-false _ (c .before .before .if1 .left)) in let first = sym adm ∙ c .before .before .before .before .targets-verdict .ensures in let len = targets-length (s .args .text .now) (s .args .raw .now) in (targets-few (s .args .text .now) (s .args .raw .now) first, omega (arith, c .before .if2 .left))
+put-targets-requires c κs =
+    let else2 : tie.Else2 = search in
+    let else1 : tie.Else1 = search in
+    let after-admitted : tie.After-admitted = search in
+    let after-targets-verdict : tie.After-targets-verdict = search in
+    let start : tie.Start = search in
+    let text = start .args .text .now in let raw = start .args .raw .now in
+    let adm = is-none (refusalOf (after-targets-verdict .targets-verdict .result))
+    (sym (after-admitted .admitted .ensures) ∙ not-false _ (else1 .if1 .left)) in
+    let first = sym adm ∙ after-targets-verdict .targets-verdict .ensures in
+    let len = targets-length text raw in (targets-few text raw first, omega (arith, else2 .if2 .left))
 
 same-length : tie.Need-same-length
-same-length c = c .before .before .put-targets .kept .1 .1 .0
+same-length c =
+    let after-put-targets : tie.After-put-targets = search in
+    after-put-targets .put-targets .kept .1 .1 .0
 
 returns-3 : tie.Need-returns-3
 unfolding readTargetsCall
-returns-3 c = let s = (c .before .before .before .before .before .before .before .before .before .before .before) in let adm = is-none (refusalOf (c .before .before .before .before .before .before .before .targets-verdict .result)) (sym (c .before .before .before .before .before .before .admitted .ensures) ∙ not-false _ (c .before .before .before .before .before .if1 .left)) in let first = sym adm ∙ c .before .before .before .before .before .before .before .targets-verdict .ensures in let len = targets-length (s .args .text .now) (s .args .raw .now) in one-written (targetRules (s .args .text .now) (s .args .raw .now)) 7 (targetContent (s .args .text .now) (s .args .raw .now)) (s .args .out .now) first (omega arith) len (omega (arith, c .before .before .before .before .if2 .left)) (c .before .before .put-targets .ensures)
+returns-3 c =
+    let after-put-targets : tie.After-put-targets = search in
+    let else2 : tie.Else2 = search in
+    let else1 : tie.Else1 = search in
+    let after-admitted : tie.After-admitted = search in
+    let after-targets-verdict : tie.After-targets-verdict = search in
+    let start : tie.Start = search in
+    let text = start .args .text .now in let raw = start .args .raw .now in
+    let adm = is-none (refusalOf (after-targets-verdict .targets-verdict .result))
+    (sym (after-admitted .admitted .ensures) ∙ not-false _ (else1 .if1 .left)) in
+    let first = sym adm ∙ after-targets-verdict .targets-verdict .ensures in
+    let len = targets-length text raw in
+    one-written (targetRules text raw) 7 (targetContent text raw) (start .args .out .now) first (omega arith)
+    len (omega (arith, else2 .if2 .left)) (after-put-targets .put-targets .ensures)
 
 pub read-targets-spec : {M : Type 1} → statement M
 read-targets-spec =

@@ -29,7 +29,13 @@ shared-slice-read-if1 : tie.Need-shared-slice-read-if1
 shared-slice-read-if1 c = search needs
 
 returns : tie.Need-returns
-returns c = let s = (c .before .before .before .before .before .before .before .before) in target-fits-on (s .args .text .now) (s .args .raw .now) (s .args .at) (c .if1 .taken) (both-is (c .before .before .both .ensures) (c .before .before .before .before .most .ensures) (c .before .before .before .names-fit .ensures))
+returns c =
+    let after-both : tie.After-both = search in
+    let after-names-fit : tie.After-names-fit = search in
+    let after-most : tie.After-most = search in
+    let start : tie.Start = search in
+    target-fits-on (start .args .text .now) (start .args .raw .now) (start .args .at) (c .if1 .taken)
+    (both-is (after-both .both .ensures) (after-most .most .ensures) (after-names-fit .names-fit .ensures))
 
 add-absent-at : tie.Need-add-absent-at
 add-absent-at c = search needs
@@ -68,7 +74,27 @@ both-requires-5 : tie.Need-both-requires-5
 both-requires-5 c κs = search needs
 
 returns-2 : tie.Need-returns-2
-returns-2 c = let s = (c .before .before .before .before .before .before .before .before .before .before .before .before .before .before .before .before) in target-fits-off (s .args .text .now) (s .args .raw .now) (s .args .at) (c .before .before .before .before .before .before .before .before .if1 .left) (both-is (c .both5 .ensures) (both-is (c .before .before .before .before .before .before .before .before .before .before .both .ensures) (c .before .before .before .before .before .before .before .before .before .before .before .before .most .ensures) (c .before .before .before .before .before .before .before .before .before .before .before .names-fit .ensures)) (both-is (c .before .both4 .ensures) (both-is (c .before .before .before .both3 .ensures) (both-is (c .before .before .before .before .before .both2 .ensures) (c .before .before .before .before .before .before .before .absent-at .ensures) (c .before .before .before .before .before .before .absent-at2 .ensures)) (c .before .before .before .before .absent-at3 .ensures)) (c .before .before .absent-at4 .ensures)))
+returns-2 c =
+    let after-both4 : tie.After-both4 = search in
+    let after-absent-at4 : tie.After-absent-at4 = search in
+    let after-both3 : tie.After-both3 = search in
+    let after-absent-at3 : tie.After-absent-at3 = search in
+    let after-both2 : tie.After-both2 = search in
+    let after-absent-at2 : tie.After-absent-at2 = search in
+    let after-absent-at : tie.After-absent-at = search in
+    let else1 : tie.Else1 = search in
+    let after-both : tie.After-both = search in
+    let after-names-fit : tie.After-names-fit = search in
+    let after-most : tie.After-most = search in
+    let start : tie.Start = search in
+    target-fits-off (start .args .text .now) (start .args .raw .now) (start .args .at) (else1 .if1 .left)
+    (both-is (c .both5 .ensures)
+    (both-is (after-both .both .ensures) (after-most .most .ensures) (after-names-fit .names-fit .ensures))
+    (both-is (after-both4 .both4 .ensures)
+    (both-is (after-both3 .both3 .ensures)
+    (both-is (after-both2 .both2 .ensures) (after-absent-at .absent-at .ensures)
+    (after-absent-at2 .absent-at2 .ensures)) (after-absent-at3 .absent-at3 .ensures))
+    (after-absent-at4 .absent-at4 .ensures)))
 
 pub target-fits-spec : {M : Type 1} → statement M
 target-fits-spec =

@@ -17,7 +17,9 @@ shared-slice-read-if1 : tie.Need-shared-slice-read-if1
 shared-slice-read-if1 c = search needs
 
 returns : tie.Need-returns
-returns c = let s = (c .before .before .before .before) in target-off (s .args .text .now) (s .args .raw .now) (s .args .i) (c .if1 .taken)
+returns c =
+    let start : tie.Start = search in
+    target-off (start .args .text .now) (start .args .raw .now) (start .args .i) (c .if1 .taken)
 
 add-absent-at : tie.Need-add-absent-at
 add-absent-at c = search needs
@@ -26,7 +28,13 @@ absent-at-requires : tie.Need-absent-at-requires
 absent-at-requires c κs = search needs
 
 returns-2 : tie.Need-returns-2
-returns-2 c = let s = (c .before .before .before .before .before .before) in target-unnamed (s .args .text .now) (s .args .raw .now) (s .args .i) (c .before .before .if1 .left) (name-absent (s .args .raw .now) (s .args .i * 9 + 3) (sym (c .before .absent-at .ensures) ∙ c .if2 .taken))
+returns-2 c =
+    let after-absent-at : tie.After-absent-at = search in
+    let else1 : tie.Else1 = search in
+    let start : tie.Start = search in
+    let raw = start .args .raw .now in let i = start .args .i in
+    target-unnamed (start .args .text .now) raw i (else1 .if1 .left)
+    (name-absent raw (i * 9 + 3) (sym (after-absent-at .absent-at .ensures) ∙ c .if2 .taken))
 
 add-reads-at : tie.Need-add-reads-at
 add-reads-at c = search needs
@@ -80,7 +88,22 @@ shared-slice-read-t23 : tie.Need-shared-slice-read-t23
 shared-slice-read-t23 c = search needs
 
 returns-3 : tie.Need-returns-3
-returns-3 c = let s = (c .before .before .before .before .before .before .before .before .before .before .before .before .before .before) in target-named (s .args .text .now) (s .args .raw .now) (s .args .i) (c .before .before .before .before .before .before .before .before .before .before .if1 .left) (name-there (s .args .raw .now) (s .args .i * 9 + 3) (sym (c .before .before .before .before .before .before .before .before .before .absent-at .ensures) ∙ c .before .before .before .before .before .before .before .before .if2 .left) refl refl) (c .before .before .before .before .before .bit .ensures ∙ ap bit (c .before .before .before .before .before .before .reads-at .ensures)) (c .before .before .before .before .contact-at .ensures) (c .before .before .before .there-at .ensures) (c .before .before .there-at2 .ensures)
+returns-3 c =
+    let after-there-at2 : tie.After-there-at2 = search in
+    let after-there-at : tie.After-there-at = search in
+    let after-contact-at : tie.After-contact-at = search in
+    let after-bit : tie.After-bit = search in
+    let after-reads-at : tie.After-reads-at = search in
+    let else2 : tie.Else2 = search in
+    let after-absent-at : tie.After-absent-at = search in
+    let else1 : tie.Else1 = search in
+    let start : tie.Start = search in
+    let raw = start .args .raw .now in let i = start .args .i in
+    target-named (start .args .text .now) raw i (else1 .if1 .left)
+    (name-there raw (i * 9 + 3) (sym (after-absent-at .absent-at .ensures) ∙ else2 .if2 .left) refl refl)
+    (after-bit .bit .ensures ∙ ap bit (after-reads-at .reads-at .ensures))
+    (after-contact-at .contact-at .ensures) (after-there-at .there-at .ensures)
+    (after-there-at2 .there-at2 .ensures)
 
 pub target-row-spec : {M : Type 1} → statement M
 target-row-spec =

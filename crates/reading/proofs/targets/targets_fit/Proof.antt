@@ -28,7 +28,15 @@ target-fits-requires : tie.Need-target-fits-requires Inv-loop μ-loop
 target-fits-requires c κs = omega arith
 
 returns : tie.Need-returns Inv-loop μ-loop
-returns c = let s = (c .before .before .before .before .before .before) in let l = c .before .before .before .loop in sym (every-rows 9 (s .args .raw .now) (rawTargetWorded (s .args .text .now)) (target-local (s .args .text .now)) ∙ all-miss (length (s .args .raw .now) / 9) (l .i) (λ k. rawTargetWorded (s .args .text .now) (drop (k * 9) (s .args .raw .now))) (omega arith) (sym (c .before .target-fits .ensures) ∙ not-true _ (c .if1 .taken)))
+returns c =
+    let after-target-fits : tie.After-target-fits Inv-loop μ-loop = search in
+    let at-loop : tie.At-loop Inv-loop μ-loop = search in
+    let start : tie.Start Inv-loop μ-loop = search in
+    let raw = start .args .raw .now in let text = start .args .text .now in
+    let l = at-loop .loop in
+    sym (every-rows 9 raw (rawTargetWorded text) (target-local text)
+    ∙ all-miss (length raw / 9) (l .i) (λ k. rawTargetWorded text (drop (k * 9) raw)) (omega arith)
+    (sym (after-target-fits .target-fits .ensures) ∙ not-true _ (c .if1 .taken)))
 
 add-i : tie.Need-add-i Inv-loop μ-loop
 add-i c = omega arith
@@ -37,10 +45,24 @@ loop-less : tie.Need-loop-less Inv-loop μ-loop
 loop-less c = omega arith
 
 loop-again : tie.Need-loop-again Inv-loop μ-loop
-loop-again c = (omega arith, all-step _ _ (c .before .before .before .loop .inv .1) (sym (c .before .target-fits .ensures) ∙ not-false _ (c .if1 .left)))
+loop-again c =
+    let after-target-fits : tie.After-target-fits Inv-loop μ-loop = search in
+    let at-loop : tie.At-loop Inv-loop μ-loop = search in (
+      omega arith,
+      all-step _ _ (at-loop .loop .inv .1)
+          (sym (after-target-fits .target-fits .ensures) ∙ not-false _ (c .if1 .left)),
+    )
 
 returns-2 : tie.Need-returns-2 Inv-loop μ-loop
-returns-2 c = let s = (c .before .before .before .before) in let l = c .before .loop in let past : length (s .args .raw .now) / 9 ≡ l .i = omega arith in sym (every-rows 9 (s .args .raw .now) (rawTargetWorded (s .args .text .now)) (target-local (s .args .text .now)) ∙ ap (λ (m : ℕ). all m (λ k. rawTargetWorded (s .args .text .now) (drop (k * 9) (s .args .raw .now)))) past ∙ l .inv .1)
+returns-2 c =
+    let at-loop : tie.At-loop Inv-loop μ-loop = search in
+    let start : tie.Start Inv-loop μ-loop = search in
+    let raw = start .args .raw .now in let text = start .args .text .now in
+    let l = at-loop .loop in
+    let past : length raw / 9 ≡ l .i = omega arith in
+    sym (every-rows 9 raw (rawTargetWorded text) (target-local text)
+    ∙ ap (λ (m : ℕ). all m (λ k. rawTargetWorded text (drop (k * 9) raw))) past
+    ∙ l .inv .1)
 
 pub targets-fit-spec : {M : Type 1} → statement M
 targets-fit-spec =

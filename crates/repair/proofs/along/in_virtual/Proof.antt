@@ -38,7 +38,19 @@ both-requires-2 c κs = search needs
 
 returns : tie.Need-returns
 unfolding virtualRow
-returns c = let s = (c .before .before .before .before .before .before .before .before .before .before) in c .both2 .ensures ∙ ap₂ (λ a b. not a && b) (c .before .before .both .ensures) (c .before .any-virtual .ensures) ∙ ap₂ (λ (a b : ℕ). not (isAbsent a b) && any (length (s .args .junctions .now) / 5) (isVirtualOf (s .args .text .now) (s .args .junctions .now) (span a b))) (c .before .before .before .before .index-at .ensures .0) (c .before .before .before .index-at2 .ensures .0)
+returns c =
+    let after-any-virtual : tie.After-any-virtual = search in
+    let after-both : tie.After-both = search in
+    let after-index-at2 : tie.After-index-at2 = search in
+    let after-index-at : tie.After-index-at = search in
+    let start : tie.Start = search in
+    let junctions = start .args .junctions .now in
+    c .both2 .ensures
+    ∙ ap₂ (λ a b. not a && b) (after-both .both .ensures) (after-any-virtual .any-virtual .ensures)
+    ∙ ap₂ (λ (a b : ℕ).
+    not (isAbsent a b) && any (length junctions / 5)
+    (isVirtualOf (start .args .text .now) junctions (span a b))) (after-index-at .index-at .ensures .0)
+    (after-index-at2 .index-at2 .ensures .0)
 
 pub in-virtual-spec : {M : Type 1} → statement M
 in-virtual-spec =

@@ -30,7 +30,11 @@ both-requires c κs = search needs
 
 returns : tie.Need-returns
 unfolding isVirtualOf
-returns c = both-is (c .both .ensures) (ap (λ (k : ℕ). leb 2 k) (c .before .before .index-at .ensures .0)) (c .before .named .ensures)
+returns c =
+    let after-named : tie.After-named = search in
+    let after-index-at : tie.After-index-at = search in
+    both-is (c .both .ensures) (ap (λ (k : ℕ). leb 2 k) (after-index-at .index-at .ensures .0))
+    (after-named .named .ensures)
 
 pub is-virtual-spec : {M : Type 1} → statement M
 is-virtual-spec =

@@ -70,13 +70,35 @@ mul-ends-4 : tie.Need-mul-ends-4
 mul-ends-4 c = search needs
 
 slice-write-ends-2 : tie.Need-slice-write-ends-2
-slice-write-ends-2 c = let s = (c .before .before .before .before .before .before .before .before .before .before .before .before .before .before .before) in let z = length-set (s .args .ends .now) (s .args .r * 2 + 0) (c .before .bit .result) in omega (arith, z, s .pre .0, s .pre .1)
+slice-write-ends-2 c =
+    let after-bit : tie.After-bit = search in
+    let after-in-virtual = after-bit .before .before .before .before .before .before .before in
+    let start = after-in-virtual .before .before .before .before .before .before .before in
+    let z = length-set (start .args .ends .now) (start .args .r * 2 + 0) (after-bit .bit .result) in
+    omega (arith, z, start .pre .0, start .pre .1)
 
 same-length : tie.Need-same-length
 same-length c = search needs
 
 returns : tie.Need-returns
-returns c = let s = (c .before .before .before .before .before .before .before .before .before .before .before .before .before .before .before) in ap₂ (λ (a b : ℕ). set (set (s .args .ends .now) (s .args .r * 2 + 0) a) (s .args .r * 2 + 1) b) (c .before .bit .ensures ∙ ap bit (both-is (c .before .before .before .before .before .both .ensures) (c .before .before .before .before .before .before .before .before .in-virtual .ensures) (c .before .before .before .before .before .before .is .ensures ∙ ap (λ (k : ℕ). eqb k 1) (c .before .before .before .before .before .before .before .at .ensures)))) (c .bit2 .ensures ∙ ap bit (both-is (c .before .before .both2 .ensures) (c .before .before .before .before .before .before .before .before .in-virtual .ensures) (c .before .before .before .is2 .ensures ∙ ap (λ (k : ℕ). eqb k 1) (c .before .before .before .before .at2 .ensures))))
+returns c =
+    let after-bit : tie.After-bit = search in
+    let after-both2 : tie.After-both2 = search in
+    let after-is2 : tie.After-is2 = search in
+    let after-at2 : tie.After-at2 = search in
+    let after-both : tie.After-both = search in
+    let after-is : tie.After-is = search in
+    let after-at : tie.After-at = search in
+    let after-in-virtual : tie.After-in-virtual = search in
+    let start = after-in-virtual .before .before .before .before .before .before .before in
+    let r = start .args .r in
+    ap₂ (λ (a b : ℕ). set (set (start .args .ends .now) (r * 2 + 0) a) (r * 2 + 1) b)
+    (after-bit .bit .ensures
+    ∙ ap bit (both-is (after-both .both .ensures) (after-in-virtual .in-virtual .ensures)
+    (after-is .is .ensures ∙ ap (λ (k : ℕ). eqb k 1) (after-at .at .ensures))))
+    (c .bit2 .ensures
+    ∙ ap bit (both-is (after-both2 .both2 .ensures) (after-in-virtual .in-virtual .ensures)
+    (after-is2 .is2 .ensures ∙ ap (λ (k : ℕ). eqb k 1) (after-at2 .at2 .ensures))))
 
 pub mark-road-spec : {M : Type 1} → statement M
 mark-road-spec =

@@ -9,31 +9,65 @@ use Rattle.repair.proofs.along.mark_roads.Statement.{statement}
 use Rattle.repair.proofs.along.mark_roads.Tie as tie
 
 abbrev Inv-loop : tie.InvT-loop
-Inv-loop text roads junctions heads next ends₀ r₀ ends r = (r ≤ length roads / 20) × (length ends ≡ 32768) × Marked text roads junctions r ends
+Inv-loop text roads junctions heads next ends₀ r₀ ends r =
+    (r ≤ length roads / 20) × (length ends ≡ 32768) × Marked text roads junctions r ends
 
 abbrev μ-loop : tie.MeasureT-loop
 μ-loop text roads junctions heads next ends₀ r₀ ends r = length roads / 20 - r
 
 loop-holds : tie.Need-loop-holds Inv-loop μ-loop
-loop-holds c = (omega arith, c .before .before .before .before .before .before .pre .1, record { at = λ k lt b. absurd (not-suc-le-zero lt) })
+loop-holds c =
+    let start : tie.Start Inv-loop μ-loop = search in
+    (omega arith, start .pre .1, record { at = λ k lt b. absurd (not-suc-le-zero lt) })
 
 mark-road-requires : tie.Need-mark-road-requires Inv-loop μ-loop
-mark-road-requires c κs = (omega (arith, c .before .loop-test .taken, c .before .before .before .before .before .before .before .before .before .pre .0), c .before .before .loop .inv .1, c .before .before .before .before .before .before .before .before .before .pre .2)
+mark-road-requires c κs =
+    let in-loop : tie.In-loop Inv-loop μ-loop = search in
+    let at-loop : tie.At-loop Inv-loop μ-loop = search in
+    let start : tie.Start Inv-loop μ-loop = search in
+    (omega (arith, in-loop .loop-test .taken, start .pre .0), at-loop .loop .inv .1, start .pre .2)
 
 add-r : tie.Need-add-r Inv-loop μ-loop
-add-r c = omega (arith, c .before .before .before .before .loop-test .taken, c .before .before .before .before .before .before .before .before .before .before .before .before .pre .0)
+add-r c =
+    let in-loop : tie.In-loop Inv-loop μ-loop = search in
+    let start : tie.Start Inv-loop μ-loop = search in
+    omega (arith, in-loop .loop-test .taken, start .pre .0)
 
 loop-less : tie.Need-loop-less Inv-loop μ-loop
-loop-less c = omega (arith, c .before .before .before .before .loop-test .taken, c .before .before .before .before .before .before .before .before .before .before .before .before .pre .0)
+loop-less c =
+    let in-loop : tie.In-loop Inv-loop μ-loop = search in
+    let start : tie.Start Inv-loop μ-loop = search in
+    omega (arith, in-loop .loop-test .taken, start .pre .0)
 
 loop-again : tie.Need-loop-again Inv-loop μ-loop
-loop-again c = let s = (c .before .before .before .before .before .before .before .before .before .before .before .before) in let l = c .before .before .before .before .before .loop in (omega (arith, c .before .before .before .before .loop-test .taken), c .before .before .mark-road .kept .1 .1 .1 .1 .1 .0 ∙ l .inv .1, marked-more (s .args .text .now) (s .args .roads .now) (s .args .junctions .now) (l .r) (l .ends) (l .inv .2) (l .inv .1) (omega (arith, c .before .before .before .before .loop-test .taken, s .pre .0)) (c .before .before .mark-road .ensures))
+loop-again c =
+    let after-mark-road : tie.After-mark-road Inv-loop μ-loop = search in
+    let in-loop : tie.In-loop Inv-loop μ-loop = search in
+    let at-loop : tie.At-loop Inv-loop μ-loop = search in
+    let start : tie.Start Inv-loop μ-loop = search in
+    let l = at-loop .loop in (
+      omega (arith, in-loop .loop-test .taken),
+      after-mark-road .mark-road .kept .1 .1 .1 .1 .1 .0 ∙ l .inv .1,
+      marked-more (start .args .text .now) (start .args .roads .now) (start .args .junctions .now) (l .r)
+          (l .ends) (l .inv .2) (l .inv .1) (omega (arith, in-loop .loop-test .taken, start .pre .0))
+          (after-mark-road .mark-road .ensures),
+    )
 
 same-length : tie.Need-same-length Inv-loop μ-loop
-same-length c = omega (arith, c .before .loop .inv .1, c .before .before .before .before .before .before .before .before .pre .1)
+same-length c =
+    let at-loop : tie.At-loop Inv-loop μ-loop = search in
+    let start : tie.Start Inv-loop μ-loop = search in
+    omega (arith, at-loop .loop .inv .1, start .pre .1)
 
 returns : tie.Need-returns Inv-loop μ-loop
-returns c = let s = (c .before .before .before .before .before .before .before .before) in let l = c .before .loop in let past : l .r ≡ length (s .args .roads .now) / 20 = omega (arith, l .inv .0, c .loop-test .left) in subst (λ (k : ℕ). Marked (s .args .text .now) (s .args .roads .now) (s .args .junctions .now) k (l .ends)) past (l .inv .2)
+returns c =
+    let at-loop : tie.At-loop Inv-loop μ-loop = search in
+    let start : tie.Start Inv-loop μ-loop = search in
+    let roads = start .args .roads .now in
+    let l = at-loop .loop in
+    let past : l .r ≡ length roads / 20 = omega (arith, l .inv .0, c .loop-test .left) in
+    subst (λ (k : ℕ). Marked (start .args .text .now) roads (start .args .junctions .now) k (l .ends)) past
+    (l .inv .2)
 
 pub mark-roads-spec : {M : Type 1} → statement M
 mark-roads-spec =

@@ -15,7 +15,18 @@ slice-aggregate-link-names-2 : tie.Need-slice-aggregate-link-names-2
 slice-aggregate-link-names-2 c = search needs
 
 link-names-requires : tie.Need-link-names-requires
-link-names-requires c κs = let s = (c .before .before .before .before .before .before) in ((omega arith, omega arith, rows-in (length (s .args .junctions .now)) 5, s .pre .1, length-replicate {A = ℕ} 16384 0, length-replicate {A = ℕ} 16384 0), λ b h. getD-replicate {A = ℕ} 16384 b 0 0 h)
+link-names-requires c κs =
+    let start : tie.Start = search in (
+      (
+        omega arith,
+        omega arith,
+        rows-in (length (start .args .junctions .now)) 5,
+        start .pre .1,
+        length-replicate {A = ℕ} 16384 0,
+        length-replicate {A = ℕ} 16384 0,
+      ),
+      λ b h. getD-replicate {A = ℕ} 16384 b 0 0 h,
+    )
 
 slice-aggregate-mark-roads : tie.Need-slice-aggregate-mark-roads
 slice-aggregate-mark-roads c = search needs
@@ -24,13 +35,30 @@ slice-aggregate-mark-roads-2 : tie.Need-slice-aggregate-mark-roads-2
 slice-aggregate-mark-roads-2 c = search needs
 
 mark-roads-requires : tie.Need-mark-roads-requires
-mark-roads-requires c κs = let s = (c .before .before .before .before .before .before .before .before .before .before .before .before) in (s .pre .0, s .pre .2, record { few = s .pre .1; heads-long = c .before .before .before .before .before .link-names .kept .1 .1 .1 .1 .1 .0 ∙ length-replicate {A = ℕ} 16384 0; next-long = c .before .before .before .before .before .link-names .kept .1 .1 .1 .1 .1 .1 .0 ∙ length-replicate {A = ℕ} 16384 0; chained = c .before .before .before .before .before .link-names .ensures .1 })
+mark-roads-requires c κs =
+    let after-link-names : tie.After-link-names = search in
+    let start : tie.Start = search in (
+      start .pre .0,
+      start .pre .2,
+      record {
+        few = start .pre .1;
+        heads-long = after-link-names .link-names .kept .1 .1 .1 .1 .1 .0 ∙ length-replicate {A = ℕ} 16384 0;
+        next-long = after-link-names .link-names .kept .1 .1 .1 .1 .1 .1 .0
+            ∙ length-replicate {A = ℕ} 16384 0;
+        chained = after-link-names .link-names .ensures .1;
+      },
+    )
 
 same-length : tie.Need-same-length
 same-length c = search needs
 
 returns : tie.Need-returns
-returns c = let s = (c .before .before .before .before .before .before .before .before .before .before .before .before .before .before .before) in λ ss ps cs. roads-start (s .args .text .now) (s .args .roads .now) (s .args .junctions .now) _ (c .before .before .mark-roads .ensures) ss ps cs
+returns c =
+    let after-mark-roads : tie.After-mark-roads = search in
+    let start : tie.Start = search in
+    λ ss ps cs.
+    roads-start (start .args .text .now) (start .args .roads .now) (start .args .junctions .now) _
+    (after-mark-roads .mark-roads .ensures) ss ps cs
 
 pub without-along-spec : {M : Type 1} → statement M
 without-along-spec =

@@ -23,7 +23,13 @@ same-length : tie.Need-same-length
 same-length c = search needs
 
 returns : tie.Need-returns
-returns c = let s = (c .before .before .before .before .before .before .before) in let z : s .args .n - 0 ≡ s .args .n = omega arith in c .before .before .copy .ensures ∙ ap (λ (k : ℕ). written (take k (s .args .words .now)) (s .args .out .now)) z
+returns c =
+    let after-copy : tie.After-copy = search in
+    let start : tie.Start = search in
+    let n = start .args .n in
+    let z : n - 0 ≡ n = omega arith in
+    after-copy .copy .ensures
+    ∙ ap (λ (k : ℕ). written (take k (start .args .words .now)) (start .args .out .now)) z
 
 pub copy-part-spec : {M : Type 1} → statement M
 copy-part-spec =

@@ -21,7 +21,20 @@ both-requires-5 : tie.Need-both-requires-5
 both-requires-5 c κs = search needs
 
 returns : tie.Need-returns
-returns c = let s = (c .before .before .before .before .before) in c .both5 .ensures ∙ ap (λ x. leb (s .args .a) (s .args .roads) && x) (c .before .both4 .ensures ∙ ap (λ x. leb (s .args .b) (s .args .junctions) && x) (c .before .before .both3 .ensures ∙ ap (λ x. leb (s .args .c) (s .args .connections) && x) (c .before .before .before .both2 .ensures ∙ ap (λ x. leb (s .args .d) (s .args .pairs) && x) (c .before .before .before .before .both .ensures))))
+returns c =
+    let after-both4 : tie.After-both4 = search in
+    let after-both3 : tie.After-both3 = search in
+    let after-both2 : tie.After-both2 = search in
+    let after-both : tie.After-both = search in
+    let start : tie.Start = search in
+    c .both5 .ensures
+    ∙ ap (λ x. leb (start .args .a) (start .args .roads) && x)
+    (after-both4 .both4 .ensures
+    ∙ ap (λ x. leb (start .args .b) (start .args .junctions) && x)
+    (after-both3 .both3 .ensures
+    ∙ ap (λ x. leb (start .args .c) (start .args .connections) && x)
+    (after-both2 .both2 .ensures
+    ∙ ap (λ x. leb (start .args .d) (start .args .pairs) && x) (after-both .both .ensures))))
 
 pub fit-spec : {M : Type 1} → statement M
 fit-spec =

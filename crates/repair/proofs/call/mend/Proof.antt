@@ -17,7 +17,18 @@ slice-aggregate-link-names-2 : tie.Need-slice-aggregate-link-names-2
 slice-aggregate-link-names-2 c = search needs
 
 link-names-requires : tie.Need-link-names-requires
-link-names-requires c κs = let s = (c .before .before .before .before .before .before .before .before .before .before .before .before .before .before .before) in ((omega arith, omega arith, rows-in (length (s .args .connections .now)) 7, omega (arith, s .pre .0 .few), length-replicate {A = ℕ} 16384 0, length-replicate {A = ℕ} 16384 0), λ b h. getD-replicate {A = ℕ} 16384 b 0 0 h)
+link-names-requires c κs =
+    let start : tie.Start = search in (
+      (
+        omega arith,
+        omega arith,
+        rows-in (length (start .args .connections .now)) 7,
+        omega (arith, start .pre .0 .few),
+        length-replicate {A = ℕ} 16384 0,
+        length-replicate {A = ℕ} 16384 0,
+      ),
+      λ b h. getD-replicate {A = ℕ} 16384 b 0 0 h,
+    )
 
 slice-aggregate-junctions : tie.Need-slice-aggregate-junctions
 slice-aggregate-junctions c = search needs
@@ -38,7 +49,25 @@ slice-aggregate-junctions-6 : tie.Need-slice-aggregate-junctions-6
 slice-aggregate-junctions-6 c = search needs
 
 junctions-requires : tie.Need-junctions-requires
-junctions-requires c κs = let s = (c .before .before .before .before .before .before .before .before .before .before .before .before .before .before .before .before .before .before .before .before .before .before .before .before .before) in (s .pre .0, s .pre .1, s .pre .3, length-replicate {A = ℕ} 32768 0, length-replicate {A = ℕ} 81920 0, length-replicate {A = ℕ} 114688 0, length-replicate {A = ℕ} 32768 0, s .pre .2, record { few = s .pre .0 .few; heads-long = c .before .before .before .before .before .before .before .before .before .link-names .kept .1 .1 .1 .1 .1 .0 ∙ length-replicate {A = ℕ} 16384 0; next-long = c .before .before .before .before .before .before .before .before .before .link-names .kept .1 .1 .1 .1 .1 .1 .0 ∙ length-replicate {A = ℕ} 16384 0; chained = c .before .before .before .before .before .before .before .before .before .link-names .ensures .1 })
+junctions-requires c κs =
+    let after-link-names : tie.After-link-names = search in
+    let start : tie.Start = search in (
+      start .pre .0,
+      start .pre .1,
+      start .pre .3,
+      length-replicate {A = ℕ} 32768 0,
+      length-replicate {A = ℕ} 81920 0,
+      length-replicate {A = ℕ} 114688 0,
+      length-replicate {A = ℕ} 32768 0,
+      start .pre .2,
+      record {
+        few = start .pre .0 .few;
+        heads-long = after-link-names .link-names .kept .1 .1 .1 .1 .1 .0 ∙ length-replicate {A = ℕ} 16384 0;
+        next-long = after-link-names .link-names .kept .1 .1 .1 .1 .1 .1 .0
+            ∙ length-replicate {A = ℕ} 16384 0;
+        chained = after-link-names .link-names .ensures .1;
+      },
+    )
 
 slice-aggregate-write : tie.Need-slice-aggregate-write
 slice-aggregate-write c = search needs
@@ -53,7 +82,24 @@ slice-aggregate-write-4 : tie.Need-slice-aggregate-write-4
 slice-aggregate-write-4 c = search needs
 
 write-requires : tie.Need-write-requires
-write-requires c κs = let s = (c .before .before .before .before .before .before .before .before .before .before .before .before .before .before .before .before .before .before .before .before .before .before .before .before .before .before .before .before .before .before .before .before .before .before .before .before .before .before .before .before .before .before) in (s .pre .2 .few, s .pre .1 .few, c .before .before .before .before .before .before .before .before .before .before .before .before .before .before .before .before .junctions .ensures .0 .0, c .before .before .before .before .before .before .before .before .before .before .before .before .before .before .before .before .junctions .ensures .0 .1, c .before .before .before .before .before .before .before .before .before .before .before .before .before .before .before .before .junctions .ensures .0 .2, c .before .before .before .before .before .before .before .before .before .before .before .before .before .before .before .before .junctions .kept .1 .1 .1 .1 .1 .1 .1 .1 .1 .1 .1 .0 ∙ length-replicate {A = ℕ} 81920 0, c .before .before .before .before .before .before .before .before .before .before .before .before .before .before .before .before .junctions .kept .1 .1 .1 .1 .1 .1 .1 .1 .1 .1 .1 .1 .0 ∙ length-replicate {A = ℕ} 114688 0, c .before .before .before .before .before .before .before .before .before .before .before .before .before .before .before .before .junctions .kept .1 .1 .1 .1 .1 .1 .1 .1 .1 .1 .1 .1 .1 .0 ∙ length-replicate {A = ℕ} 32768 0, c .before .before .before .before .before .before .before .before .before .before .before .before .before .before .before .before .junctions .kept .1 .1 .1 .1 .1 .1 .1 .1 .1 .1 .0 ∙ length-replicate {A = ℕ} 32768 0)
+write-requires c κs =
+    let after-junctions : tie.After-junctions = search in
+    let after-cheads3 = after-junctions .before .before .before .before .before .before .before in
+    let after-slice-known5 = after-cheads3 .before .before .before .before .before .before .before in
+    let after-shared-slice-known5 = after-slice-known5 .before .before .before .before .before .before .before in
+    let start = after-shared-slice-known5 .before .before .before .before .before in (
+      start .pre .2 .few,
+      start .pre .1 .few,
+      after-junctions .junctions .ensures .0 .0,
+      after-junctions .junctions .ensures .0 .1,
+      after-junctions .junctions .ensures .0 .2,
+      after-junctions .junctions .kept .1 .1 .1 .1 .1 .1 .1 .1 .1 .1 .1 .0 ∙ length-replicate {A = ℕ} 81920 0,
+      after-junctions .junctions .kept .1 .1 .1 .1 .1 .1 .1 .1 .1 .1 .1 .1 .0
+          ∙ length-replicate {A = ℕ} 114688 0,
+      after-junctions .junctions .kept .1 .1 .1 .1 .1 .1 .1 .1 .1 .1 .1 .1 .1 .0
+          ∙ length-replicate {A = ℕ} 32768 0,
+      after-junctions .junctions .kept .1 .1 .1 .1 .1 .1 .1 .1 .1 .1 .0 ∙ length-replicate {A = ℕ} 32768 0,
+    )
 
 same-length : tie.Need-same-length
 same-length c = search needs
@@ -74,7 +120,22 @@ same-length-6 : tie.Need-same-length-6
 same-length-6 c = search needs
 
 returns : tie.Need-returns
-returns c = let s = (c .before .before .before .before .before .before .before .before .before .before .before .before .before .before .before .before .before .before .before .before .before .before .before .before .before .before .before .before .before .before .before .before .before .before .before .before .before .before .before .before .before .before .before .before .before .before .before .before .before .before .before .before .before) in λ ss fit start. c .before .before .before .before .before .before .before .before .before .before .write .ensures ∙ ap (λ (x : RepairOutputs). putOr9 x (outs (s .args .roads-out .now) (s .args .junctions-out .now) (s .args .connections-out .now) (s .args .pairs-out .now) (s .args .warnings-out .now))) (content-is (s .args .text .now) (s .args .roads .now) ss (s .args .junctions .now) (s .args .connections .now) (s .args .pairs .now) (s .pre .1) (s .pre .4) fit (s .args .ends .now) _ _ _ _ _ _ _ _ _ _ start (c .before .before .before .before .before .before .before .before .before .before .before .before .before .before .before .before .before .before .before .before .before .before .before .before .before .before .before .junctions .ensures .1 ss))
+returns c =
+    let after-write : tie.After-write = search in
+    let after-junctions : tie.After-junctions = search in
+    let after-cheads3 = after-junctions .before .before .before .before .before .before .before in
+    let after-slice-known5 = after-cheads3 .before .before .before .before .before .before .before in
+    let after-shared-slice-known5 = after-slice-known5 .before .before .before .before .before .before .before in
+    let at-start = after-shared-slice-known5 .before .before .before .before .before in
+    λ ss fit start.
+    after-write .write .ensures
+    ∙ ap (λ (x : RepairOutputs).
+    putOr9 x (outs (at-start .args .roads-out .now) (at-start .args .junctions-out .now)
+    (at-start .args .connections-out .now) (at-start .args .pairs-out .now)
+    (at-start .args .warnings-out .now)))
+    (content-is (at-start .args .text .now) (at-start .args .roads .now) ss (at-start .args .junctions .now)
+    (at-start .args .connections .now) (at-start .args .pairs .now) (at-start .pre .1) (at-start .pre .4) fit
+    (at-start .args .ends .now) _ _ _ _ _ _ _ _ _ _ start (after-junctions .junctions .ensures .1 ss))
 
 pub mend-spec : {M : Type 1} → statement M
 mend-spec =

@@ -32,34 +32,101 @@ fit-requires : tie.Need-fit-requires
 fit-requires c κs = search needs
 
 returns : tie.Need-returns
-returns c = let s = (c .before .before .before .before .before .before .before .before .before .before .before .before .before .before) in none-written (gather (roadNowWords (s .args .roads .now) (s .args .junctions .now) (s .args .ends .now)) (tab (length (s .args .roads .now) / 20) (λ r. r))) (take (length (s .args .junctions .now) / 5 * 5) (s .args .js .now)) (take (s .args .n * 7) (s .args .cs .now)) (take (s .args .p * 2) (s .args .ps .now)) (take (s .args .w * 4) (s .args .warn .now)) (s .args .roads-out .now) (s .args .junctions-out .now) (s .args .connections-out .now) (s .args .pairs-out .now) (s .args .warnings-out .now) (length (s .args .roads .now) / 20) (length (s .args .junctions .now) / 5) (s .args .n) (s .args .p) (s .args .w) (roads-width (s .args .roads .now) (s .args .junctions .now) (s .args .ends .now) (length (s .args .roads .now) / 20)) (length-take-le (length (s .args .junctions .now) / 5 * 5) (s .args .js .now) (omega (arith, s .pre .1, s .pre .5))) (length-take-le (s .args .n * 7) (s .args .cs .now) (omega (arith, s .pre .2, s .pre .6))) (length-take-le (s .args .p * 2) (s .args .ps .now) (omega (arith, s .pre .3, s .pre .7))) (length-take-le (s .args .w * 4) (s .args .warn .now) (omega (arith, s .pre .4, s .pre .8))) (sym (c .before .fit .ensures) ∙ not-true _ (c .if1 .taken))
+returns c =
+    let after-fit : tie.After-fit = search in
+    let start : tie.Start = search in
+    let roads = start .args .roads .now in let junctions = start .args .junctions .now in
+    let ends = start .args .ends .now in let js = start .args .js .now in let n = start .args .n in
+    let cs = start .args .cs .now in let p = start .args .p in let ps = start .args .ps .now in
+    let w = start .args .w in let warn = start .args .warn .now in
+    none-written (gather (roadNowWords roads junctions ends) (tab (length roads / 20) (λ r. r)))
+    (take (length junctions / 5 * 5) js) (take (n * 7) cs) (take (p * 2) ps) (take (w * 4) warn)
+    (start .args .roads-out .now) (start .args .junctions-out .now) (start .args .connections-out .now)
+    (start .args .pairs-out .now) (start .args .warnings-out .now) (length roads / 20) (length junctions / 5) n
+    p w (roads-width roads junctions ends (length roads / 20))
+    (length-take-le (length junctions / 5 * 5) js (omega (arith, start .pre .1, start .pre .5)))
+    (length-take-le (n * 7) cs (omega (arith, start .pre .2, start .pre .6)))
+    (length-take-le (p * 2) ps (omega (arith, start .pre .3, start .pre .7)))
+    (length-take-le (w * 4) warn (omega (arith, start .pre .4, start .pre .8)))
+    (sym (after-fit .fit .ensures) ∙ not-true _ (c .if1 .taken))
 
 put-roads-requires : tie.Need-put-roads-requires
-put-roads-requires c κs = let s = (c .before .before .before .before .before .before .before .before .before .before .before .before .before .before .before) in let f = fits-five (length (s .args .roads .now) / 20 * 20) (length (s .args .junctions .now) / 5 * 5) (s .args .n * 7) (s .args .p * 2) (s .args .w * 4) (length (s .args .roads-out .now)) (length (s .args .junctions-out .now)) (length (s .args .connections-out .now)) (length (s .args .pairs-out .now)) (length (s .args .warnings-out .now)) (sym (c .before .before .fit .ensures) ∙ not-false _ (c .before .if1 .left)) in (s .pre .0, f .0)
+put-roads-requires c κs =
+    let else1 : tie.Else1 = search in
+    let after-fit : tie.After-fit = search in
+    let start : tie.Start = search in
+    let f = fits-five (length (start .args .roads .now) / 20 * 20)
+    (length (start .args .junctions .now) / 5 * 5) (start .args .n * 7) (start .args .p * 2)
+    (start .args .w * 4) (length (start .args .roads-out .now)) (length (start .args .junctions-out .now))
+    (length (start .args .connections-out .now)) (length (start .args .pairs-out .now))
+    (length (start .args .warnings-out .now))
+    (sym (after-fit .fit .ensures) ∙ not-false _ (else1 .if1 .left)) in
+    (start .pre .0, f .0)
 
 mul-copy-part : tie.Need-mul-copy-part
 mul-copy-part c = search needs
 
 copy-part-requires : tie.Need-copy-part-requires
-copy-part-requires c κs = let s = (c .before .before .before .before .before .before .before .before .before .before .before .before .before .before .before .before .before .before .before) in let f = fits-five (length (s .args .roads .now) / 20 * 20) (length (s .args .junctions .now) / 5 * 5) (s .args .n * 7) (s .args .p * 2) (s .args .w * 4) (length (s .args .roads-out .now)) (length (s .args .junctions-out .now)) (length (s .args .connections-out .now)) (length (s .args .pairs-out .now)) (length (s .args .warnings-out .now)) (sym (c .before .before .before .before .before .before .fit .ensures) ∙ not-false _ (c .before .before .before .before .before .if1 .left)) in (omega (arith, s .pre .1, s .pre .5), f .1)
+copy-part-requires c κs =
+    let else1 : tie.Else1 = search in
+    let after-fit : tie.After-fit = search in
+    let after-shared-slice-known6 = after-fit .before .before .before .before .before .before .before in
+    let start = after-shared-slice-known6 .before .before .before .before .before .before in
+    let f = fits-five (length (start .args .roads .now) / 20 * 20)
+    (length (start .args .junctions .now) / 5 * 5) (start .args .n * 7) (start .args .p * 2)
+    (start .args .w * 4) (length (start .args .roads-out .now)) (length (start .args .junctions-out .now))
+    (length (start .args .connections-out .now)) (length (start .args .pairs-out .now))
+    (length (start .args .warnings-out .now))
+    (sym (after-fit .fit .ensures) ∙ not-false _ (else1 .if1 .left)) in
+    (omega (arith, start .pre .1, start .pre .5), f .1)
 
 mul-copy-part-2 : tie.Need-mul-copy-part-2
 mul-copy-part-2 c = search needs
 
 copy-part-requires-2 : tie.Need-copy-part-requires-2
-copy-part-requires-2 c κs = let s = (c .before .before .before .before .before .before .before .before .before .before .before .before .before .before .before .before .before .before .before .before .before .before .before) in let f = fits-five (length (s .args .roads .now) / 20 * 20) (length (s .args .junctions .now) / 5 * 5) (s .args .n * 7) (s .args .p * 2) (s .args .w * 4) (length (s .args .roads-out .now)) (length (s .args .junctions-out .now)) (length (s .args .connections-out .now)) (length (s .args .pairs-out .now)) (length (s .args .warnings-out .now)) (sym (c .before .before .before .before .before .before .before .before .before .before .fit .ensures) ∙ not-false _ (c .before .before .before .before .before .before .before .before .before .if1 .left)) in (omega (arith, s .pre .2, s .pre .6), f .2)
+copy-part-requires-2 c κs =
+    let else1 : tie.Else1 = search in
+    let after-fit : tie.After-fit = search in
+    let start : tie.Start = search in
+    let f = fits-five (length (start .args .roads .now) / 20 * 20)
+    (length (start .args .junctions .now) / 5 * 5) (start .args .n * 7) (start .args .p * 2)
+    (start .args .w * 4) (length (start .args .roads-out .now)) (length (start .args .junctions-out .now))
+    (length (start .args .connections-out .now)) (length (start .args .pairs-out .now))
+    (length (start .args .warnings-out .now))
+    (sym (after-fit .fit .ensures) ∙ not-false _ (else1 .if1 .left)) in
+    (omega (arith, start .pre .2, start .pre .6), f .2)
 
 mul-copy-part-3 : tie.Need-mul-copy-part-3
 mul-copy-part-3 c = search needs
 
 copy-part-requires-3 : tie.Need-copy-part-requires-3
-copy-part-requires-3 c κs = let s = (c .before .before .before .before .before .before .before .before .before .before .before .before .before .before .before .before .before .before .before .before .before .before .before .before .before .before .before) in let f = fits-five (length (s .args .roads .now) / 20 * 20) (length (s .args .junctions .now) / 5 * 5) (s .args .n * 7) (s .args .p * 2) (s .args .w * 4) (length (s .args .roads-out .now)) (length (s .args .junctions-out .now)) (length (s .args .connections-out .now)) (length (s .args .pairs-out .now)) (length (s .args .warnings-out .now)) (sym (c .before .before .before .before .before .before .before .before .before .before .before .before .before .before .fit .ensures) ∙ not-false _ (c .before .before .before .before .before .before .before .before .before .before .before .before .before .if1 .left)) in (omega (arith, s .pre .3, s .pre .7), f .3)
+copy-part-requires-3 c κs =
+    let else1 : tie.Else1 = search in
+    let after-fit : tie.After-fit = search in
+    let start : tie.Start = search in
+    let f = fits-five (length (start .args .roads .now) / 20 * 20)
+    (length (start .args .junctions .now) / 5 * 5) (start .args .n * 7) (start .args .p * 2)
+    (start .args .w * 4) (length (start .args .roads-out .now)) (length (start .args .junctions-out .now))
+    (length (start .args .connections-out .now)) (length (start .args .pairs-out .now))
+    (length (start .args .warnings-out .now))
+    (sym (after-fit .fit .ensures) ∙ not-false _ (else1 .if1 .left)) in
+    (omega (arith, start .pre .3, start .pre .7), f .3)
 
 mul-copy-part-4 : tie.Need-mul-copy-part-4
 mul-copy-part-4 c = search needs
 
 copy-part-requires-4 : tie.Need-copy-part-requires-4
-copy-part-requires-4 c κs = let s = (c .before .before .before .before .before .before .before .before .before .before .before .before .before .before .before .before .before .before .before .before .before .before .before .before .before .before .before .before .before .before .before) in let f = fits-five (length (s .args .roads .now) / 20 * 20) (length (s .args .junctions .now) / 5 * 5) (s .args .n * 7) (s .args .p * 2) (s .args .w * 4) (length (s .args .roads-out .now)) (length (s .args .junctions-out .now)) (length (s .args .connections-out .now)) (length (s .args .pairs-out .now)) (length (s .args .warnings-out .now)) (sym (c .before .before .before .before .before .before .before .before .before .before .before .before .before .before .before .before .before .before .fit .ensures) ∙ not-false _ (c .before .before .before .before .before .before .before .before .before .before .before .before .before .before .before .before .before .if1 .left)) in (omega (arith, s .pre .4, s .pre .8), f .4)
+copy-part-requires-4 c κs =
+    let else1 : tie.Else1 = search in
+    let after-fit : tie.After-fit = search in
+    let start : tie.Start = search in
+    let f = fits-five (length (start .args .roads .now) / 20 * 20)
+    (length (start .args .junctions .now) / 5 * 5) (start .args .n * 7) (start .args .p * 2)
+    (start .args .w * 4) (length (start .args .roads-out .now)) (length (start .args .junctions-out .now))
+    (length (start .args .connections-out .now)) (length (start .args .pairs-out .now))
+    (length (start .args .warnings-out .now))
+    (sym (after-fit .fit .ensures) ∙ not-false _ (else1 .if1 .left)) in
+    (omega (arith, start .pre .4, start .pre .8), f .4)
 
 same-length : tie.Need-same-length
 same-length c = search needs
@@ -77,7 +144,32 @@ same-length-5 : tie.Need-same-length-5
 same-length-5 c = search needs
 
 returns-2 : tie.Need-returns-2
-returns-2 c = let s = (c .before .before .before .before .before .before .before .before .before .before .before .before .before .before .before .before .before .before .before .before .before .before .before .before .before .before .before .before .before .before .before .before .before .before) in all-written (gather (roadNowWords (s .args .roads .now) (s .args .junctions .now) (s .args .ends .now)) (tab (length (s .args .roads .now) / 20) (λ r. r))) (take (length (s .args .junctions .now) / 5 * 5) (s .args .js .now)) (take (s .args .n * 7) (s .args .cs .now)) (take (s .args .p * 2) (s .args .ps .now)) (take (s .args .w * 4) (s .args .warn .now)) (s .args .roads-out .now) (s .args .junctions-out .now) (s .args .connections-out .now) (s .args .pairs-out .now) (s .args .warnings-out .now) (length (s .args .roads .now) / 20) (length (s .args .junctions .now) / 5) (s .args .n) (s .args .p) (s .args .w) (roads-width (s .args .roads .now) (s .args .junctions .now) (s .args .ends .now) (length (s .args .roads .now) / 20)) (length-take-le (length (s .args .junctions .now) / 5 * 5) (s .args .js .now) (omega (arith, s .pre .1, s .pre .5))) (length-take-le (s .args .n * 7) (s .args .cs .now) (omega (arith, s .pre .2, s .pre .6))) (length-take-le (s .args .p * 2) (s .args .ps .now) (omega (arith, s .pre .3, s .pre .7))) (length-take-le (s .args .w * 4) (s .args .warn .now) (omega (arith, s .pre .4, s .pre .8))) (sym (c .before .before .before .before .before .before .before .before .before .before .before .before .before .before .before .before .before .before .before .before .before .fit .ensures) ∙ not-false _ (c .before .before .before .before .before .before .before .before .before .before .before .before .before .before .before .before .before .before .before .before .if1 .left)) (c .before .before .before .before .before .before .before .before .before .before .before .before .before .before .before .before .before .before .put-roads .ensures) (c .before .before .before .before .before .before .before .before .before .before .before .before .before .before .copy-part .ensures) (c .before .before .before .before .before .before .before .before .before .before .copy-part2 .ensures) (c .before .before .before .before .before .before .copy-part3 .ensures) (c .before .before .copy-part4 .ensures)
+returns-2 c =
+    let after-copy-part4 : tie.After-copy-part4 = search in
+    let after-copy-part3 : tie.After-copy-part3 = search in
+    let after-copy-part2 : tie.After-copy-part2 = search in
+    let after-copy-part : tie.After-copy-part = search in
+    let after-put-roads : tie.After-put-roads = search in
+    let else1 : tie.Else1 = search in
+    let after-fit : tie.After-fit = search in
+    let after-shared-slice-known6 = after-fit .before .before .before .before .before .before .before in
+    let start = after-shared-slice-known6 .before .before .before .before .before .before in
+    let roads = start .args .roads .now in let junctions = start .args .junctions .now in
+    let ends = start .args .ends .now in let js = start .args .js .now in let n = start .args .n in
+    let cs = start .args .cs .now in let p = start .args .p in let ps = start .args .ps .now in
+    let w = start .args .w in let warn = start .args .warn .now in
+    all-written (gather (roadNowWords roads junctions ends) (tab (length roads / 20) (λ r. r)))
+    (take (length junctions / 5 * 5) js) (take (n * 7) cs) (take (p * 2) ps) (take (w * 4) warn)
+    (start .args .roads-out .now) (start .args .junctions-out .now) (start .args .connections-out .now)
+    (start .args .pairs-out .now) (start .args .warnings-out .now) (length roads / 20) (length junctions / 5) n
+    p w (roads-width roads junctions ends (length roads / 20))
+    (length-take-le (length junctions / 5 * 5) js (omega (arith, start .pre .1, start .pre .5)))
+    (length-take-le (n * 7) cs (omega (arith, start .pre .2, start .pre .6)))
+    (length-take-le (p * 2) ps (omega (arith, start .pre .3, start .pre .7)))
+    (length-take-le (w * 4) warn (omega (arith, start .pre .4, start .pre .8)))
+    (sym (after-fit .fit .ensures) ∙ not-false _ (else1 .if1 .left)) (after-put-roads .put-roads .ensures)
+    (after-copy-part .copy-part .ensures) (after-copy-part2 .copy-part2 .ensures)
+    (after-copy-part3 .copy-part3 .ensures) (after-copy-part4 .copy-part4 .ensures)
 
 pub write-spec : {M : Type 1} → statement M
 write-spec =

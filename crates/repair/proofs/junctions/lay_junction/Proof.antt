@@ -42,16 +42,132 @@ index-at-requires-3 : tie.Need-index-at-requires-3
 index-at-requires-3 c κs = search needs
 
 put-own-requires : tie.Need-put-own-requires
-put-own-requires c κs = let s = (c .before .before .before .before .before .before .before .before .before .before .before .before .before .before .before .before .before) in let b1 = s .pre .1 .fit .begins (s .args .k) (s .pre .2) in let b2 = fit-in 5 3 4 (s .args .junctions .now) (length (s .args .connections .now) / 7) (s .pre .1 .fit) (s .args .k) (s .pre .2) in let b3 : c .before .before .before .index-at2 .result ≡ total (s .args .k) (counts 5 4 (s .args .junctions .now)) = c .before .before .before .index-at2 .ensures .0 ∙ b1 in let b4 : c .before .before .before .index-at2 .result + c .before .before .index-at3 .result ≤ length (s .args .connections .now) / 7 = omega (arith, b2, c .before .before .before .index-at2 .ensures .0, c .before .before .index-at3 .ensures .0) in let b5 = fit-next 5 4 (s .args .junctions .now) (s .args .k) in let b6 : c .before .before .before .index-at2 .result + c .before .before .index-at3 .result ≡ total (s .args .k + 1) (counts 5 4 (s .args .junctions .now)) = omega (arith, b5, b3, c .before .before .index-at3 .ensures .0) in let t1 = ap (λ (k : ℕ). total k (counts 7 6 (s .args .connections .now))) b3 in let t2 = ap (λ (k : ℕ). total k (counts 7 6 (s .args .connections .now))) b6 in let t3 = total-le (c .before .before .before .index-at2 .result) (c .before .before .before .index-at2 .result + c .before .before .index-at3 .result) (counts 7 6 (s .args .connections .now)) (omega arith) in let t4 = total-le (c .before .before .before .index-at2 .result + c .before .before .index-at3 .result) (length (s .args .connections .now) / 7) (counts 7 6 (s .args .connections .now)) b4 in let t5 = s .pre .0 .fit .whole in let t6 = s .pre .0 .few in let t7 = s .pre .0 .few-pairs in let t8 = s .pre .1 .few in (s .pre .0, b4, omega (arith, b3, b4, t1, t3, t4, t5, t6, t7, s .pre .3, s .pre .4), omega (arith, b3, b4, t1, t3, t4, t5, t6, t7, s .pre .3, s .pre .4), s .pre .5, s .pre .6)
+put-own-requires c κs =
+    let after-index-at3 : tie.After-index-at3 = search in
+    let after-index-at2 : tie.After-index-at2 = search in
+    let start : tie.Start = search in
+    let junctions = start .args .junctions .now in let connections = start .args .connections .now in
+    let b1 = start .pre .1 .fit .begins (start .args .k) (start .pre .2) in
+    let b2 = fit-in 5 3 4 junctions (length connections / 7) (start .pre .1 .fit) (start .args .k)
+    (start .pre .2) in
+    let b3 : after-index-at2 .index-at2 .result ≡ total (start .args .k) (counts 5 4 junctions) =
+    after-index-at2 .index-at2 .ensures .0 ∙ b1 in
+    let b4 : after-index-at2 .index-at2 .result + after-index-at3 .index-at3 .result ≤ length connections / 7 =
+    omega (arith, b2, after-index-at2 .index-at2 .ensures .0, after-index-at3 .index-at3 .ensures .0) in
+    let b5 = fit-next 5 4 junctions (start .args .k) in
+    let b6 : after-index-at2 .index-at2 .result + after-index-at3 .index-at3 .result
+    ≡ total (start .args .k + 1) (counts 5 4 junctions) =
+    omega (arith, b5, b3, after-index-at3 .index-at3 .ensures .0) in
+    let t1 = ap (λ (k : ℕ). total k (counts 7 6 connections)) b3 in
+    let t2 = ap (λ (k : ℕ). total k (counts 7 6 connections)) b6 in
+    let t3 = total-le (after-index-at2 .index-at2 .result)
+    (after-index-at2 .index-at2 .result + after-index-at3 .index-at3 .result) (counts 7 6 connections)
+    (omega arith) in
+    let t4 = total-le (after-index-at2 .index-at2 .result + after-index-at3 .index-at3 .result)
+    (length connections / 7) (counts 7 6 connections) b4 in
+    let t5 = start .pre .0 .fit .whole in
+    let t6 = start .pre .0 .few in
+    let t7 = start .pre .0 .few-pairs in
+    let t8 = start .pre .1 .few in (
+      start .pre .0,
+      b4,
+      omega (arith, b3, b4, t1, t3, t4, t5, t6, t7, start .pre .3, start .pre .4),
+      omega (arith, b3, b4, t1, t3, t4, t5, t6, t7, start .pre .3, start .pre .4),
+      start .pre .5,
+      start .pre .6,
+    )
 
 only-requires : tie.Need-only-requires
 only-requires c κs = search needs
 
 add-reversed : tie.Need-add-reversed
-add-reversed c = let s = (c .before .before .before .before .before .before .before .before .before .before .before .before .before .before .before .before .before .before .before .before .before .before .before) in let b1 = s .pre .1 .fit .begins (s .args .k) (s .pre .2) in let b2 = fit-in 5 3 4 (s .args .junctions .now) (length (s .args .connections .now) / 7) (s .pre .1 .fit) (s .args .k) (s .pre .2) in let b3 : c .before .before .before .before .before .before .before .before .before .index-at2 .result ≡ total (s .args .k) (counts 5 4 (s .args .junctions .now)) = c .before .before .before .before .before .before .before .before .before .index-at2 .ensures .0 ∙ b1 in let b4 : c .before .before .before .before .before .before .before .before .before .index-at2 .result + c .before .before .before .before .before .before .before .before .index-at3 .result ≤ length (s .args .connections .now) / 7 = omega (arith, b2, c .before .before .before .before .before .before .before .before .before .index-at2 .ensures .0, c .before .before .before .before .before .before .before .before .index-at3 .ensures .0) in let b5 = fit-next 5 4 (s .args .junctions .now) (s .args .k) in let b6 : c .before .before .before .before .before .before .before .before .before .index-at2 .result + c .before .before .before .before .before .before .before .before .index-at3 .result ≡ total (s .args .k + 1) (counts 5 4 (s .args .junctions .now)) = omega (arith, b5, b3, c .before .before .before .before .before .before .before .before .index-at3 .ensures .0) in let t1 = ap (λ (k : ℕ). total k (counts 7 6 (s .args .connections .now))) b3 in let t2 = ap (λ (k : ℕ). total k (counts 7 6 (s .args .connections .now))) b6 in let t3 = total-le (c .before .before .before .before .before .before .before .before .before .index-at2 .result) (c .before .before .before .before .before .before .before .before .before .index-at2 .result + c .before .before .before .before .before .before .before .before .index-at3 .result) (counts 7 6 (s .args .connections .now)) (omega arith) in let t4 = total-le (c .before .before .before .before .before .before .before .before .before .index-at2 .result + c .before .before .before .before .before .before .before .before .index-at3 .result) (length (s .args .connections .now) / 7) (counts 7 6 (s .args .connections .now)) b4 in let t5 = s .pre .0 .fit .whole in let t6 = s .pre .0 .few in let t7 = s .pre .0 .few-pairs in let t8 = s .pre .1 .few in omega (arith, b3, b4, t1, t3, t4, t5, t6, t7, s .pre .3, s .pre .4)
+add-reversed c =
+    let after-index-at3 : tie.After-index-at3 = search in
+    let after-index-at2 : tie.After-index-at2 = search in
+    let after-shared-slice-known7 = after-index-at2 .before .before .before .before .before .before .before in
+    let start = after-shared-slice-known7 .before .before .before .before .before .before .before in
+    let junctions = start .args .junctions .now in let connections = start .args .connections .now in
+    let b1 = start .pre .1 .fit .begins (start .args .k) (start .pre .2) in
+    let b2 = fit-in 5 3 4 junctions (length connections / 7) (start .pre .1 .fit) (start .args .k)
+    (start .pre .2) in
+    let b3 : after-index-at2 .index-at2 .result ≡ total (start .args .k) (counts 5 4 junctions) =
+    after-index-at2 .index-at2 .ensures .0 ∙ b1 in
+    let b4 : after-index-at2 .index-at2 .result + after-index-at3 .index-at3 .result ≤ length connections / 7 =
+    omega (arith, b2, after-index-at2 .index-at2 .ensures .0, after-index-at3 .index-at3 .ensures .0) in
+    let b5 = fit-next 5 4 junctions (start .args .k) in
+    let b6 : after-index-at2 .index-at2 .result + after-index-at3 .index-at3 .result
+    ≡ total (start .args .k + 1) (counts 5 4 junctions) =
+    omega (arith, b5, b3, after-index-at3 .index-at3 .ensures .0) in
+    let t1 = ap (λ (k : ℕ). total k (counts 7 6 connections)) b3 in
+    let t2 = ap (λ (k : ℕ). total k (counts 7 6 connections)) b6 in
+    let t3 = total-le (after-index-at2 .index-at2 .result)
+    (after-index-at2 .index-at2 .result + after-index-at3 .index-at3 .result) (counts 7 6 connections)
+    (omega arith) in
+    let t4 = total-le (after-index-at2 .index-at2 .result + after-index-at3 .index-at3 .result)
+    (length connections / 7) (counts 7 6 connections) b4 in
+    let t5 = start .pre .0 .fit .whole in
+    let t6 = start .pre .0 .few in
+    let t7 = start .pre .0 .few-pairs in
+    let t8 = start .pre .1 .few in omega (arith, b3, b4, t1, t3, t4, t5, t6, t7, start .pre .3, start .pre .4)
 
 reversed-requires : tie.Need-reversed-requires
-reversed-requires c κs = let s = (c .before .before .before .before .before .before .before .before .before .before .before .before .before .before .before .before .before .before .before .before .before .before .before .before .before) in let b1 = s .pre .1 .fit .begins (s .args .k) (s .pre .2) in let b2 = fit-in 5 3 4 (s .args .junctions .now) (length (s .args .connections .now) / 7) (s .pre .1 .fit) (s .args .k) (s .pre .2) in let b3 : c .before .before .before .before .before .before .before .before .before .before .before .index-at2 .result ≡ total (s .args .k) (counts 5 4 (s .args .junctions .now)) = c .before .before .before .before .before .before .before .before .before .before .before .index-at2 .ensures .0 ∙ b1 in let b4 : c .before .before .before .before .before .before .before .before .before .before .before .index-at2 .result + c .before .before .before .before .before .before .before .before .before .before .index-at3 .result ≤ length (s .args .connections .now) / 7 = omega (arith, b2, c .before .before .before .before .before .before .before .before .before .before .before .index-at2 .ensures .0, c .before .before .before .before .before .before .before .before .before .before .index-at3 .ensures .0) in let b5 = fit-next 5 4 (s .args .junctions .now) (s .args .k) in let b6 : c .before .before .before .before .before .before .before .before .before .before .before .index-at2 .result + c .before .before .before .before .before .before .before .before .before .before .index-at3 .result ≡ total (s .args .k + 1) (counts 5 4 (s .args .junctions .now)) = omega (arith, b5, b3, c .before .before .before .before .before .before .before .before .before .before .index-at3 .ensures .0) in let t1 = ap (λ (k : ℕ). total k (counts 7 6 (s .args .connections .now))) b3 in let t2 = ap (λ (k : ℕ). total k (counts 7 6 (s .args .connections .now))) b6 in let t3 = total-le (c .before .before .before .before .before .before .before .before .before .before .before .index-at2 .result) (c .before .before .before .before .before .before .before .before .before .before .before .index-at2 .result + c .before .before .before .before .before .before .before .before .before .before .index-at3 .result) (counts 7 6 (s .args .connections .now)) (omega arith) in let t4 = total-le (c .before .before .before .before .before .before .before .before .before .before .before .index-at2 .result + c .before .before .before .before .before .before .before .before .before .before .index-at3 .result) (length (s .args .connections .now) / 7) (counts 7 6 (s .args .connections .now)) b4 in let t5 = s .pre .0 .fit .whole in let t6 = s .pre .0 .few in let t7 = s .pre .0 .few-pairs in let t8 = s .pre .1 .few in let d1 = total-le (c .before .before .before .before .before .before .before .before .before .before .before .index-at2 .result + c .before .before .only .result) (c .before .before .before .before .before .before .before .before .before .before .before .index-at2 .result + c .before .before .before .before .before .before .before .before .before .before .index-at3 .result) (counts 7 6 (s .args .connections .now)) (omega (arith, c .before .before .only .ensures .1)) in (s .pre .0, omega (arith, s .pre .2, t8), omega (arith, b4, c .before .before .only .ensures .1), omega (arith, b3, b4, t1, t3, t4, t5, t6, t7, s .pre .3, s .pre .4, c .before .before .only .ensures .1), omega (arith, b3, b4, t1, t3, t4, t5, t6, t7, s .pre .3, s .pre .4, d1, c .before .before .before .before .before .before .before .put-own .ensures .0), c .before .before .before .before .before .before .before .put-own .kept .1 .1 .1 .1 .1 .1 .0 ∙ s .pre .5, c .before .before .before .before .before .before .before .put-own .kept .1 .1 .1 .1 .1 .1 .1 .0 ∙ s .pre .6, s .pre .7, s .pre .8)
+reversed-requires c κs =
+    let after-only : tie.After-only = search in
+    let after-put-own : tie.After-put-own = search in
+    let after-index-at3 : tie.After-index-at3 = search in
+    let after-index-at2 : tie.After-index-at2 = search in
+    let after-shared-slice-known7 = after-index-at2 .before .before .before .before .before .before .before in
+    let start = after-shared-slice-known7 .before .before .before .before .before .before .before in
+    let junctions = start .args .junctions .now in let connections = start .args .connections .now in
+    let b1 = start .pre .1 .fit .begins (start .args .k) (start .pre .2) in
+    let b2 = fit-in 5 3 4 junctions (length connections / 7) (start .pre .1 .fit) (start .args .k)
+    (start .pre .2) in
+    let b3 : after-index-at2 .index-at2 .result ≡ total (start .args .k) (counts 5 4 junctions) =
+    after-index-at2 .index-at2 .ensures .0 ∙ b1 in
+    let b4 : after-index-at2 .index-at2 .result + after-index-at3 .index-at3 .result ≤ length connections / 7 =
+    omega (arith, b2, after-index-at2 .index-at2 .ensures .0, after-index-at3 .index-at3 .ensures .0) in
+    let b5 = fit-next 5 4 junctions (start .args .k) in
+    let b6 : after-index-at2 .index-at2 .result + after-index-at3 .index-at3 .result
+    ≡ total (start .args .k + 1) (counts 5 4 junctions) =
+    omega (arith, b5, b3, after-index-at3 .index-at3 .ensures .0) in
+    let t1 = ap (λ (k : ℕ). total k (counts 7 6 connections)) b3 in
+    let t2 = ap (λ (k : ℕ). total k (counts 7 6 connections)) b6 in
+    let t3 = total-le (after-index-at2 .index-at2 .result)
+    (after-index-at2 .index-at2 .result + after-index-at3 .index-at3 .result) (counts 7 6 connections)
+    (omega arith) in
+    let t4 = total-le (after-index-at2 .index-at2 .result + after-index-at3 .index-at3 .result)
+    (length connections / 7) (counts 7 6 connections) b4 in
+    let t5 = start .pre .0 .fit .whole in
+    let t6 = start .pre .0 .few in
+    let t7 = start .pre .0 .few-pairs in
+    let t8 = start .pre .1 .few in
+    let d1 = total-le (after-index-at2 .index-at2 .result + after-only .only .result)
+    (after-index-at2 .index-at2 .result + after-index-at3 .index-at3 .result) (counts 7 6 connections)
+    (omega (arith, after-only .only .ensures .1)) in (
+      start .pre .0,
+      omega (arith, start .pre .2, t8),
+      omega (arith, b4, after-only .only .ensures .1),
+      omega (arith, b3, b4, t1, t3, t4, t5, t6, t7, start .pre .3, start .pre .4, after-only .only .ensures .1),
+      omega (
+        arith,
+        b3,
+        b4,
+        t1,
+        t3,
+        t4,
+        t5,
+        t6,
+        t7,
+        start .pre .3,
+        start .pre .4,
+        d1,
+        after-put-own .put-own .ensures .0,
+      ),
+      after-put-own .put-own .kept .1 .1 .1 .1 .1 .1 .0 ∙ start .pre .5,
+      after-put-own .put-own .kept .1 .1 .1 .1 .1 .1 .1 .0 ∙ start .pre .6,
+      start .pre .7,
+      start .pre .8,
+    )
 
 same-length : tie.Need-same-length
 same-length c = search needs
@@ -60,7 +176,65 @@ same-length-2 : tie.Need-same-length-2
 same-length-2 c = search needs
 
 returns : tie.Need-returns
-returns c = let s = (c .before .before .before .before .before .before .before .before .before .before .before .before .before .before .before .before .before .before .before .before .before .before .before .before .before .before .before .before .before .before) in let b1 = s .pre .1 .fit .begins (s .args .k) (s .pre .2) in let b2 = fit-in 5 3 4 (s .args .junctions .now) (length (s .args .connections .now) / 7) (s .pre .1 .fit) (s .args .k) (s .pre .2) in let b3 : c .before .before .before .before .before .before .before .before .before .before .before .before .before .before .before .before .index-at2 .result ≡ total (s .args .k) (counts 5 4 (s .args .junctions .now)) = c .before .before .before .before .before .before .before .before .before .before .before .before .before .before .before .before .index-at2 .ensures .0 ∙ b1 in let b4 : c .before .before .before .before .before .before .before .before .before .before .before .before .before .before .before .before .index-at2 .result + c .before .before .before .before .before .before .before .before .before .before .before .before .before .before .before .index-at3 .result ≤ length (s .args .connections .now) / 7 = omega (arith, b2, c .before .before .before .before .before .before .before .before .before .before .before .before .before .before .before .before .index-at2 .ensures .0, c .before .before .before .before .before .before .before .before .before .before .before .before .before .before .before .index-at3 .ensures .0) in let b5 = fit-next 5 4 (s .args .junctions .now) (s .args .k) in let b6 : c .before .before .before .before .before .before .before .before .before .before .before .before .before .before .before .before .index-at2 .result + c .before .before .before .before .before .before .before .before .before .before .before .before .before .before .before .index-at3 .result ≡ total (s .args .k + 1) (counts 5 4 (s .args .junctions .now)) = omega (arith, b5, b3, c .before .before .before .before .before .before .before .before .before .before .before .before .before .before .before .index-at3 .ensures .0) in let t1 = ap (λ (k : ℕ). total k (counts 7 6 (s .args .connections .now))) b3 in let t2 = ap (λ (k : ℕ). total k (counts 7 6 (s .args .connections .now))) b6 in let t3 = total-le (c .before .before .before .before .before .before .before .before .before .before .before .before .before .before .before .before .index-at2 .result) (c .before .before .before .before .before .before .before .before .before .before .before .before .before .before .before .before .index-at2 .result + c .before .before .before .before .before .before .before .before .before .before .before .before .before .before .before .index-at3 .result) (counts 7 6 (s .args .connections .now)) (omega arith) in let t4 = total-le (c .before .before .before .before .before .before .before .before .before .before .before .before .before .before .before .before .index-at2 .result + c .before .before .before .before .before .before .before .before .before .before .before .before .before .before .before .index-at3 .result) (length (s .args .connections .now) / 7) (counts 7 6 (s .args .connections .now)) b4 in let t5 = s .pre .0 .fit .whole in let t6 = s .pre .0 .few in let t7 = s .pre .0 .few-pairs in let t8 = s .pre .1 .few in let d1 = total-le (c .before .before .before .before .before .before .before .before .before .before .before .before .before .before .before .before .index-at2 .result + c .before .before .before .before .before .before .before .only .result) (c .before .before .before .before .before .before .before .before .before .before .before .before .before .before .before .before .index-at2 .result + c .before .before .before .before .before .before .before .before .before .before .before .before .before .before .before .index-at3 .result) (counts 7 6 (s .args .connections .now)) (omega (arith, c .before .before .before .before .before .before .before .only .ensures .1)) in (omega (arith, c .before .before .before .before .reversed .ensures .0, c .before .before .before .before .before .before .before .only .ensures .1, s .pre .3, b3, b6), omega (arith, c .before .before .before .before .reversed .ensures .1, d1, c .before .before .before .before .before .before .before .before .before .before .before .before .put-own .ensures .0, t1, t2, t3, s .pre .4), λ ss. laid-same (s .args .n) (s .args .p) _ _ (s .args .cs .now) (s .args .ps .now) _ _ (junction-connections (sameIn (s .args .text .now)) (roadsNow ss (s .args .roads .now) (s .args .junctions .now) (s .args .ends .now)) (s .args .pairs .now) (s .args .connections .now) (s .args .junctions .now) (s .args .k) (c .before .before .before .before .before .before .before .before .before .before .before .before .before .before .before .before .index-at2 .result) (c .before .before .before .before .before .before .before .before .before .before .before .before .before .before .before .index-at3 .result) (c .before .before .before .before .before .before .before .before .before .before .before .before .before .before .before .before .index-at2 .ensures .0) (c .before .before .before .before .before .before .before .before .before .before .before .before .before .before .before .index-at3 .ensures .0) (c .before .before .before .before .before .before .before .before .before .before .before .before .before .before .before .before .before .index-at .result) (c .before .before .before .before .before .before .before .only .result) (c .before .before .before .before .before .before .before .before .before .before .before .before .before .before .before .before .before .index-at .ensures .0) (c .before .before .before .before .before .before .before .only .ensures .0)) (laid-on _ _ (s .args .n) (s .args .p) (s .args .n + c .before .before .before .before .before .before .before .before .before .before .before .before .before .before .before .index-at3 .result) (c .before .before .before .before .before .before .before .before .before .before .before .before .put-own .result) _ _ (s .args .cs .now) (s .args .ps .now) _ _ _ _ (c .before .before .before .before .before .before .before .before .before .before .before .before .put-own .ensures .1) (c .before .before .before .before .reversed .ensures .2 ss)))
+returns c =
+    let after-reversed : tie.After-reversed = search in
+    let after-only : tie.After-only = search in
+    let after-put-own : tie.After-put-own = search in
+    let after-index-at3 : tie.After-index-at3 = search in
+    let after-index-at2 : tie.After-index-at2 = search in
+    let after-index-at : tie.After-index-at = search in
+    let after-shared-slice-known6 = after-index-at .before .before .before .before .before .before .before in
+    let start = after-shared-slice-known6 .before .before .before .before .before .before in
+    let junctions = start .args .junctions .now in let connections = start .args .connections .now in
+    let n = start .args .n in let p = start .args .p in let cs = start .args .cs .now in
+    let ps = start .args .ps .now in
+    let b1 = start .pre .1 .fit .begins (start .args .k) (start .pre .2) in
+    let b2 = fit-in 5 3 4 junctions (length connections / 7) (start .pre .1 .fit) (start .args .k)
+    (start .pre .2) in
+    let b3 : after-index-at2 .index-at2 .result ≡ total (start .args .k) (counts 5 4 junctions) =
+    after-index-at2 .index-at2 .ensures .0 ∙ b1 in
+    let b4 : after-index-at2 .index-at2 .result + after-index-at3 .index-at3 .result ≤ length connections / 7 =
+    omega (arith, b2, after-index-at2 .index-at2 .ensures .0, after-index-at3 .index-at3 .ensures .0) in
+    let b5 = fit-next 5 4 junctions (start .args .k) in
+    let b6 : after-index-at2 .index-at2 .result + after-index-at3 .index-at3 .result
+    ≡ total (start .args .k + 1) (counts 5 4 junctions) =
+    omega (arith, b5, b3, after-index-at3 .index-at3 .ensures .0) in
+    let t1 = ap (λ (k : ℕ). total k (counts 7 6 connections)) b3 in
+    let t2 = ap (λ (k : ℕ). total k (counts 7 6 connections)) b6 in
+    let t3 = total-le (after-index-at2 .index-at2 .result)
+    (after-index-at2 .index-at2 .result + after-index-at3 .index-at3 .result) (counts 7 6 connections)
+    (omega arith) in
+    let t4 = total-le (after-index-at2 .index-at2 .result + after-index-at3 .index-at3 .result)
+    (length connections / 7) (counts 7 6 connections) b4 in
+    let t5 = start .pre .0 .fit .whole in
+    let t6 = start .pre .0 .few in
+    let t7 = start .pre .0 .few-pairs in
+    let t8 = start .pre .1 .few in
+    let d1 = total-le (after-index-at2 .index-at2 .result + after-only .only .result)
+    (after-index-at2 .index-at2 .result + after-index-at3 .index-at3 .result) (counts 7 6 connections)
+    (omega (arith, after-only .only .ensures .1)) in (
+      omega (arith, after-reversed .reversed .ensures .0, after-only .only .ensures .1, start .pre .3, b3, b6),
+      omega (
+        arith,
+        after-reversed .reversed .ensures .1,
+        d1,
+        after-put-own .put-own .ensures .0,
+        t1,
+        t2,
+        t3,
+        start .pre .4,
+      ),
+      λ ss.
+          laid-same n p _ _ cs ps _ _
+          (junction-connections (sameIn (start .args .text .now))
+          (roadsNow ss (start .args .roads .now) junctions (start .args .ends .now)) (start .args .pairs .now)
+          connections junctions (start .args .k) (after-index-at2 .index-at2 .result)
+          (after-index-at3 .index-at3 .result) (after-index-at2 .index-at2 .ensures .0)
+          (after-index-at3 .index-at3 .ensures .0) (after-index-at .index-at .result)
+          (after-only .only .result) (after-index-at .index-at .ensures .0) (after-only .only .ensures .0))
+          (laid-on _ _ n p (n + after-index-at3 .index-at3 .result) (after-put-own .put-own .result) _ _ cs ps
+          _ _ _ _ (after-put-own .put-own .ensures .1) (after-reversed .reversed .ensures .2 ss)),
+    )
 
 pub lay-junction-spec : {M : Type 1} → statement M
 lay-junction-spec =

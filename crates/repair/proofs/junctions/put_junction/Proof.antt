@@ -57,9 +57,19 @@ same-length : tie.Need-same-length
 same-length c = search needs
 
 returns : tie.Need-returns
-returns c = let s = (c .before .before .before .before .before .before .before .before .before .before) in
-    let z : (s .args .k + 1) * 5 ≡ s .args .k * 5 + 5 = omega arith in
-    put-on _ (s .args .js .now) (c .before .before .put .ensures) (omega (arith, s .pre .0, s .pre .3)) z ∙ ap (λ (l : List ℕ). take (s .args .k * 5) (s .args .js .now) ++ l) (λ i. (c .before .before .before .before .before .before .before .at .ensures i) ∷ (c .before .before .before .before .before .before .at2 .ensures i) ∷ (c .before .before .before .before .before .at3 .ensures i) ∷ s .args .n ∷ s .args .count ∷ [])
+returns c =
+    let after-put : tie.After-put = search in
+    let after-at3 : tie.After-at3 = search in
+    let after-at2 : tie.After-at2 = search in
+    let after-at : tie.After-at = search in
+    let start : tie.Start = search in
+    let k = start .args .k in let js = start .args .js .now in
+    let z : (k + 1) * 5 ≡ k * 5 + 5 = omega arith in
+    put-on _ js (after-put .put .ensures) (omega (arith, start .pre .0, start .pre .3)) z
+    ∙ ap (λ (l : List ℕ). take (k * 5) js ++ l)
+    (λ i.
+    (after-at .at .ensures i) ∷ (after-at2 .at2 .ensures i) ∷ (after-at3 .at3 .ensures i) ∷ start .args .n
+    ∷ start .args .count ∷ [])
 
 pub put-junction-spec : {M : Type 1} → statement M
 put-junction-spec =

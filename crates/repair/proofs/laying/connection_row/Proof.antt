@@ -55,7 +55,21 @@ cast-t16 : tie.Need-cast-t16
 cast-t16 c = search needs
 
 returns : tie.Need-returns
-returns c = let s = (c .before .before .before .before .before .before .before .before .before) in let w4 = c .before .before .one .ensures .0 ∙ ap (λ (x : ℕ). bit (eqb x 1)) (c .before .before .before .at5 .ensures) in (λ i. (c .before .before .before .before .before .before .before .at .ensures i) ∷ (c .before .before .before .before .before .before .at2 .ensures i) ∷ (c .before .before .before .before .before .at3 .ensures i) ∷ (c .before .before .before .before .at4 .ensures i) ∷ w4 i ∷ s .args .p ∷ (c .before .at6 .ensures i) ∷ []) ∙ ap (λ (b : ℕ). rowWords b (s .args .connections .now) (s .args .c) (s .args .p)) (sym (c .if1 .taken))
+returns c =
+    let after-at6 : tie.After-at6 = search in
+    let after-one : tie.After-one = search in
+    let after-at5 : tie.After-at5 = search in
+    let after-at4 : tie.After-at4 = search in
+    let after-at3 : tie.After-at3 = search in
+    let after-at2 : tie.After-at2 = search in
+    let after-at : tie.After-at = search in
+    let start : tie.Start = search in
+    let p = start .args .p in
+    let w4 = after-one .one .ensures .0 ∙ ap (λ (x : ℕ). bit (eqb x 1)) (after-at5 .at5 .ensures) in
+    (λ i.
+    (after-at .at .ensures i) ∷ (after-at2 .at2 .ensures i) ∷ (after-at3 .at3 .ensures i)
+    ∷ (after-at4 .at4 .ensures i) ∷ w4 i ∷ p ∷ (after-at6 .at6 .ensures i) ∷ [])
+    ∙ ap (λ (b : ℕ). rowWords b (start .args .connections .now) (start .args .c) p) (sym (c .if1 .taken))
 
 sub-t12 : tie.Need-sub-t12
 sub-t12 c = search needs
@@ -67,7 +81,18 @@ cast-t17 : tie.Need-cast-t17
 cast-t17 c = search needs
 
 returns-2 : tie.Need-returns-2
-returns-2 c = let s = (c .before .before .before .before .before .before .before .before .before) in (λ i. (c .before .before .before .before .before .at3 .ensures i) ∷ (c .before .before .before .before .at4 .ensures i) ∷ (c .before .before .before .before .before .before .before .at .ensures i) ∷ (c .before .before .before .before .before .before .at2 .ensures i) ∷ (s .args .b - 1) ∷ s .args .p ∷ (c .before .at6 .ensures i) ∷ []) ∙ row-turned (s .args .b - 1) (s .args .connections .now) (s .args .c) (s .args .p) (s .args .b) (c .if1 .left) refl
+returns-2 c =
+    let after-at6 : tie.After-at6 = search in
+    let after-at4 : tie.After-at4 = search in
+    let after-at3 : tie.After-at3 = search in
+    let after-at2 : tie.After-at2 = search in
+    let after-at : tie.After-at = search in
+    let start : tie.Start = search in
+    let b = start .args .b in let p = start .args .p in
+    (λ i.
+    (after-at3 .at3 .ensures i) ∷ (after-at4 .at4 .ensures i) ∷ (after-at .at .ensures i)
+    ∷ (after-at2 .at2 .ensures i) ∷ (b - 1) ∷ p ∷ (after-at6 .at6 .ensures i) ∷ [])
+    ∙ row-turned (b - 1) (start .args .connections .now) (start .args .c) p b (c .if1 .left) refl
 
 pub connection-row-spec : {M : Type 1} → statement M
 connection-row-spec =

@@ -22,10 +22,20 @@ at-requires-2 : tie.Need-at-requires-2
 at-requires-2 c κs = search needs
 
 returns : tie.Need-returns
-returns c = let s = (c .before .before .before .before) in ap₂ (λ (x y : ℕ). x ∷ y ∷ []) (c .before .before .at .ensures) (c .before .at2 .ensures) ∙ pair-plain (s .args .pairs .now) (s .args .q) (s .args .b) (c .if1 .taken)
+returns c =
+    let after-at2 : tie.After-at2 = search in
+    let after-at : tie.After-at = search in
+    let start : tie.Start = search in
+    ap₂ (λ (x y : ℕ). x ∷ y ∷ []) (after-at .at .ensures) (after-at2 .at2 .ensures)
+    ∙ pair-plain (start .args .pairs .now) (start .args .q) (start .args .b) (c .if1 .taken)
 
 returns-2 : tie.Need-returns-2
-returns-2 c = let s = (c .before .before .before .before) in ap₂ (λ (x y : ℕ). y ∷ x ∷ []) (c .before .before .at .ensures) (c .before .at2 .ensures) ∙ pair-turned (s .args .pairs .now) (s .args .q) (s .args .b) (c .if1 .left)
+returns-2 c =
+    let after-at2 : tie.After-at2 = search in
+    let after-at : tie.After-at = search in
+    let start : tie.Start = search in
+    ap₂ (λ (x y : ℕ). y ∷ x ∷ []) (after-at .at .ensures) (after-at2 .at2 .ensures)
+    ∙ pair-turned (start .args .pairs .now) (start .args .q) (start .args .b) (c .if1 .left)
 
 pub pair-row-spec : {M : Type 1} → statement M
 pair-row-spec =

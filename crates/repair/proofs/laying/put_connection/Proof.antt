@@ -43,7 +43,22 @@ index-at-requires-2 : tie.Need-index-at-requires-2
 index-at-requires-2 c κs = search needs
 
 put-pairs-requires : tie.Need-put-pairs-requires
-put-pairs-requires c κs = let s = (c .before .before .before .before .before .before .before .before .before .before .before .before .before) in let f = fit-in 7 5 6 (s .args .connections .now) (length (s .args .pairs .now) / 2) (s .pre .0 .fit) (s .args .c) (s .pre .1) in (omega (arith, f, c .before .before .index-at .ensures .0, c .before .index-at2 .ensures .0, s .pre .0 .few-pairs), omega (arith, c .before .index-at2 .ensures .0, s .pre .4), s .pre .6)
+put-pairs-requires c κs =
+    let after-index-at2 : tie.After-index-at2 = search in
+    let after-index-at : tie.After-index-at = search in
+    let start : tie.Start = search in
+    let f = fit-in 7 5 6 (start .args .connections .now) (length (start .args .pairs .now) / 2)
+    (start .pre .0 .fit) (start .args .c) (start .pre .1) in (
+      omega (
+        arith,
+        f,
+        after-index-at .index-at .ensures .0,
+        after-index-at2 .index-at2 .ensures .0,
+        start .pre .0 .few-pairs,
+      ),
+      omega (arith, after-index-at2 .index-at2 .ensures .0, start .pre .4),
+      start .pre .6,
+    )
 
 add-result : tie.Need-add-result
 add-result c = search needs
@@ -55,11 +70,25 @@ same-length-2 : tie.Need-same-length-2
 same-length-2 c = search needs
 
 returns : tie.Need-returns
-returns c = let s = (c .before .before .before .before .before .before .before .before .before .before .before .before .before .before .before .before) in
-    let z : (s .args .n + 1) * 7 ≡ s .args .n * 7 + length (rowWords (s .args .b) (s .args .connections .now) (s .args .c) (s .args .p)) = omega (arith, row-width (s .args .b) (s .args .connections .now) (s .args .c) (s .args .p)) in (
-      ap (λ (k : ℕ). s .args .p + k) (c .before .before .before .before .index-at2 .ensures .0),
-      lay-one (s .args .pairs .now) (s .args .connections .now) (s .pre .0) (s .args .c) (s .pre .1) (s .args .b) (s .args .n) (s .args .p) (c .before .before .before .before .before .index-at .result) (c .before .before .before .before .index-at2 .result) (s .args .cs .now) (s .args .ps .now) (s .pre .2) (c .before .before .before .before .before .index-at .ensures .0) (c .before .before .before .before .index-at2 .ensures .0)
-          (put-on (rowWords (s .args .b) (s .args .connections .now) (s .args .c) (s .args .p)) (s .args .cs .now) (c .before .before .before .before .before .before .before .before .put .ensures ∙ ap (λ (r : List ℕ). spliced (s .args .n * 7) r (s .args .cs .now)) (c .before .before .before .before .before .before .before .before .before .before .before .connection-row .ensures)) (omega (arith, s .pre .3, s .pre .5)) z) (c .before .before .put-pairs .ensures),
+returns c =
+    let after-put-pairs : tie.After-put-pairs = search in
+    let after-index-at2 : tie.After-index-at2 = search in
+    let after-index-at : tie.After-index-at = search in
+    let after-put : tie.After-put = search in
+    let after-connection-row : tie.After-connection-row = search in
+    let start : tie.Start = search in
+    let n = start .args .n in let b = start .args .b in let connections = start .args .connections .now in
+    let p = start .args .p in let cs = start .args .cs .now in
+    let z : (n + 1) * 7 ≡ n * 7 + length (rowWords b connections (start .args .c) p) =
+    omega (arith, row-width b connections (start .args .c) p) in (
+      ap (λ (k : ℕ). p + k) (after-index-at2 .index-at2 .ensures .0),
+      lay-one (start .args .pairs .now) connections (start .pre .0) (start .args .c) (start .pre .1) b n p
+          (after-index-at .index-at .result) (after-index-at2 .index-at2 .result) cs (start .args .ps .now)
+          (start .pre .2) (after-index-at .index-at .ensures .0) (after-index-at2 .index-at2 .ensures .0)
+          (put-on (rowWords b connections (start .args .c) p) cs
+          (after-put .put .ensures
+          ∙ ap (λ (r : List ℕ). spliced (n * 7) r cs) (after-connection-row .connection-row .ensures))
+          (omega (arith, start .pre .3, start .pre .5)) z) (after-put-pairs .put-pairs .ensures),
     )
 
 pub put-connection-spec : {M : Type 1} → statement M

@@ -78,10 +78,57 @@ add-result : tie.Need-add-result
 add-result c = search needs
 
 returns : tie.Need-returns
-returns c = let s = (c .before .before .before .before .before .before .before .before .before .before .before .before .before) in (omega (arith, c .one .ensures .1), ap (λ (k : ℕ). endOpt (1 + k)) (c .one .ensures .0) ∙ end-one (getD (s .args .t2) 4 0) ∙ back-some (sameIn (s .args .text .now)) (nameAt 7 0 (s .args .connections .now) (s .args .c)) (getD (s .args .t2) 0 0) (getD (s .args .t2) 1 0) (getD (s .args .t2) 2 0) (getD (s .args .t2) 3 0) (getD (s .args .t2) 4 0) (getD (s .args .t2) 5 0) (getD (s .args .t2) 6 0) (sym (both-is (c .before .before .both3 .ensures) (both-is (c .before .before .before .before .both2 .ensures) (both-is (c .before .before .before .before .before .before .both .ensures) (c .before .before .before .before .before .before .before .before .is .ensures) (c .before .before .before .before .before .before .before .differs .ensures)) (c .before .before .before .before .before .alike .ensures ∙ ap₂ (λ (a b : ℕ). sameIn (s .args .text .now) (span (getD (s .args .t2) 2 0) (getD (s .args .t2) 3 0)) (span a b)) (c .before .before .before .before .before .before .before .before .before .before .at .ensures) (c .before .before .before .before .before .before .before .before .before .at2 .ensures))) (c .before .before .before .is2 .ensures)) ∙ c .before .if1 .taken))
+returns c =
+    let then1 : tie.Then1 = search in
+    let after-both3 : tie.After-both3 = search in
+    let after-is2 : tie.After-is2 = search in
+    let after-both2 : tie.After-both2 = search in
+    let after-alike : tie.After-alike = search in
+    let after-both : tie.After-both = search in
+    let after-differs : tie.After-differs = search in
+    let after-is : tie.After-is = search in
+    let after-at2 : tie.After-at2 = search in
+    let after-at : tie.After-at = search in
+    let start : tie.Start = search in
+    let t2 = start .args .t2 in let text = start .args .text .now in (
+      omega (arith, c .one .ensures .1),
+      ap (λ (k : ℕ). endOpt (1 + k)) (c .one .ensures .0)
+          ∙ end-one (getD t2 4 0)
+          ∙ back-some (sameIn text) (nameAt 7 0 (start .args .connections .now) (start .args .c)) (getD t2 0 0)
+          (getD t2 1 0) (getD t2 2 0) (getD t2 3 0) (getD t2 4 0) (getD t2 5 0) (getD t2 6 0)
+          (sym (both-is (after-both3 .both3 .ensures)
+          (both-is (after-both2 .both2 .ensures)
+          (both-is (after-both .both .ensures) (after-is .is .ensures) (after-differs .differs .ensures))
+          (after-alike .alike .ensures
+          ∙ ap₂ (λ (a b : ℕ). sameIn text (span (getD t2 2 0) (getD t2 3 0)) (span a b))
+          (after-at .at .ensures) (after-at2 .at2 .ensures))) (after-is2 .is2 .ensures))
+          ∙ then1 .if1 .taken),
+    )
 
 returns-2 : tie.Need-returns-2
-returns-2 c = let s = (c .before .before .before .before .before .before .before .before .before .before .before .before) in (omega arith, back-none (sameIn (s .args .text .now)) (nameAt 7 0 (s .args .connections .now) (s .args .c)) (getD (s .args .t2) 0 0) (getD (s .args .t2) 1 0) (getD (s .args .t2) 2 0) (getD (s .args .t2) 3 0) (getD (s .args .t2) 4 0) (getD (s .args .t2) 5 0) (getD (s .args .t2) 6 0) (sym (both-is (c .before .both3 .ensures) (both-is (c .before .before .before .both2 .ensures) (both-is (c .before .before .before .before .before .both .ensures) (c .before .before .before .before .before .before .before .is .ensures) (c .before .before .before .before .before .before .differs .ensures)) (c .before .before .before .before .alike .ensures ∙ ap₂ (λ (a b : ℕ). sameIn (s .args .text .now) (span (getD (s .args .t2) 2 0) (getD (s .args .t2) 3 0)) (span a b)) (c .before .before .before .before .before .before .before .before .before .at .ensures) (c .before .before .before .before .before .before .before .before .at2 .ensures))) (c .before .before .is2 .ensures)) ∙ c .if1 .left))
+returns-2 c =
+    let after-both3 : tie.After-both3 = search in
+    let after-is2 : tie.After-is2 = search in
+    let after-both2 : tie.After-both2 = search in
+    let after-alike : tie.After-alike = search in
+    let after-both : tie.After-both = search in
+    let after-differs : tie.After-differs = search in
+    let after-is : tie.After-is = search in
+    let after-at2 : tie.After-at2 = search in
+    let after-at : tie.After-at = search in
+    let start : tie.Start = search in
+    let text = start .args .text .now in let t2 = start .args .t2 in (
+      omega arith,
+      back-none (sameIn text) (nameAt 7 0 (start .args .connections .now) (start .args .c)) (getD t2 0 0)
+          (getD t2 1 0) (getD t2 2 0) (getD t2 3 0) (getD t2 4 0) (getD t2 5 0) (getD t2 6 0)
+          (sym (both-is (after-both3 .both3 .ensures)
+          (both-is (after-both2 .both2 .ensures)
+          (both-is (after-both .both .ensures) (after-is .is .ensures) (after-differs .differs .ensures))
+          (after-alike .alike .ensures
+          ∙ ap₂ (λ (a b : ℕ). sameIn text (span (getD t2 2 0) (getD t2 3 0)) (span a b))
+          (after-at .at .ensures) (after-at2 .at2 .ensures))) (after-is2 .is2 .ensures))
+          ∙ c .if1 .left),
+    )
 
 pub back-end-spec : {M : Type 1} → statement M
 back-end-spec =

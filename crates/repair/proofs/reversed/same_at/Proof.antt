@@ -28,7 +28,16 @@ alike-requires : tie.Need-alike-requires
 alike-requires c κs = search needs
 
 returns : tie.Need-returns
-returns c = let s = (c .before .before .before .before .before .before .before) in c .alike .ensures ∙ (λ i. sameIn (s .args .text .now) (span (c .before .before .before .before .at .ensures i) (c .before .before .before .at2 .ensures i)) (span (c .before .before .at3 .ensures i) (c .before .at4 .ensures i)))
+returns c =
+    let after-at4 : tie.After-at4 = search in
+    let after-at3 : tie.After-at3 = search in
+    let after-at2 : tie.After-at2 = search in
+    let after-at : tie.After-at = search in
+    let start : tie.Start = search in
+    c .alike .ensures
+    ∙ (λ i.
+    sameIn (start .args .text .now) (span (after-at .at .ensures i) (after-at2 .at2 .ensures i))
+    (span (after-at3 .at3 .ensures i) (after-at4 .at4 .ensures i)))
 
 pub same-at-spec : {M : Type 1} → statement M
 same-at-spec =

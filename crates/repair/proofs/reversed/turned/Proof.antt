@@ -45,7 +45,14 @@ both-requires-3 c κs = search needs
 
 returns : tie.Need-returns
 unfolding turnedAt
-returns c = both-is (c .both3 .ensures) (both-is (c .before .before .both2 .ensures) (c .before .before .before .before .both .ensures) (c .before .before .before .same-at .ensures)) (c .before .same-at2 .ensures)
+returns c =
+    let after-same-at2 : tie.After-same-at2 = search in
+    let after-both2 : tie.After-both2 = search in
+    let after-same-at : tie.After-same-at = search in
+    let after-both : tie.After-both = search in
+    both-is (c .both3 .ensures)
+    (both-is (after-both2 .both2 .ensures) (after-both .both .ensures) (after-same-at .same-at .ensures))
+    (after-same-at2 .same-at2 .ensures)
 
 pub turned-spec : {M : Type 1} → statement M
 turned-spec =

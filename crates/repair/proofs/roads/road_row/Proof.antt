@@ -110,13 +110,40 @@ array-read-t57 c = search needs
 
 returns : tie.Need-returns
 unfolding roadNowWords
-returns c = let s = (c .before .before .before .before .before .before .before .before .before .before .before) in let k = s .args .r in
-    let rest = c .before .at5 .result ∷ c .at6 .result ∷ [] in
-    let b = seven (getD (s .args .ends .now) (s .args .r * 2 + 1) 0) (s .args .roads .now) (s .args .junctions .now) (s .args .r * 20 + 4 + 1 * 7) 1 (c .before .before .before .before .before .before .target2 .result) (c .before .at5 .result ∷ c .at6 .result ∷ []) (c .before .before .before .before .before .before .target2 .ensures .0) in
-    let a = seven (getD (s .args .ends .now) (s .args .r * 2 + 0) 0) (s .args .roads .now) (s .args .junctions .now) (s .args .r * 20 + 4 + 0 * 7) 0 (c .before .before .before .before .before .before .before .target .result) (nowWords (getD (s .args .ends .now) (s .args .r * 2 + 1) 0) (s .args .roads .now) (s .args .junctions .now) (s .args .r * 20 + 4 + 1 * 7) 1 ++ (c .before .at5 .result ∷ c .at6 .result ∷ [])) (c .before .before .before .before .before .before .before .target .ensures .0) in
-    ap (λ (l : List ℕ). c .before .before .before .before .before .at .result ∷ c .before .before .before .before .at2 .result ∷ c .before .before .before .at3 .result ∷ c .before .before .at4 .result ∷ getD (c .before .before .before .before .before .before .before .target .result) 0 0 ∷ getD (c .before .before .before .before .before .before .before .target .result) 1 0 ∷ getD (c .before .before .before .before .before .before .before .target .result) 2 0 ∷ getD (c .before .before .before .before .before .before .before .target .result) 3 0 ∷ getD (c .before .before .before .before .before .before .before .target .result) 4 0 ∷ getD (c .before .before .before .before .before .before .before .target .result) 5 0 ∷ getD (c .before .before .before .before .before .before .before .target .result) 6 0 ∷ l) b
-    ∙ ap (λ (l : List ℕ). c .before .before .before .before .before .at .result ∷ c .before .before .before .before .at2 .result ∷ c .before .before .before .at3 .result ∷ c .before .before .at4 .result ∷ l) a
-    ∙ (λ i. (c .before .before .before .before .before .at .ensures i) ∷ (c .before .before .before .before .at2 .ensures i) ∷ (c .before .before .before .at3 .ensures i) ∷ (c .before .before .at4 .ensures i) ∷ (nowWords (getD (s .args .ends .now) (s .args .r * 2 + 0) 0) (s .args .roads .now) (s .args .junctions .now) (s .args .r * 20 + 4 + 0 * 7) 0 ++ (nowWords (getD (s .args .ends .now) (s .args .r * 2 + 1) 0) (s .args .roads .now) (s .args .junctions .now) (s .args .r * 20 + 4 + 1 * 7) 1 ++ ((c .before .at5 .ensures i) ∷ (c .at6 .ensures i) ∷ []))))
+returns c =
+    let after-at5 : tie.After-at5 = search in
+    let after-at4 : tie.After-at4 = search in
+    let after-at3 : tie.After-at3 = search in
+    let after-at2 : tie.After-at2 = search in
+    let after-at : tie.After-at = search in
+    let after-target2 : tie.After-target2 = search in
+    let after-target : tie.After-target = search in
+    let start : tie.Start = search in
+    let r = start .args .r in let ends = start .args .ends .now in let roads = start .args .roads .now in
+    let junctions = start .args .junctions .now in
+    let k = r in
+    let rest = after-at5 .at5 .result ∷ c .at6 .result ∷ [] in
+    let b = seven (getD ends (r * 2 + 1) 0) roads junctions (r * 20 + 4 + 1 * 7) 1
+    (after-target2 .target2 .result) (after-at5 .at5 .result ∷ c .at6 .result ∷ [])
+    (after-target2 .target2 .ensures .0) in
+    let a = seven (getD ends (r * 2 + 0) 0) roads junctions (r * 20 + 4 + 0 * 7) 0
+    (after-target .target .result)
+    (nowWords (getD ends (r * 2 + 1) 0) roads junctions (r * 20 + 4 + 1 * 7) 1
+    ++ (after-at5 .at5 .result ∷ c .at6 .result ∷ [])) (after-target .target .ensures .0) in
+    ap (λ (l : List ℕ).
+    after-at .at .result ∷ after-at2 .at2 .result ∷ after-at3 .at3 .result ∷ after-at4 .at4 .result
+    ∷ getD (after-target .target .result) 0 0 ∷ getD (after-target .target .result) 1 0
+    ∷ getD (after-target .target .result) 2 0 ∷ getD (after-target .target .result) 3 0
+    ∷ getD (after-target .target .result) 4 0 ∷ getD (after-target .target .result) 5 0
+    ∷ getD (after-target .target .result) 6 0 ∷ l) b
+    ∙ ap (λ (l : List ℕ).
+    after-at .at .result ∷ after-at2 .at2 .result ∷ after-at3 .at3 .result ∷ after-at4 .at4 .result ∷ l) a
+    ∙ (λ i.
+    (after-at .at .ensures i) ∷ (after-at2 .at2 .ensures i) ∷ (after-at3 .at3 .ensures i)
+    ∷ (after-at4 .at4 .ensures i)
+    ∷ (nowWords (getD ends (r * 2 + 0) 0) roads junctions (r * 20 + 4 + 0 * 7) 0
+    ++ (nowWords (getD ends (r * 2 + 1) 0) roads junctions (r * 20 + 4 + 1 * 7) 1
+    ++ ((after-at5 .at5 .ensures i) ∷ (c .at6 .ensures i) ∷ []))))
 
 pub road-row-spec : {M : Type 1} → statement M
 road-row-spec =

@@ -15,7 +15,10 @@ same-bytes-requires c κs = search needs
 
 returns : tie.Need-returns
 unfolding sameIn
-returns c = c .same-bytes .ensures ∙ ap₂ equalBytes (c .before .before .name .ensures) (c .before .name2 .ensures)
+returns c =
+    let after-name2 : tie.After-name2 = search in
+    let after-name : tie.After-name = search in
+    c .same-bytes .ensures ∙ ap₂ equalBytes (after-name .name .ensures) (after-name2 .name2 .ensures)
 
 pub alike-spec : {M : Type 1} → statement M
 alike-spec = tie.close (tie.spec name-requires name-requires-2 same-bytes-requires returns)

@@ -14,7 +14,9 @@ returns : tie.Need-returns
 returns c = search needs
 
 returns-2 : tie.Need-returns-2
-returns-2 c = at-past (c .before .args .ws .now) (c .before .args .k) (omega (arith, c .if1 .left))
+returns-2 c =
+    let start : tie.Start = search in
+    at-past (start .args .ws .now) (start .args .k) (omega (arith, c .if1 .left))
 
 pub at-spec : {M : Type 1} → statement M
 at-spec = tie.close (tie.spec mul-result shared-slice-read-result returns returns-2)

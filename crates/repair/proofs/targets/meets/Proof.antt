@@ -25,9 +25,22 @@ either-requires : tie.Need-either-requires
 either-requires c κs = search needs
 
 returns : tie.Need-returns
-returns c = λ ss. let s = (c .before .before .before .before .before .before .before .before .before) in
-    c .either .ensures ∙ ap₂ (λ a b. a || b) (c .before .before .names-junction .ensures ∙ ap (namesJunction (sameIn (s .args .text .now)) (nameAt 5 0 (s .args .junctions .now) (s .args .k))) (c .before .before .before .before .target .ensures .1)) (c .before .names-junction2 .ensures ∙ ap (namesJunction (sameIn (s .args .text .now)) (nameAt 5 0 (s .args .junctions .now) (s .args .k))) (c .before .before .before .target2 .ensures .1))
-    ∙ sym (meets-is ss (s .args .roads .now) (s .args .junctions .now) (s .args .ends .now) (s .args .r) (sameIn (s .args .text .now)) (nameAt 5 0 (s .args .junctions .now) (s .args .k)))
+returns c =
+    let after-names-junction2 : tie.After-names-junction2 = search in
+    let after-names-junction : tie.After-names-junction = search in
+    let after-target2 : tie.After-target2 = search in
+    let after-target : tie.After-target = search in
+    let start : tie.Start = search in
+    let text = start .args .text .now in let junctions = start .args .junctions .now in
+    let k = start .args .k in
+    λ ss.
+    c .either .ensures
+    ∙ ap₂ (λ a b. a || b) (after-names-junction .names-junction .ensures
+    ∙ ap (namesJunction (sameIn text) (nameAt 5 0 junctions k)) (after-target .target .ensures .1))
+    (after-names-junction2 .names-junction2 .ensures
+    ∙ ap (namesJunction (sameIn text) (nameAt 5 0 junctions k)) (after-target2 .target2 .ensures .1))
+    ∙ sym (meets-is ss (start .args .roads .now) junctions (start .args .ends .now) (start .args .r)
+    (sameIn text) (nameAt 5 0 junctions k))
 
 pub meets-spec : {M : Type 1} → statement M
 meets-spec =

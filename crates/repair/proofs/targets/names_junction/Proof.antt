@@ -58,9 +58,22 @@ both-requires-2 : tie.Need-both-requires-2
 both-requires-2 c κs = search needs
 
 returns : tie.Need-returns
-returns c = let s = (c .before .before .before .before .before .before .before .before .before) in
-    both-is (c .both2 .ensures) (both-is (c .before .before .both .ensures) (c .before .before .before .before .is .ensures) (c .before .before .before .is2 .ensures)) (c .before .alike .ensures ∙ ap₂ (λ (a b : ℕ). sameIn (s .args .text .now) (span (getD (s .args .t2) 2 0) (getD (s .args .t2) 3 0)) (span a b)) (c .before .before .before .before .before .before .at .ensures) (c .before .before .before .before .before .at2 .ensures))
-    ∙ names-is (sameIn (s .args .text .now)) (nameAt 5 0 (s .args .junctions .now) (s .args .k)) (getD (s .args .t2) 0 0) (getD (s .args .t2) 1 0) (getD (s .args .t2) 2 0) (getD (s .args .t2) 3 0) (getD (s .args .t2) 4 0) (getD (s .args .t2) 5 0) (getD (s .args .t2) 6 0)
+returns c =
+    let after-alike : tie.After-alike = search in
+    let after-both : tie.After-both = search in
+    let after-is2 : tie.After-is2 = search in
+    let after-is : tie.After-is = search in
+    let after-at2 : tie.After-at2 = search in
+    let after-at : tie.After-at = search in
+    let start : tie.Start = search in
+    let text = start .args .text .now in let t2 = start .args .t2 in
+    both-is (c .both2 .ensures)
+    (both-is (after-both .both .ensures) (after-is .is .ensures) (after-is2 .is2 .ensures))
+    (after-alike .alike .ensures
+    ∙ ap₂ (λ (a b : ℕ). sameIn text (span (getD t2 2 0) (getD t2 3 0)) (span a b)) (after-at .at .ensures)
+    (after-at2 .at2 .ensures))
+    ∙ names-is (sameIn text) (nameAt 5 0 (start .args .junctions .now) (start .args .k)) (getD t2 0 0)
+    (getD t2 1 0) (getD t2 2 0) (getD t2 3 0) (getD t2 4 0) (getD t2 5 0) (getD t2 6 0)
 
 pub names-junction-spec : {M : Type 1} → statement M
 names-junction-spec =

@@ -20,13 +20,36 @@ index-at-requires-2 : tie.Need-index-at-requires-2
 index-at-requires-2 c κs = search needs
 
 find-name-requires : tie.Need-find-name-requires
-find-name-requires c κs = let s = (c .before .before .before .before .before .before .before) in ((omega arith, omega arith, rows-in (length (s .args .roads .now)) 20, s .pre .1 .few, s .pre .1 .heads-long, omega (arith, s .pre .1 .few, s .pre .1 .next-long), c .before .index-at .ensures .1, c .index-at2 .ensures .1), s .pre .1 .chained)
+find-name-requires c κs =
+    let after-index-at : tie.After-index-at = search in
+    let start : tie.Start = search in (
+      (
+        omega arith,
+        omega arith,
+        rows-in (length (start .args .roads .now)) 20,
+        start .pre .1 .few,
+        start .pre .1 .heads-long,
+        omega (arith, start .pre .1 .few, start .pre .1 .next-long),
+        after-index-at .index-at .ensures .1,
+        c .index-at2 .ensures .1,
+      ),
+      start .pre .1 .chained,
+    )
 
 returns : tie.Need-returns
-returns c = let s = (c .before .before .before .before .before .before .before .before) in
-    let n = length (s .args .roads .now) / 20 in
-    let e = c .find-name .ensures ∙ ap₂ (λ (a b : ℕ). lastOf (length (s .args .roads .now) / 20) (bears (s .args .text .now) 20 0 (s .args .roads .now) (span a b))) (c .before .before .index-at .ensures .0) (c .before .index-at2 .ensures .0) in
-    (e, let le = last-le n (bears (s .args .text .now) 20 0 (s .args .roads .now) (nameFrom (s .args .ws .now) (s .args .k))) in omega (arith, e, le))
+returns c =
+    let after-index-at2 : tie.After-index-at2 = search in
+    let after-index-at : tie.After-index-at = search in
+    let start : tie.Start = search in
+    let roads = start .args .roads .now in let text = start .args .text .now in
+    let n = length roads / 20 in
+    let e = c .find-name .ensures
+    ∙ ap₂ (λ (a b : ℕ). lastOf (length roads / 20) (bears text 20 0 roads (span a b)))
+    (after-index-at .index-at .ensures .0) (after-index-at2 .index-at2 .ensures .0) in (
+      e,
+      let le = last-le n (bears text 20 0 roads (nameFrom (start .args .ws .now) (start .args .k))) in
+          omega (arith, e, le),
+    )
 
 pub road-of-spec : {M : Type 1} → statement M
 road-of-spec =

@@ -70,14 +70,40 @@ at-requires-7 : tie.Need-at-requires-7
 at-requires-7 c κs = search needs
 
 returns : tie.Need-returns
-returns c = let s = (c .before .before .before .before .before .before .before .before .before .before .before .before) in
-    let words : (c .before .before .before .before .before .before .at .result ∷ c .before .before .before .before .before .at2 .result ∷ c .before .before .before .before .at3 .result ∷ c .before .before .before .at4 .result ∷ c .before .before .at5 .result ∷ c .before .at6 .result ∷ c .at7 .result ∷ []) ≡ nowWords (getD (s .args .ends .now) (s .args .r * 2 + s .args .e) 0) (s .args .roads .now) (s .args .junctions .now) (s .args .r * 20 + 4 + s .args .e * 7) (s .args .e) = (λ i. (c .before .before .before .before .before .before .at .ensures i) ∷ (c .before .before .before .before .before .at2 .ensures i) ∷ (c .before .before .before .before .at3 .ensures i) ∷ (c .before .before .before .at4 .ensures i) ∷ (c .before .before .at5 .ensures i) ∷ (c .before .at6 .ensures i) ∷ (c .at7 .ensures i) ∷ []) ∙ ap (λ (w : ℕ). nowWords w (s .args .roads .now) (s .args .junctions .now) (s .args .r * 20 + 4 + s .args .e * 7) (s .args .e)) (sym (sym (c .before .before .before .before .before .before .before .before .index-at .ensures .0) ∙ c .before .before .before .before .before .before .before .if1 .taken)) in
-    (words, ap (λ (t : List ℕ). targetIn t 0) words ∙ now-means (s .args .roads .now) (s .args .junctions .now) (s .args .ends .now) (s .args .r) (s .args .e) (s .pre .1))
+returns c =
+    let after-at6 : tie.After-at6 = search in
+    let after-at5 : tie.After-at5 = search in
+    let after-at4 : tie.After-at4 = search in
+    let after-at3 : tie.After-at3 = search in
+    let after-at2 : tie.After-at2 = search in
+    let after-at : tie.After-at = search in
+    let then1 : tie.Then1 = search in
+    let after-index-at : tie.After-index-at = search in
+    let start : tie.Start = search in
+    let ends = start .args .ends .now in let r = start .args .r in let e = start .args .e in
+    let roads = start .args .roads .now in let junctions = start .args .junctions .now in
+    let words : (after-at .at .result ∷ after-at2 .at2 .result ∷ after-at3 .at3 .result
+    ∷ after-at4 .at4 .result ∷ after-at5 .at5 .result ∷ after-at6 .at6 .result ∷ c .at7 .result ∷ [])
+    ≡ nowWords (getD ends (r * 2 + e) 0) roads junctions (r * 20 + 4 + e * 7) e =
+    (λ i.
+    (after-at .at .ensures i) ∷ (after-at2 .at2 .ensures i) ∷ (after-at3 .at3 .ensures i)
+    ∷ (after-at4 .at4 .ensures i) ∷ (after-at5 .at5 .ensures i) ∷ (after-at6 .at6 .ensures i)
+    ∷ (c .at7 .ensures i) ∷ [])
+    ∙ ap (λ (w : ℕ). nowWords w roads junctions (r * 20 + 4 + e * 7) e)
+    (sym (sym (after-index-at .index-at .ensures .0) ∙ then1 .if1 .taken)) in
+    (words, ap (λ (t : List ℕ). targetIn t 0) words ∙ now-means roads junctions ends r e (start .pre .1))
 
 returns-2 : tie.Need-returns-2
-returns-2 c = let s = (c .before .before .before .before .before .before) in
-    let words : (0 ∷ 0 ∷ 0 ∷ 0 ∷ 0 ∷ 0 ∷ 0 ∷ []) ≡ nowWords (getD (s .args .ends .now) (s .args .r * 2 + s .args .e) 0) (s .args .roads .now) (s .args .junctions .now) (s .args .r * 20 + 4 + s .args .e * 7) (s .args .e) = ap (λ (w : ℕ). nowWords w (s .args .roads .now) (s .args .junctions .now) (s .args .r * 20 + 4 + s .args .e * 7) (s .args .e)) (sym (sym (c .before .before .index-at .ensures .0) ∙ c .if2 .taken)) in
-    (words, ap (λ (t : List ℕ). targetIn t 0) words ∙ now-means (s .args .roads .now) (s .args .junctions .now) (s .args .ends .now) (s .args .r) (s .args .e) (s .pre .1))
+returns-2 c =
+    let after-index-at : tie.After-index-at = search in
+    let start : tie.Start = search in
+    let ends = start .args .ends .now in let r = start .args .r in let e = start .args .e in
+    let roads = start .args .roads .now in let junctions = start .args .junctions .now in
+    let words : (0 ∷ 0 ∷ 0 ∷ 0 ∷ 0 ∷ 0 ∷ 0 ∷ [])
+    ≡ nowWords (getD ends (r * 2 + e) 0) roads junctions (r * 20 + 4 + e * 7) e =
+    ap (λ (w : ℕ). nowWords w roads junctions (r * 20 + 4 + e * 7) e)
+    (sym (sym (after-index-at .index-at .ensures .0) ∙ c .if2 .taken)) in
+    (words, ap (λ (t : List ℕ). targetIn t 0) words ∙ now-means roads junctions ends r e (start .pre .1))
 
 sub-j : tie.Need-sub-j
 sub-j c = search needs
@@ -98,9 +124,22 @@ cast-t24 : tie.Need-cast-t24
 cast-t24 c = search needs
 
 returns-3 : tie.Need-returns-3
-returns-3 c = let s = (c .before .before .before .before .before .before .before .before) in
-    let words : (1 ∷ 1 ∷ c .before .at8 .result ∷ c .at9 .result ∷ s .args .e ∷ 1 ∷ 0 ∷ []) ≡ nowWords (getD (s .args .ends .now) (s .args .r * 2 + s .args .e) 0) (s .args .roads .now) (s .args .junctions .now) (s .args .r * 20 + 4 + s .args .e * 7) (s .args .e) = (λ i. 1 ∷ 1 ∷ (c .before .at8 .ensures i) ∷ (c .at9 .ensures i) ∷ s .args .e ∷ 1 ∷ 0 ∷ []) ∙ words-linked (c .before .before .before .before .index-at .result) (s .args .roads .now) (s .args .junctions .now) (s .args .r * 20 + 4 + s .args .e * 7) (s .args .e) (c .before .before .before .if1 .left) (c .before .before .if2 .left) ∙ ap (λ (w : ℕ). nowWords w (s .args .roads .now) (s .args .junctions .now) (s .args .r * 20 + 4 + s .args .e * 7) (s .args .e)) (c .before .before .before .before .index-at .ensures .0) in
-    (words, ap (λ (t : List ℕ). targetIn t 0) words ∙ now-means (s .args .roads .now) (s .args .junctions .now) (s .args .ends .now) (s .args .r) (s .args .e) (s .pre .1))
+returns-3 c =
+    let after-at8 : tie.After-at8 = search in
+    let else2 : tie.Else2 = search in
+    let else1 : tie.Else1 = search in
+    let after-index-at : tie.After-index-at = search in
+    let start : tie.Start = search in
+    let e = start .args .e in let ends = start .args .ends .now in let r = start .args .r in
+    let roads = start .args .roads .now in let junctions = start .args .junctions .now in
+    let words : (1 ∷ 1 ∷ after-at8 .at8 .result ∷ c .at9 .result ∷ e ∷ 1 ∷ 0 ∷ [])
+    ≡ nowWords (getD ends (r * 2 + e) 0) roads junctions (r * 20 + 4 + e * 7) e =
+    (λ i. 1 ∷ 1 ∷ (after-at8 .at8 .ensures i) ∷ (c .at9 .ensures i) ∷ e ∷ 1 ∷ 0 ∷ [])
+    ∙ words-linked (after-index-at .index-at .result) roads junctions (r * 20 + 4 + e * 7) e
+    (else1 .if1 .left) (else2 .if2 .left)
+    ∙ ap (λ (w : ℕ). nowWords w roads junctions (r * 20 + 4 + e * 7) e)
+    (after-index-at .index-at .ensures .0) in
+    (words, ap (λ (t : List ℕ). targetIn t 0) words ∙ now-means roads junctions ends r e (start .pre .1))
 
 pub target-spec : {M : Type 1} → statement M
 target-spec =

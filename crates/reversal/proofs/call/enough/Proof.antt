@@ -22,7 +22,23 @@ both-requires-5 : tie.Need-both-requires-5
 both-requires-5 c κs = search needs
 
 returns : tie.Need-returns
-returns c = let a = c .before .before .before .before .before .args in c .both5 .ensures ∙ ap (λ b. leb (a .roads) (a .outroads) && b) (c .before .both4 .ensures ∙ ap (λ b. leb (a .sections) (a .outsections) && b) (c .before .before .both3 .ensures ∙ ap (λ b. leb (a .connections) (a .outconnections) && b) (c .before .before .before .both2 .ensures ∙ ap (λ b. leb (a .pairs) (a .outpairs) && b) (c .before .before .before .before .both .ensures ∙ ap (λ b. leb (a .lanes) (a .outlanes) && b) (and-true (leb (a .edges) (a .outedges)))))))
+returns c =
+    let after-both4 : tie.After-both4 = search in
+    let after-both3 : tie.After-both3 = search in
+    let after-both2 : tie.After-both2 = search in
+    let after-both : tie.After-both = search in
+    let start : tie.Start = search in
+    let a = start .args in
+    c .both5 .ensures
+    ∙ ap (λ b. leb (a .roads) (a .outroads) && b)
+    (after-both4 .both4 .ensures
+    ∙ ap (λ b. leb (a .sections) (a .outsections) && b)
+    (after-both3 .both3 .ensures
+    ∙ ap (λ b. leb (a .connections) (a .outconnections) && b)
+    (after-both2 .both2 .ensures
+    ∙ ap (λ b. leb (a .pairs) (a .outpairs) && b)
+    (after-both .both .ensures
+    ∙ ap (λ b. leb (a .lanes) (a .outlanes) && b) (and-true (leb (a .edges) (a .outedges)))))))
 
 pub enough-spec : {M : Type 1} → statement M
 enough-spec =

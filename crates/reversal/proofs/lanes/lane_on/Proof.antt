@@ -18,7 +18,9 @@ shared-slice-read-s : tie.Need-shared-slice-read-s
 shared-slice-read-s c = search needs
 
 cast-last : tie.Need-cast-last
-cast-last c = let s = (c .before .before .before .before .before .before .before .before) in omega (arith, c .shared-slice-known8 .given (s .args .i * 10 + 3))
+cast-last c =
+    let start : tie.Start = search in
+    omega (arith, c .shared-slice-known8 .given (start .args .i * 10 + 3))
 
 last-of-requires : tie.Need-last-of-requires
 last-of-requires c κs = search needs
@@ -57,7 +59,18 @@ lane-with-requires : tie.Need-lane-with-requires
 lane-with-requires c κs = search needs
 
 returns : tie.Need-returns
-returns c = let s = (c .before .before .before .before .before .before .before .before .before .before .before .before .before .before) in lane-is (s .args .text .now) (s .args .roads .now) (s .args .marks .now) (s .args .lanes .now) (s .args .i) (s .args .road) (s .args .mark) (s .args .part .now) (c .lane-with .ensures) (c .before .turned-section .ensures) (c .before .before .before .before .before .last-of .ensures .0) (c .before .before .before .before .first-of .ensures .0) (c .before .before .before .sign .ensures) (c .before .before .sign2 .ensures)
+returns c =
+    let after-turned-section : tie.After-turned-section = search in
+    let after-sign2 : tie.After-sign2 = search in
+    let after-sign : tie.After-sign = search in
+    let after-first-of : tie.After-first-of = search in
+    let after-last-of : tie.After-last-of = search in
+    let after-shared-slice-known2 = after-last-of .before .before .before .before .before .before .before in
+    let start = after-shared-slice-known2 .before .before in
+    lane-is (start .args .text .now) (start .args .roads .now) (start .args .marks .now)
+    (start .args .lanes .now) (start .args .i) (start .args .road) (start .args .mark) (start .args .part .now)
+    (c .lane-with .ensures) (after-turned-section .turned-section .ensures) (after-last-of .last-of .ensures .0)
+    (after-first-of .first-of .ensures .0) (after-sign .sign .ensures) (after-sign2 .sign2 .ensures)
 
 pub lane-on-spec : {M : Type 1} → statement M
 lane-on-spec =

@@ -94,7 +94,21 @@ shared-slice-read-t37 : tie.Need-shared-slice-read-t37
 shared-slice-read-t37 c = search needs
 
 returns : tie.Need-returns
-returns c = let s = (c .before .before .before .before .before .before .before .before .before .before .before .before .before .before .before) in let l = s .args .lanes .now in let a = s .args .at in let n = c .before .before .before .before .before .before .before .before .before .before .before .before .signed-by .ensures in let w = c .before .before .before .before .before .before .before .before .before .before .turned-way .ensures in let p = c .before .before .before .before .before .before .before .before .signed-by2 .ensures in let q = c .before .before .before .before .before .before .signed-by3 .ensures in lane-on-mark l a (s .args .mark) (s .args .section) (s .args .p) (s .args .q) (c .before .before .before .before .before .if1 .taken) n w p q
+returns c =
+    let then1 : tie.Then1 = search in
+    let after-signed-by3 : tie.After-signed-by3 = search in
+    let after-signed-by2 : tie.After-signed-by2 = search in
+    let after-turned-way : tie.After-turned-way = search in
+    let after-signed-by : tie.After-signed-by = search in
+    let start : tie.Start = search in
+    let l = start .args .lanes .now in
+    let a = start .args .at in
+    let n = after-signed-by .signed-by .ensures in
+    let w = after-turned-way .turned-way .ensures in
+    let p = after-signed-by2 .signed-by2 .ensures in
+    let q = after-signed-by3 .signed-by3 .ensures in
+    lane-on-mark l a (start .args .mark) (start .args .section) (start .args .p) (start .args .q)
+    (then1 .if1 .taken) n w p q
 
 mul-t11 : tie.Need-mul-t11
 mul-t11 c = search needs
@@ -139,7 +153,21 @@ shared-slice-read-t53 : tie.Need-shared-slice-read-t53
 shared-slice-read-t53 c = search needs
 
 returns-2 : tie.Need-returns-2
-returns-2 c = let s = (c .before .before .before .before .before .before .before .before .before .before .before .before .before .before .before) in let l = s .args .lanes .now in let a = s .args .at in let n = c .before .before .before .before .before .before .before .before .before .before .before .before .signed-by .ensures in let w = c .before .before .before .before .before .before .before .before .before .before .turned-way .ensures in let p = c .before .before .before .before .before .before .before .before .signed-by2 .ensures in let q = c .before .before .before .before .before .before .signed-by3 .ensures in lane-off-mark l a (s .args .mark) (s .args .section) (s .args .p) (s .args .q) (c .before .before .before .before .before .if1 .left) n w p q
+returns-2 c =
+    let else1 : tie.Else1 = search in
+    let after-signed-by3 : tie.After-signed-by3 = search in
+    let after-signed-by2 : tie.After-signed-by2 = search in
+    let after-turned-way : tie.After-turned-way = search in
+    let after-signed-by : tie.After-signed-by = search in
+    let start : tie.Start = search in
+    let l = start .args .lanes .now in
+    let a = start .args .at in
+    let n = after-signed-by .signed-by .ensures in
+    let w = after-turned-way .turned-way .ensures in
+    let p = after-signed-by2 .signed-by2 .ensures in
+    let q = after-signed-by3 .signed-by3 .ensures in
+    lane-off-mark l a (start .args .mark) (start .args .section) (start .args .p) (start .args .q)
+    (else1 .if1 .left) n w p q
 
 pub lane-with-spec : {M : Type 1} → statement M
 lane-with-spec =

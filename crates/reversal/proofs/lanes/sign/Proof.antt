@@ -7,7 +7,9 @@ to-marked-requires : tie.Need-to-marked-requires
 to-marked-requires c κs = search needs
 
 returns : tie.Need-returns
-returns c = if-on _ _ _ (c .before .if1 .taken) (c .to-marked .ensures)
+returns c =
+    let then1 : tie.Then1 = search in
+    if-on _ _ _ (then1 .if1 .taken) (c .to-marked .ensures)
 
 returns-2 : tie.Need-returns-2
 returns-2 c = search needs

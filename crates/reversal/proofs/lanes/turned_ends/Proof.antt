@@ -13,10 +13,21 @@ turned-requires : tie.Need-turned-requires
 turned-requires c κs = search needs
 
 returns : tie.Need-returns
-returns c = let s = (c .before .before .before .before) in if-on (s .args .mark) (swapped (endsAt (s .args .edges .now) (s .args .i))) (endsAt (s .args .edges .now) (s .args .i)) (c .before .if1 .taken) (c .turned .ensures ∙ ap swapped (c .before .before .ends-at .ensures))
+returns c =
+    let then1 : tie.Then1 = search in
+    let after-ends-at : tie.After-ends-at = search in
+    let start : tie.Start = search in
+    let edges = start .args .edges .now in let i = start .args .i in
+    if-on (start .args .mark) (swapped (endsAt edges i)) (endsAt edges i) (then1 .if1 .taken)
+    (c .turned .ensures ∙ ap swapped (after-ends-at .ends-at .ensures))
 
 returns-2 : tie.Need-returns-2
-returns-2 c = let s = (c .before .before .before) in if-off (s .args .mark) (swapped (endsAt (s .args .edges .now) (s .args .i))) (endsAt (s .args .edges .now) (s .args .i)) (c .if1 .left) (c .before .ends-at .ensures)
+returns-2 c =
+    let after-ends-at : tie.After-ends-at = search in
+    let start : tie.Start = search in
+    let edges = start .args .edges .now in let i = start .args .i in
+    if-off (start .args .mark) (swapped (endsAt edges i)) (endsAt edges i) (c .if1 .left)
+    (after-ends-at .ends-at .ensures)
 
 pub turned-ends-spec : {M : Type 1} → statement M
 turned-ends-spec = tie.close (tie.spec ends-at-requires turned-requires returns returns-2)

@@ -81,10 +81,16 @@ shared-slice-read-t34 c = search needs
 
 returns : tie.Need-returns
 unfolding turnedConnection
-returns c = let s = (c .before .before .before .before .before .before .before .before .before .before .before .before .before .before .before) in
-    let l = s .args .connections .now in
-    let a = s .args .i * 7 in
-    ap (λ (k : ℕ). getD l a 0 ∷ getD l (a + 1) 0 ∷ getD l (a + 2) 0 ∷ getD l (a + 3) 0 ∷ k ∷ getD l (a + 5) 0 ∷ getD l (a + 6) 0 ∷ []) (c .before .before .before .before .before .before .turned-bit .ensures ∙ ap (λ b. turnBit b (getD l (a + 4) 0)) (c .before .before .before .before .before .before .before .before .marked .ensures))
+returns c =
+    let after-turned-bit : tie.After-turned-bit = search in
+    let after-marked : tie.After-marked = search in
+    let start : tie.Start = search in
+    let l = start .args .connections .now in
+    let a = start .args .i * 7 in
+    ap (λ (k : ℕ).
+    getD l a 0 ∷ getD l (a + 1) 0 ∷ getD l (a + 2) 0 ∷ getD l (a + 3) 0 ∷ k ∷ getD l (a + 5) 0
+    ∷ getD l (a + 6) 0 ∷ []) (after-turned-bit .turned-bit .ensures
+    ∙ ap (λ b. turnBit b (getD l (a + 4) 0)) (after-marked .marked .ensures))
 
 pub turned-connection-spec : {M : Type 1} → statement M
 turned-connection-spec =

@@ -16,7 +16,10 @@ shared-slice-read-result : tie.Need-shared-slice-read-result
 shared-slice-read-result c = search needs
 
 returns-2 : tie.Need-returns-2
-returns-2 c = mark-some (c .before .before .args .marks .now) (c .before .before .args .road) (c .before .if1 .left)
+returns-2 c =
+    let else1 : tie.Else1 = search in
+    let start : tie.Start = search in
+    mark-some (start .args .marks .now) (start .args .road) (else1 .if1 .left)
 
 pub mark-at-spec : {M : Type 1} → statement M
 mark-at-spec =

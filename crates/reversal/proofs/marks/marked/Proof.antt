@@ -22,14 +22,46 @@ word-requires-2 : tie.Need-word-requires-2
 word-requires-2 c κs = search needs
 
 find-name-requires : tie.Need-find-name-requires
-find-name-requires c κs = let s = (c .before .before .before .before .before .before .before .before) in ((omega arith, omega arith, rows-in (length (s .args .roads .now)) 20, s .pre .0 .few, s .pre .0 .buckets, omega (arith, s .pre .0 .links, s .pre .0 .few), c .before .word .ensures .1, c .word2 .ensures .1), s .pre .0 .named)
+find-name-requires c κs =
+    let after-word : tie.After-word = search in
+    let start : tie.Start = search in (
+      (
+        omega arith,
+        omega arith,
+        rows-in (length (start .args .roads .now)) 20,
+        start .pre .0 .few,
+        start .pre .0 .buckets,
+        omega (arith, start .pre .0 .links, start .pre .0 .few),
+        after-word .word .ensures .1,
+        c .word2 .ensures .1,
+      ),
+      start .pre .0 .named,
+    )
 
 mark-at-requires : tie.Need-mark-at-requires
-mark-at-requires c κs = let s = (c .before .before .before .before .before .before .before .before .before) in let le = last-le (length (s .args .roads .now) / 20) (bears (s .args .text .now) 20 0 (s .args .roads .now) (span (c .before .before .word .result) (c .before .word2 .result))) in omega (arith, c .find-name .ensures, s .pre .0 .even)
+mark-at-requires c κs =
+    let after-word2 : tie.After-word2 = search in
+    let after-word : tie.After-word = search in
+    let start : tie.Start = search in
+    let roads = start .args .roads .now in
+    let le = last-le (length roads / 20)
+    (bears (start .args .text .now) 20 0 roads
+    (span (after-word .word .result) (after-word2 .word2 .result))) in
+    omega (arith, c .find-name .ensures, start .pre .0 .even)
 
 returns : tie.Need-returns
 unfolding markOf roadRowOf
-returns c = let s = (c .before .before .before .before .before .before .before .before .before .before) in c .mark-at .ensures ∙ ap (markAt (s .args .marks .now)) (c .before .find-name .ensures ∙ ap₂ (λ (a b : ℕ). lastOf (length (s .args .roads .now) / 20) (bears (s .args .text .now) 20 0 (s .args .roads .now) (span a b))) (c .before .before .before .word .ensures .0) (c .before .before .word2 .ensures .0))
+returns c =
+    let after-find-name : tie.After-find-name = search in
+    let after-word2 : tie.After-word2 = search in
+    let after-word : tie.After-word = search in
+    let start : tie.Start = search in
+    let roads = start .args .roads .now in
+    c .mark-at .ensures
+    ∙ ap (markAt (start .args .marks .now))
+    (after-find-name .find-name .ensures
+    ∙ ap₂ (λ (a b : ℕ). lastOf (length roads / 20) (bears (start .args .text .now) 20 0 roads (span a b)))
+    (after-word .word .ensures .0) (after-word2 .word2 .ensures .0))
 
 pub marked-spec : {M : Type 1} → statement M
 marked-spec =

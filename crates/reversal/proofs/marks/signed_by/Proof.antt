@@ -7,7 +7,10 @@ negate-requires : tie.Need-negate-requires
 negate-requires c κs = search needs
 
 returns : tie.Need-returns
-returns c = sign-on (c .before .before .args .mark) (c .before .before .args .number) (c .before .if1 .taken) (c .negate .ensures)
+returns c =
+    let then1 : tie.Then1 = search in
+    let start : tie.Start = search in
+    sign-on (start .args .mark) (start .args .number) (then1 .if1 .taken) (c .negate .ensures)
 
 returns-2 : tie.Need-returns-2
 returns-2 c = search needs

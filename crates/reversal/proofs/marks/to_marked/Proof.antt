@@ -39,7 +39,14 @@ both-requires-2 c κs = search needs
 
 returns : tie.Need-returns
 unfolding toMarked
-returns c = both-is (c .both2 .ensures) (both-is (c .before .before .both .ensures) (c .before .before .before .before .before .is .ensures) (c .before .before .before .is2 .ensures)) (c .before .marked .ensures)
+returns c =
+    let after-marked : tie.After-marked = search in
+    let after-both : tie.After-both = search in
+    let after-is2 : tie.After-is2 = search in
+    let after-is : tie.After-is = search in
+    both-is (c .both2 .ensures)
+    (both-is (after-both .both .ensures) (after-is .is .ensures) (after-is2 .is2 .ensures))
+    (after-marked .marked .ensures)
 
 pub to-marked-spec : {M : Type 1} → statement M
 to-marked-spec =

@@ -4,13 +4,21 @@ use Rattle.reversal.proofs.marks.turned_bit.Statement.{statement}
 use Rattle.reversal.proofs.marks.turned_bit.Tie as tie
 
 returns : tie.Need-returns
-returns c = bit-off (c .before .args .mark) (c .before .args .bit) (not-true _ (c .if1 .taken))
+returns c =
+    let start : tie.Start = search in
+    bit-off (start .args .mark) (start .args .bit) (not-true _ (c .if1 .taken))
 
 returns-2 : tie.Need-returns-2
-returns-2 c = bit-zero (c .before .before .args .mark) (c .before .before .args .bit) (not-false _ (c .before .if1 .left)) (c .if2 .taken)
+returns-2 c =
+    let else1 : tie.Else1 = search in
+    let start : tie.Start = search in
+    bit-zero (start .args .mark) (start .args .bit) (not-false _ (else1 .if1 .left)) (c .if2 .taken)
 
 returns-3 : tie.Need-returns-3
-returns-3 c = bit-one (c .before .before .args .mark) (c .before .before .args .bit) (not-false _ (c .before .if1 .left)) (c .if2 .left)
+returns-3 c =
+    let else1 : tie.Else1 = search in
+    let start : tie.Start = search in
+    bit-one (start .args .mark) (start .args .bit) (not-false _ (else1 .if1 .left)) (c .if2 .left)
 
 pub turned-bit-spec : {M : Type 1} → statement M
 turned-bit-spec = tie.close (tie.spec returns returns-2 returns-3)

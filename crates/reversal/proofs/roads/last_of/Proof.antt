@@ -6,7 +6,9 @@ use Rattle.reversal.proofs.roads.last_of.Statement.{statement}
 use Rattle.reversal.proofs.roads.last_of.Tie as tie
 
 returns : tie.Need-returns
-returns c = (last-none (c .before .before .args .part .now) (c .if1 .taken), omega arith)
+returns c =
+    let start : tie.Start = search in
+    (last-none (start .args .part .now) (c .if1 .taken), omega arith)
 
 sub-word : tie.Need-sub-word
 sub-word c = search needs
@@ -15,7 +17,9 @@ word-requires : tie.Need-word-requires
 word-requires c κs = search needs
 
 returns-2 : tie.Need-returns-2
-returns-2 c = (c .word .ensures .0 ∙ last-is (c .before .before .before .args .part .now), c .word .ensures .1)
+returns-2 c =
+    let start : tie.Start = search in
+    (c .word .ensures .0 ∙ last-is (start .args .part .now), c .word .ensures .1)
 
 pub last-of-spec : {M : Type 1} → statement M
 last-of-spec = tie.close (tie.spec returns sub-word word-requires returns-2)

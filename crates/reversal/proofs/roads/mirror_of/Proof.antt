@@ -21,7 +21,9 @@ cast-result c = search needs
 
 returns : tie.Need-returns
 unfolding mirror
-returns c = let e = c .before .first-of .ensures .0 in let f = c .last-of .ensures .0 in omega arith
+returns c =
+    let after-first-of : tie.After-first-of = search in
+    let e = after-first-of .first-of .ensures .0 in let f = c .last-of .ensures .0 in omega arith
 
 pub mirror-of-spec : {M : Type 1} → statement M
 mirror-of-spec =

@@ -37,24 +37,67 @@ is-requires : tie.Need-is-requires
 is-requires c κs = search needs
 
 put-mirrored-requires : tie.Need-put-mirrored-requires
-put-mirrored-requires c κs = let s = (c .before .before .before .before .before .before .before .before .before .before) in let room = sections-room (s .args .roads .now) (s .args .sections .now) (s .args .marks .now) (s .pre .3) (s .args .i) (s .pre .0) (length (s .args .out .now)) (s .pre .2) in let w = c .before .before .before .before .word .ensures .0 in (let n = ap length (c .before .before .before .before .before .numbers .ensures) in omega arith, ap ascends (c .before .before .before .before .before .numbers .ensures) ∙ s .pre .4)
+put-mirrored-requires c κs =
+    let after-word : tie.After-word = search in
+    let after-numbers : tie.After-numbers = search in
+    let start : tie.Start = search in
+    let room = sections-room (start .args .roads .now) (start .args .sections .now) (start .args .marks .now)
+    (start .pre .3) (start .args .i) (start .pre .0) (length (start .args .out .now)) (start .pre .2) in
+    let w = after-word .word .ensures .0 in (
+      let n = ap length (after-numbers .numbers .ensures) in omega arith,
+      ap ascends (after-numbers .numbers .ensures) ∙ start .pre .4,
+    )
 
 same-length : tie.Need-same-length
 same-length c = search needs
 
 returns : tie.Need-returns
 unfolding turnedSections
-returns c = let s = (c .before .before .before .before .before .before .before .before .before .before .before .before .before) in c .before .before .put-mirrored .ensures ∙ ap₂ (λ (a : ℕ) (p : List ℕ). spliced a (mirrored p) (s .args .out .now)) (c .before .before .before .before .before .before .before .word .ensures .0) (c .before .before .before .before .before .before .before .before .numbers .ensures) ∙ ap (λ (p : List ℕ). spliced (getD (s .args .roads .now) (s .args .i * 20 + 18) 0) p (s .args .out .now)) (if-on (eqb (getD (s .args .marks .now) (s .args .i) 0) 1) (mirrored (numbersAt (s .args .roads .now) (s .args .sections .now) (s .args .i))) (numbersAt (s .args .roads .now) (s .args .sections .now) (s .args .i)) (sym (c .before .before .before .before .before .is .ensures) ∙ c .before .before .before .before .if1 .taken) refl)
+returns c =
+    let after-put-mirrored : tie.After-put-mirrored = search in
+    let then1 : tie.Then1 = search in
+    let after-is : tie.After-is = search in
+    let after-word : tie.After-word = search in
+    let after-numbers : tie.After-numbers = search in
+    let start : tie.Start = search in
+    let out = start .args .out .now in let roads = start .args .roads .now in let i = start .args .i in
+    let sections = start .args .sections .now in
+    after-put-mirrored .put-mirrored .ensures
+    ∙ ap₂ (λ (a : ℕ) (p : List ℕ). spliced a (mirrored p) out) (after-word .word .ensures .0)
+    (after-numbers .numbers .ensures)
+    ∙ ap (λ (p : List ℕ). spliced (getD roads (i * 20 + 18) 0) p out)
+    (if-on (eqb (getD (start .args .marks .now) i 0) 1) (mirrored (numbersAt roads sections i))
+    (numbersAt roads sections i) (sym (after-is .is .ensures) ∙ then1 .if1 .taken) refl)
 
 put-requires : tie.Need-put-requires
-put-requires c κs = let s = (c .before .before .before .before .before .before .before .before .before .before) in let room = sections-room (s .args .roads .now) (s .args .sections .now) (s .args .marks .now) (s .pre .3) (s .args .i) (s .pre .0) (length (s .args .out .now)) (s .pre .2) in let w = c .before .before .before .before .word .ensures .0 in (let n = ap length (c .before .before .before .before .before .numbers .ensures) in omega arith)
+put-requires c κs =
+    let after-word : tie.After-word = search in
+    let after-numbers : tie.After-numbers = search in
+    let start : tie.Start = search in
+    let room = sections-room (start .args .roads .now) (start .args .sections .now) (start .args .marks .now)
+    (start .pre .3) (start .args .i) (start .pre .0) (length (start .args .out .now)) (start .pre .2) in
+    let w = after-word .word .ensures .0 in (let n = ap length (after-numbers .numbers .ensures) in omega arith)
 
 same-length-2 : tie.Need-same-length-2
 same-length-2 c = search needs
 
 returns-2 : tie.Need-returns-2
 unfolding turnedSections
-returns-2 c = let s = (c .before .before .before .before .before .before .before .before .before .before .before .before .before) in c .before .before .put .ensures ∙ ap₂ (λ (a : ℕ) (p : List ℕ). spliced a p (s .args .out .now)) (c .before .before .before .before .before .before .before .word .ensures .0) (c .before .before .before .before .before .before .before .before .numbers .ensures) ∙ ap (λ (p : List ℕ). spliced (getD (s .args .roads .now) (s .args .i * 20 + 18) 0) p (s .args .out .now)) (if-off (eqb (getD (s .args .marks .now) (s .args .i) 0) 1) (mirrored (numbersAt (s .args .roads .now) (s .args .sections .now) (s .args .i))) (numbersAt (s .args .roads .now) (s .args .sections .now) (s .args .i)) (sym (c .before .before .before .before .before .is .ensures) ∙ c .before .before .before .before .if1 .left) refl)
+returns-2 c =
+    let after-put : tie.After-put = search in
+    let else1 : tie.Else1 = search in
+    let after-is : tie.After-is = search in
+    let after-word : tie.After-word = search in
+    let after-numbers : tie.After-numbers = search in
+    let start : tie.Start = search in
+    let out = start .args .out .now in let roads = start .args .roads .now in let i = start .args .i in
+    let sections = start .args .sections .now in
+    after-put .put .ensures
+    ∙ ap₂ (λ (a : ℕ) (p : List ℕ). spliced a p out) (after-word .word .ensures .0)
+    (after-numbers .numbers .ensures)
+    ∙ ap (λ (p : List ℕ). spliced (getD roads (i * 20 + 18) 0) p out)
+    (if-off (eqb (getD (start .args .marks .now) i 0) 1) (mirrored (numbersAt roads sections i))
+    (numbersAt roads sections i) (sym (after-is .is .ensures) ∙ else1 .if1 .left) refl)
 
 pub put-numbers-spec : {M : Type 1} → statement M
 put-numbers-spec =

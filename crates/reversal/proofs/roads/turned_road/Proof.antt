@@ -61,14 +61,44 @@ road-with-requires c κs = search needs
 
 returns : tie.Need-returns
 unfolding turnedRoad contactAt
-returns c = let s = (c .before .before .before .before .before .before .before .before .before .before .before .before .before .before .before) in if-on (eqb (getD (s .args .marks .now) (s .args .i) 0) 1) _ _ (sym (c .before .before .is .ensures) ∙ c .before .if1 .taken) (c .road-with .ensures ∙ ap₂ (λ (p q : ℕ). roadWith (s .args .roads .now) (s .args .i * 20) (s .args .i * 20 + 11) (s .args .i * 20 + 4) p q) (c .before .before .before .before .turned-bit2 .ensures ∙ ap (λ b. turnBit b (getD (s .args .roads .now) (s .args .i * 20 + 11 + 4) 0)) (c .before .before .before .before .before .before .to-marked2 .ensures)) (c .before .before .before .before .before .before .before .turned-bit .ensures ∙ ap (λ b. turnBit b (getD (s .args .roads .now) (s .args .i * 20 + 4 + 4) 0)) (c .before .before .before .before .before .before .before .before .before .to-marked .ensures)))
+returns c =
+    let then1 : tie.Then1 = search in
+    let after-is : tie.After-is = search in
+    let after-turned-bit2 : tie.After-turned-bit2 = search in
+    let after-to-marked2 : tie.After-to-marked2 = search in
+    let after-turned-bit : tie.After-turned-bit = search in
+    let after-to-marked : tie.After-to-marked = search in
+    let start : tie.Start = search in
+    let i = start .args .i in let roads = start .args .roads .now in
+    if-on (eqb (getD (start .args .marks .now) i 0) 1) _ _ (sym (after-is .is .ensures) ∙ then1 .if1 .taken)
+    (c .road-with .ensures
+    ∙ ap₂ (λ (p q : ℕ). roadWith roads (i * 20) (i * 20 + 11) (i * 20 + 4) p q)
+    (after-turned-bit2 .turned-bit2 .ensures
+    ∙ ap (λ b. turnBit b (getD roads (i * 20 + 11 + 4) 0)) (after-to-marked2 .to-marked2 .ensures))
+    (after-turned-bit .turned-bit .ensures
+    ∙ ap (λ b. turnBit b (getD roads (i * 20 + 4 + 4) 0)) (after-to-marked .to-marked .ensures)))
 
 road-with-requires-2 : tie.Need-road-with-requires-2
 road-with-requires-2 c κs = search needs
 
 returns-2 : tie.Need-returns-2
 unfolding turnedRoad contactAt
-returns-2 c = let s = (c .before .before .before .before .before .before .before .before .before .before .before .before .before .before .before) in if-off (eqb (getD (s .args .marks .now) (s .args .i) 0) 1) _ _ (sym (c .before .before .is .ensures) ∙ c .before .if1 .left) (c .road-with2 .ensures ∙ ap₂ (λ (p q : ℕ). roadWith (s .args .roads .now) (s .args .i * 20) (s .args .i * 20 + 4) (s .args .i * 20 + 11) p q) (c .before .before .before .before .before .before .before .turned-bit .ensures ∙ ap (λ b. turnBit b (getD (s .args .roads .now) (s .args .i * 20 + 4 + 4) 0)) (c .before .before .before .before .before .before .before .before .before .to-marked .ensures)) (c .before .before .before .before .turned-bit2 .ensures ∙ ap (λ b. turnBit b (getD (s .args .roads .now) (s .args .i * 20 + 11 + 4) 0)) (c .before .before .before .before .before .before .to-marked2 .ensures)))
+returns-2 c =
+    let else1 : tie.Else1 = search in
+    let after-is : tie.After-is = search in
+    let after-turned-bit2 : tie.After-turned-bit2 = search in
+    let after-to-marked2 : tie.After-to-marked2 = search in
+    let after-turned-bit : tie.After-turned-bit = search in
+    let after-to-marked : tie.After-to-marked = search in
+    let start : tie.Start = search in
+    let i = start .args .i in let roads = start .args .roads .now in
+    if-off (eqb (getD (start .args .marks .now) i 0) 1) _ _ (sym (after-is .is .ensures) ∙ else1 .if1 .left)
+    (c .road-with2 .ensures
+    ∙ ap₂ (λ (p q : ℕ). roadWith roads (i * 20) (i * 20 + 4) (i * 20 + 11) p q)
+    (after-turned-bit .turned-bit .ensures
+    ∙ ap (λ b. turnBit b (getD roads (i * 20 + 4 + 4) 0)) (after-to-marked .to-marked .ensures))
+    (after-turned-bit2 .turned-bit2 .ensures
+    ∙ ap (λ b. turnBit b (getD roads (i * 20 + 11 + 4) 0)) (after-to-marked2 .to-marked2 .ensures)))
 
 pub turned-road-spec : {M : Type 1} → statement M
 turned-road-spec =

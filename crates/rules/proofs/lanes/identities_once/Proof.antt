@@ -14,10 +14,21 @@ slice-aggregate-link-ids-2 : tie.Need-slice-aggregate-link-ids-2
 slice-aggregate-link-ids-2 c = search needs
 
 link-ids-requires : tie.Need-link-ids-requires
-link-ids-requires c κs = ((omega arith, omega (arith, c .before .before .before .pre), length-replicate {A = ℕ} 16384 0, length-replicate {A = ℕ} 16384 0), λ b h. getD-replicate {A = ℕ} 16384 b 0 0 h)
+link-ids-requires c κs =
+    let start : tie.Start = search in (
+      (
+        omega arith,
+        omega (arith, start .pre),
+        length-replicate {A = ℕ} 16384 0,
+        length-replicate {A = ℕ} 16384 0,
+      ),
+      λ b h. getD-replicate {A = ℕ} 16384 b 0 0 h,
+    )
 
 returns : tie.Need-returns
-returns c = ap not (c .before .before .link-ids .ensures .0)
+returns c =
+    let after-link-ids : tie.After-link-ids = search in
+    ap not (after-link-ids .link-ids .ensures .0)
 
 pub identities-once-spec : {M : Type 1} → statement M
 identities-once-spec =

@@ -6,7 +6,10 @@ use Rattle.rules.proofs.lanes.section_known.Statement.{statement}
 use Rattle.rules.proofs.lanes.section_known.Tie as tie
 
 returns : tie.Need-returns
-returns c = listed-none (c .before .before .before .args .roads .now) (c .before .before .before .args .sections .now) (c .before .before .before .args .road) (c .before .before .before .args .section) (c .if1 .taken)
+returns c =
+    let start : tie.Start = search in
+    listed-none (start .args .roads .now) (start .args .sections .now) (start .args .road)
+    (start .args .section) (c .if1 .taken)
 
 sub-numbers : tie.Need-sub-numbers
 sub-numbers c = search needs
@@ -18,7 +21,15 @@ listed-requires : tie.Need-listed-requires
 listed-requires c κs = search needs
 
 returns-2 : tie.Need-returns-2
-returns-2 c = c .listed .ensures ∙ ap (member (c .before .before .before .before .before .args .section)) (c .before .numbers .ensures) ∙ listed-some (c .before .before .before .before .before .args .roads .now) (c .before .before .before .before .before .args .sections .now) (c .before .before .before .before .before .args .road) (c .before .before .before .before .before .args .section) (c .before .before .if1 .left)
+returns-2 c =
+    let after-numbers : tie.After-numbers = search in
+    let else1 : tie.Else1 = search in
+    let start : tie.Start = search in
+    let section = start .args .section in
+    c .listed .ensures
+    ∙ ap (member section) (after-numbers .numbers .ensures)
+    ∙ listed-some (start .args .roads .now) (start .args .sections .now) (start .args .road) section
+    (else1 .if1 .left)
 
 pub section-known-spec : {M : Type 1} → statement M
 section-known-spec =

@@ -36,7 +36,16 @@ both-requires-2 : tie.Need-both-requires-2
 both-requires-2 c κs = search needs
 
 returns : tie.Need-returns
-returns c = both-is (c .both2 .ensures) (both-is (c .before .before .both .ensures) (c .before .before .before .before .differs .ensures) (c .before .before .before .link-turns .ensures)) (c .before .link-turns2 .ensures) ∙ sym (lane-fine-words (c .before .before .before .before .before .before .before .args .lanes .now) (c .before .before .before .before .before .before .before .args .at))
+returns c =
+    let after-link-turns2 : tie.After-link-turns2 = search in
+    let after-both : tie.After-both = search in
+    let after-link-turns : tie.After-link-turns = search in
+    let after-differs : tie.After-differs = search in
+    let start : tie.Start = search in
+    both-is (c .both2 .ensures)
+    (both-is (after-both .both .ensures) (after-differs .differs .ensures)
+    (after-link-turns .link-turns .ensures)) (after-link-turns2 .link-turns2 .ensures)
+    ∙ sym (lane-fine-words (start .args .lanes .now) (start .args .at))
 
 pub lane-turns-spec : {M : Type 1} → statement M
 lane-turns-spec =

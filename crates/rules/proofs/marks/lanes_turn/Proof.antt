@@ -29,7 +29,14 @@ lane-turns-requires : tie.Need-lane-turns-requires Inv-loop μ-loop
 lane-turns-requires c κs = omega arith
 
 returns : tie.Need-returns Inv-loop μ-loop
-returns c = sym (lanes-fine-form (c .before .before .before .before .before .args .lanes .now) ∙ all-miss (length (c .before .before .before .before .before .args .lanes .now) / 10) (c .before .before .before .loop .i) (λ (i : ℕ). laneFine (laneIn (drop (i * 10) (c .before .before .before .before .before .args .lanes .now)))) (omega arith) (sym (c .before .lane-turns .ensures) ∙ not-true _ (c .if1 .taken)))
+returns c =
+    let after-lane-turns : tie.After-lane-turns Inv-loop μ-loop = search in
+    let at-loop : tie.At-loop Inv-loop μ-loop = search in
+    let start : tie.Start Inv-loop μ-loop = search in
+    let lanes = start .args .lanes .now in
+    sym (lanes-fine-form lanes
+    ∙ all-miss (length lanes / 10) (at-loop .loop .i) (λ (i : ℕ). laneFine (laneIn (drop (i * 10) lanes)))
+    (omega arith) (sym (after-lane-turns .lane-turns .ensures) ∙ not-true _ (c .if1 .taken)))
 
 add-i : tie.Need-add-i Inv-loop μ-loop
 add-i c = omega arith
@@ -38,11 +45,24 @@ loop-less : tie.Need-loop-less Inv-loop μ-loop
 loop-less c = omega arith
 
 loop-again : tie.Need-loop-again Inv-loop μ-loop
-loop-again c = (omega arith, all-step (c .before .before .before .loop .i) (λ (i : ℕ). laneFine (laneIn (drop (i * 10) (c .before .before .before .before .before .args .lanes .now)))) (c .before .before .before .loop .inv .1) (sym (c .before .lane-turns .ensures) ∙ not-false _ (c .if1 .left)))
+loop-again c =
+    let after-lane-turns : tie.After-lane-turns Inv-loop μ-loop = search in
+    let at-loop : tie.At-loop Inv-loop μ-loop = search in
+    let start : tie.Start Inv-loop μ-loop = search in (
+      omega arith,
+      all-step (at-loop .loop .i) (λ (i : ℕ). laneFine (laneIn (drop (i * 10) (start .args .lanes .now))))
+          (at-loop .loop .inv .1) (sym (after-lane-turns .lane-turns .ensures) ∙ not-false _ (c .if1 .left)),
+    )
 
 returns-2 : tie.Need-returns-2 Inv-loop μ-loop
-returns-2 c = let past : length (c .before .before .before .args .lanes .now) / 10 ≡ c .before .loop .i = omega arith in
-    sym (lanes-fine-form (c .before .before .before .args .lanes .now) ∙ ap (λ (k : ℕ). all k (λ (i : ℕ). laneFine (laneIn (drop (i * 10) (c .before .before .before .args .lanes .now))))) past ∙ c .before .loop .inv .1)
+returns-2 c =
+    let at-loop : tie.At-loop Inv-loop μ-loop = search in
+    let start : tie.Start Inv-loop μ-loop = search in
+    let lanes = start .args .lanes .now in
+    let past : length lanes / 10 ≡ at-loop .loop .i = omega arith in
+    sym (lanes-fine-form lanes
+    ∙ ap (λ (k : ℕ). all k (λ (i : ℕ). laneFine (laneIn (drop (i * 10) lanes)))) past
+    ∙ at-loop .loop .inv .1)
 
 pub lanes-turn-spec : {M : Type 1} → statement M
 lanes-turn-spec =

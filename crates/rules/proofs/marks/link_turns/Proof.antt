@@ -24,10 +24,17 @@ differs-requires : tie.Need-differs-requires
 differs-requires c κs = search needs
 
 returns : tie.Need-returns
-returns c = link-fine-on (getD (c .before .before .before .before .before .args .ws .now) (c .before .before .before .before .before .args .at) 0) (getD (c .before .before .before .before .before .args .ws .now) (c .before .before .before .before .before .args .at + 1) 0) (c .before .before .if1 .taken) (c .differs .ensures)
+returns c =
+    let then1 : tie.Then1 = search in
+    let start : tie.Start = search in
+    let ws = start .args .ws .now in let at = start .args .at in
+    link-fine-on (getD ws at 0) (getD ws (at + 1) 0) (then1 .if1 .taken) (c .differs .ensures)
 
 returns-2 : tie.Need-returns-2
-returns-2 c = link-fine-off (getD (c .before .before .before .args .ws .now) (c .before .before .before .args .at) 0) (getD (c .before .before .before .args .ws .now) (c .before .before .before .args .at + 1) 0) (c .if1 .left)
+returns-2 c =
+    let start : tie.Start = search in
+    let ws = start .args .ws .now in let at = start .args .at in
+    link-fine-off (getD ws at 0) (getD ws (at + 1) 0) (c .if1 .left)
 
 pub link-turns-spec : {M : Type 1} → statement M
 link-turns-spec =

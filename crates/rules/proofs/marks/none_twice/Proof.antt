@@ -12,7 +12,8 @@ use Rattle.rules.proofs.marks.none_twice.Statement.{statement}
 use Rattle.rules.proofs.marks.none_twice.Tie as tie
 
 abbrev Inv-loop : tie.InvT-loop
-Inv-loop text roads junctions marks heads next n i₀ i = (i ≤ n) × (all i (turnsTwice text roads junctions marks) ≡ true)
+Inv-loop text roads junctions marks heads next n i₀ i =
+    (i ≤ n) × (all i (turnsTwice text roads junctions marks) ≡ true)
 
 abbrev μ-loop : tie.MeasureT-loop
 μ-loop text roads junctions marks heads next n i₀ i = n - i
@@ -24,7 +25,9 @@ mul-is : tie.Need-mul-is Inv-loop μ-loop
 mul-is c = search needs
 
 shared-slice-read-is : tie.Need-shared-slice-read-is Inv-loop μ-loop
-shared-slice-read-is c = omega (arith, c .before .before .before .before .before .before .before .before .before .pre .0 .0)
+shared-slice-read-is c =
+    let start : tie.Start Inv-loop μ-loop = search in
+    omega (arith, start .pre .0 .0)
 
 is-requires : tie.Need-is-requires Inv-loop μ-loop
 is-requires c κs = search needs
@@ -33,14 +36,27 @@ mul-twice-named : tie.Need-mul-twice-named Inv-loop μ-loop
 mul-twice-named c = search needs
 
 twice-named-requires : tie.Need-twice-named-requires Inv-loop μ-loop
-twice-named-requires c κs = ((omega arith, c .before .before .before .before .before .before .before .before .before .before .pre .0 .1, c .before .before .before .before .before .before .before .before .before .before .pre .0 .2, c .before .before .before .before .before .before .before .before .before .before .pre .0 .3), c .before .before .before .before .before .before .before .before .before .before .pre .1)
+twice-named-requires c κs =
+    let start : tie.Start Inv-loop μ-loop = search in
+    ((omega arith, start .pre .0 .1, start .pre .0 .2, start .pre .0 .3), start .pre .1)
 
 both-requires : tie.Need-both-requires Inv-loop μ-loop
 both-requires c κs = search needs
 
 returns : tie.Need-returns Inv-loop μ-loop
 unfolding turnsTwice
-returns c = sym (all-miss (length (c .before .before .before .before .before .before .before .before .before .before .before .before .before .args .roads .now) / 20) (c .before .before .before .before .before .before .loop .i) (turnsTwice (c .before .before .before .before .before .before .before .before .before .before .before .before .before .args .text .now) (c .before .before .before .before .before .before .before .before .before .before .before .before .before .args .roads .now) (c .before .before .before .before .before .before .before .before .before .before .before .before .before .args .junctions .now) (c .before .before .before .before .before .before .before .before .before .before .before .before .before .args .marks .now)) (omega arith) (ap not (sym (both-is (c .before .both .ensures) (c .before .before .before .is .ensures) (c .before .before .twice-named .ensures)) ∙ c .if1 .taken)))
+returns c =
+    let after-both : tie.After-both Inv-loop μ-loop = search in
+    let after-twice-named : tie.After-twice-named Inv-loop μ-loop = search in
+    let after-is : tie.After-is Inv-loop μ-loop = search in
+    let at-loop : tie.At-loop Inv-loop μ-loop = search in
+    let start : tie.Start Inv-loop μ-loop = search in
+    let roads = start .args .roads .now in
+    sym (all-miss (length roads / 20) (at-loop .loop .i)
+    (turnsTwice (start .args .text .now) roads (start .args .junctions .now) (start .args .marks .now))
+    (omega arith) (ap not (sym
+    (both-is (after-both .both .ensures) (after-is .is .ensures) (after-twice-named .twice-named .ensures))
+    ∙ c .if1 .taken)))
 
 add-i : tie.Need-add-i Inv-loop μ-loop
 add-i c = omega arith
@@ -50,11 +66,31 @@ loop-less c = omega arith
 
 loop-again : tie.Need-loop-again Inv-loop μ-loop
 unfolding turnsTwice
-loop-again c = (omega arith, all-step (c .before .before .before .before .before .before .loop .i) (turnsTwice (c .before .before .before .before .before .before .before .before .before .before .before .before .before .args .text .now) (c .before .before .before .before .before .before .before .before .before .before .before .before .before .args .roads .now) (c .before .before .before .before .before .before .before .before .before .before .before .before .before .args .junctions .now) (c .before .before .before .before .before .before .before .before .before .before .before .before .before .args .marks .now)) (c .before .before .before .before .before .before .loop .inv .1) (ap not (sym (both-is (c .before .both .ensures) (c .before .before .before .is .ensures) (c .before .before .twice-named .ensures)) ∙ c .if1 .left)))
+loop-again c =
+    let after-both : tie.After-both Inv-loop μ-loop = search in
+    let after-twice-named : tie.After-twice-named Inv-loop μ-loop = search in
+    let after-is : tie.After-is Inv-loop μ-loop = search in
+    let at-loop : tie.At-loop Inv-loop μ-loop = search in
+    let start : tie.Start Inv-loop μ-loop = search in (
+      omega arith,
+      all-step (at-loop .loop .i)
+          (turnsTwice (start .args .text .now) (start .args .roads .now) (start .args .junctions .now)
+          (start .args .marks .now)) (at-loop .loop .inv .1)
+          (ap not (sym (both-is (after-both .both .ensures) (after-is .is .ensures)
+          (after-twice-named .twice-named .ensures))
+          ∙ c .if1 .left)),
+    )
 
 returns-2 : tie.Need-returns-2 Inv-loop μ-loop
-returns-2 c = let past : length (c .before .before .before .before .before .before .before .before .args .roads .now) / 20 ≡ c .before .loop .i = omega arith in
-    sym (ap (λ (k : ℕ). all k (turnsTwice (c .before .before .before .before .before .before .before .before .args .text .now) (c .before .before .before .before .before .before .before .before .args .roads .now) (c .before .before .before .before .before .before .before .before .args .junctions .now) (c .before .before .before .before .before .before .before .before .args .marks .now))) past ∙ c .before .loop .inv .1)
+returns-2 c =
+    let at-loop : tie.At-loop Inv-loop μ-loop = search in
+    let start : tie.Start Inv-loop μ-loop = search in
+    let roads = start .args .roads .now in
+    let past : length roads / 20 ≡ at-loop .loop .i = omega arith in
+    sym (ap (λ (k : ℕ).
+    all k (turnsTwice (start .args .text .now) roads (start .args .junctions .now) (start .args .marks .now)))
+    past
+    ∙ at-loop .loop .inv .1)
 
 pub none-twice-spec : {M : Type 1} → statement M
 none-twice-spec =

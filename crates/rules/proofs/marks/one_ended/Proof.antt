@@ -15,7 +15,18 @@ slice-aggregate-link-names-2 : tie.Need-slice-aggregate-link-names-2
 slice-aggregate-link-names-2 c = search needs
 
 link-names-requires : tie.Need-link-names-requires
-link-names-requires c κs = ((omega arith, omega arith, rows-in (length (c .before .before .before .before .before .before .args .junctions .now)) 5, c .before .before .before .before .before .before .pre .1, length-replicate {A = ℕ} 16384 0, length-replicate {A = ℕ} 16384 0), λ b h. getD-replicate {A = ℕ} 16384 b 0 0 h)
+link-names-requires c κs =
+    let start : tie.Start = search in (
+      (
+        omega arith,
+        omega arith,
+        rows-in (length (start .args .junctions .now)) 5,
+        start .pre .1,
+        length-replicate {A = ℕ} 16384 0,
+        length-replicate {A = ℕ} 16384 0,
+      ),
+      λ b h. getD-replicate {A = ℕ} 16384 b 0 0 h,
+    )
 
 slice-aggregate-none-twice : tie.Need-slice-aggregate-none-twice
 slice-aggregate-none-twice c = search needs
@@ -24,7 +35,17 @@ slice-aggregate-none-twice-2 : tie.Need-slice-aggregate-none-twice-2
 slice-aggregate-none-twice-2 c = search needs
 
 none-twice-requires : tie.Need-none-twice-requires
-none-twice-requires c κs = ((c .before .before .before .before .before .before .before .before .before .before .before .pre .0, c .before .before .before .before .before .before .before .before .before .before .before .pre .1, c .before .before .before .before .link-names .kept .1 .1 .1 .1 .1 .0 ∙ length-replicate {A = ℕ} 16384 0, c .before .before .before .before .link-names .kept .1 .1 .1 .1 .1 .1 .0 ∙ length-replicate {A = ℕ} 16384 0), c .before .before .before .before .link-names .ensures .1)
+none-twice-requires c κs =
+    let after-link-names : tie.After-link-names = search in
+    let start : tie.Start = search in (
+      (
+        start .pre .0,
+        start .pre .1,
+        after-link-names .link-names .kept .1 .1 .1 .1 .1 .0 ∙ length-replicate {A = ℕ} 16384 0,
+        after-link-names .link-names .kept .1 .1 .1 .1 .1 .1 .0 ∙ length-replicate {A = ℕ} 16384 0,
+      ),
+      after-link-names .link-names .ensures .1,
+    )
 
 returns : tie.Need-returns
 returns c = search needs

@@ -30,7 +30,12 @@ both-requires : tie.Need-both-requires
 both-requires c κs = search needs
 
 returns : tie.Need-returns
-returns c = both-is (c .both .ensures) (c .before .before .before .differs .ensures) (c .before .differs2 .ensures) ∙ sym (pair-fine-words (c .before .before .before .before .before .before .args .pairs .now) (c .before .before .before .before .before .before .args .at))
+returns c =
+    let after-differs2 : tie.After-differs2 = search in
+    let after-differs : tie.After-differs = search in
+    let start : tie.Start = search in
+    both-is (c .both .ensures) (after-differs .differs .ensures) (after-differs2 .differs2 .ensures)
+    ∙ sym (pair-fine-words (start .args .pairs .now) (start .args .at))
 
 pub pair-turns-spec : {M : Type 1} → statement M
 pair-turns-spec =

@@ -29,7 +29,14 @@ pair-turns-requires : tie.Need-pair-turns-requires Inv-loop μ-loop
 pair-turns-requires c κs = omega arith
 
 returns : tie.Need-returns Inv-loop μ-loop
-returns c = sym (pairs-fine-form (c .before .before .before .before .before .args .pairs .now) ∙ all-miss (length (c .before .before .before .before .before .args .pairs .now) / 2) (c .before .before .before .loop .i) (λ (i : ℕ). pairFine (pairIn (drop (i * 2) (c .before .before .before .before .before .args .pairs .now)))) (omega arith) (sym (c .before .pair-turns .ensures) ∙ not-true _ (c .if1 .taken)))
+returns c =
+    let after-pair-turns : tie.After-pair-turns Inv-loop μ-loop = search in
+    let at-loop : tie.At-loop Inv-loop μ-loop = search in
+    let start : tie.Start Inv-loop μ-loop = search in
+    let pairs = start .args .pairs .now in
+    sym (pairs-fine-form pairs
+    ∙ all-miss (length pairs / 2) (at-loop .loop .i) (λ (i : ℕ). pairFine (pairIn (drop (i * 2) pairs)))
+    (omega arith) (sym (after-pair-turns .pair-turns .ensures) ∙ not-true _ (c .if1 .taken)))
 
 add-i : tie.Need-add-i Inv-loop μ-loop
 add-i c = omega arith
@@ -38,11 +45,24 @@ loop-less : tie.Need-loop-less Inv-loop μ-loop
 loop-less c = omega arith
 
 loop-again : tie.Need-loop-again Inv-loop μ-loop
-loop-again c = (omega arith, all-step (c .before .before .before .loop .i) (λ (i : ℕ). pairFine (pairIn (drop (i * 2) (c .before .before .before .before .before .args .pairs .now)))) (c .before .before .before .loop .inv .1) (sym (c .before .pair-turns .ensures) ∙ not-false _ (c .if1 .left)))
+loop-again c =
+    let after-pair-turns : tie.After-pair-turns Inv-loop μ-loop = search in
+    let at-loop : tie.At-loop Inv-loop μ-loop = search in
+    let start : tie.Start Inv-loop μ-loop = search in (
+      omega arith,
+      all-step (at-loop .loop .i) (λ (i : ℕ). pairFine (pairIn (drop (i * 2) (start .args .pairs .now))))
+          (at-loop .loop .inv .1) (sym (after-pair-turns .pair-turns .ensures) ∙ not-false _ (c .if1 .left)),
+    )
 
 returns-2 : tie.Need-returns-2 Inv-loop μ-loop
-returns-2 c = let past : length (c .before .before .before .args .pairs .now) / 2 ≡ c .before .loop .i = omega arith in
-    sym (pairs-fine-form (c .before .before .before .args .pairs .now) ∙ ap (λ (k : ℕ). all k (λ (i : ℕ). pairFine (pairIn (drop (i * 2) (c .before .before .before .args .pairs .now))))) past ∙ c .before .loop .inv .1)
+returns-2 c =
+    let at-loop : tie.At-loop Inv-loop μ-loop = search in
+    let start : tie.Start Inv-loop μ-loop = search in
+    let pairs = start .args .pairs .now in
+    let past : length pairs / 2 ≡ at-loop .loop .i = omega arith in
+    sym (pairs-fine-form pairs
+    ∙ ap (λ (k : ℕ). all k (λ (i : ℕ). pairFine (pairIn (drop (i * 2) pairs)))) past
+    ∙ at-loop .loop .inv .1)
 
 pub pairs-turn-spec : {M : Type 1} → statement M
 pairs-turn-spec =

@@ -28,7 +28,10 @@ both-requires : tie.Need-both-requires
 both-requires c κs = search needs
 
 returns : tie.Need-returns
-returns c = both-is (c .both .ensures) (c .before .before .before .is .ensures) (c .before .is2 .ensures)
+returns c =
+    let after-is2 : tie.After-is2 = search in
+    let after-is : tie.After-is = search in
+    both-is (c .both .ensures) (after-is .is .ensures) (after-is2 .is2 .ensures)
 
 pub to-junction-spec : {M : Type 1} → statement M
 to-junction-spec =

@@ -54,7 +54,20 @@ both-requires-2 : tie.Need-both-requires-2
 both-requires-2 c κs = search needs
 
 find-direct-requires : tie.Need-find-direct-requires
-find-direct-requires c κs = ((rows-in (length (c .before .before .before .before .before .before .before .before .before .before .before .before .args .junctions .now)) 5, c .before .before .before .before .before .before .before .before .before .before .before .before .pre .0 .1, c .before .before .before .before .before .before .before .before .before .before .before .before .pre .0 .2, omega (arith, c .before .before .before .before .before .before .before .before .before .before .before .before .pre .0 .1, c .before .before .before .before .before .before .before .before .before .before .before .before .pre .0 .3), c .before .before .before .before .before .before .word .ensures .1, c .before .before .before .before .before .word2 .ensures .1), c .before .before .before .before .before .before .before .before .before .before .before .before .pre .1)
+find-direct-requires c κs =
+    let after-word2 : tie.After-word2 = search in
+    let after-word : tie.After-word = search in
+    let start : tie.Start = search in (
+      (
+        rows-in (length (start .args .junctions .now)) 5,
+        start .pre .0 .1,
+        start .pre .0 .2,
+        omega (arith, start .pre .0 .1, start .pre .0 .3),
+        after-word .word .ensures .1,
+        after-word2 .word2 .ensures .1,
+      ),
+      start .pre .1,
+    )
 
 found-requires : tie.Need-found-requires
 found-requires c κs = search needs
@@ -64,11 +77,35 @@ both-requires-3 c κs = search needs
 
 returns : tie.Need-returns
 unfolding twiceFrom
-returns c = let p = isDirectOf (c .before .before .before .before .before .before .before .before .before .before .before .before .before .before .before .args .text .now) (c .before .before .before .before .before .before .before .before .before .before .before .before .before .before .before .args .junctions .now) in
-    let n = length (c .before .before .before .before .before .before .before .before .before .before .before .before .before .before .before .args .junctions .now) / 5 in
-    let f : c .before .before .find-direct .result ≡ lastOf n (p (nameFrom (c .before .before .before .before .before .before .before .before .before .before .before .before .before .before .before .args .roads .now) (c .before .before .before .before .before .before .before .before .before .before .before .before .before .before .before .args .at + 6))) = c .before .before .find-direct .ensures ∙ ap₂ (λ (s n : ℕ). lastOf (length (c .before .before .before .before .before .before .before .before .before .before .before .before .before .before .before .args .junctions .now) / 5) (isDirectOf (c .before .before .before .before .before .before .before .before .before .before .before .before .before .before .before .args .text .now) (c .before .before .before .before .before .before .before .before .before .before .before .before .before .before .before .args .junctions .now) (span s n))) (c .before .before .before .before .before .before .before .before .before .word .ensures .0) (c .before .before .before .before .before .before .before .before .word2 .ensures .0) in
-    both-is (c .both3 .ensures) (both-is (c .before .before .before .both2 .ensures) (both-is (c .before .before .before .before .before .both .ensures) (c .before .before .before .before .before .before .before .to-junction .ensures) (c .before .before .before .before .before .before .to-junction2 .ensures)) (c .before .before .before .before .named .ensures ∙ ap₂ (λ (s n : ℕ). sameIn (c .before .before .before .before .before .before .before .before .before .before .before .before .before .before .before .args .text .now) (nameFrom (c .before .before .before .before .before .before .before .before .before .before .before .before .before .before .before .args .roads .now) (c .before .before .before .before .before .before .before .before .before .before .before .before .before .before .before .args .at + 13)) (span s n)) (c .before .before .before .before .before .before .before .before .before .word .ensures .0) (c .before .before .before .before .before .before .before .before .word2 .ensures .0)))
-    (c .before .found .ensures ∙ ap (λ (k : ℕ). not (eqb k 0)) f ∙ sym (any-is n (p (nameFrom (c .before .before .before .before .before .before .before .before .before .before .before .before .before .before .before .args .roads .now) (c .before .before .before .before .before .before .before .before .before .before .before .before .before .before .before .args .at + 6)))))
+returns c =
+    let after-found : tie.After-found = search in
+    let after-find-direct : tie.After-find-direct = search in
+    let after-both2 : tie.After-both2 = search in
+    let after-named : tie.After-named = search in
+    let after-both : tie.After-both = search in
+    let after-to-junction2 : tie.After-to-junction2 = search in
+    let after-to-junction : tie.After-to-junction = search in
+    let after-word2 : tie.After-word2 = search in
+    let after-word : tie.After-word = search in
+    let start = after-word .before .before .before .before .before .before in
+    let text = start .args .text .now in let junctions = start .args .junctions .now in
+    let roads = start .args .roads .now in let at = start .args .at in
+    let p = isDirectOf text junctions in
+    let n = length junctions / 5 in
+    let f : after-find-direct .find-direct .result ≡ lastOf n (p (nameFrom roads (at + 6))) =
+    after-find-direct .find-direct .ensures
+    ∙ ap₂ (λ (s n : ℕ). lastOf (length junctions / 5) (isDirectOf text junctions (span s n)))
+    (after-word .word .ensures .0) (after-word2 .word2 .ensures .0) in
+    both-is (c .both3 .ensures)
+    (both-is (after-both2 .both2 .ensures)
+    (both-is (after-both .both .ensures) (after-to-junction .to-junction .ensures)
+    (after-to-junction2 .to-junction2 .ensures))
+    (after-named .named .ensures
+    ∙ ap₂ (λ (s n : ℕ). sameIn text (nameFrom roads (at + 13)) (span s n)) (after-word .word .ensures .0)
+    (after-word2 .word2 .ensures .0)))
+    (after-found .found .ensures
+    ∙ ap (λ (k : ℕ). not (eqb k 0)) f
+    ∙ sym (any-is n (p (nameFrom roads (at + 6)))))
 
 pub twice-named-spec : {M : Type 1} → statement M
 twice-named-spec =

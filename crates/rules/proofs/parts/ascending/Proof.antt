@@ -37,7 +37,10 @@ shared-slice-read-if1-2 : tie.Need-shared-slice-read-if1-2 Inv-loop μ-loop
 shared-slice-read-if1-2 c = omega arith
 
 returns : tie.Need-returns Inv-loop μ-loop
-returns c = sym (ascend-off (c .before .before .before .before .before .args .part .now) (c .before .before .before .before .loop .k) (omega arith) (c .if1 .taken))
+returns c =
+    let at-loop : tie.At-loop Inv-loop μ-loop = search in
+    let start : tie.Start Inv-loop μ-loop = search in
+    sym (ascend-off (start .args .part .now) (at-loop .loop .k) (omega arith) (c .if1 .taken))
 
 add-k : tie.Need-add-k Inv-loop μ-loop
 add-k c = omega arith
@@ -46,10 +49,16 @@ loop-less : tie.Need-loop-less Inv-loop μ-loop
 loop-less c = omega arith
 
 loop-again : tie.Need-loop-again Inv-loop μ-loop
-loop-again c = (omega arith, below-more _ _ (c .before .before .before .before .loop .inv .1) (c .if1 .left))
+loop-again c =
+    let at-loop : tie.At-loop Inv-loop μ-loop = search in
+    (omega arith, below-more _ _ (at-loop .loop .inv .1) (c .if1 .left))
 
 returns-2 : tie.Need-returns-2 Inv-loop μ-loop
-returns-2 c = sym (ascend-on (c .before .before .args .part .now) (λ k h. c .before .loop .inv .1 k (omega (arith, c .loop-test .left))))
+returns-2 c =
+    let at-loop : tie.At-loop Inv-loop μ-loop = search in
+    let start : tie.Start Inv-loop μ-loop = search in
+    sym
+    (ascend-on (start .args .part .now) (λ k h. at-loop .loop .inv .1 k (omega (arith, c .loop-test .left))))
 
 pub ascending-spec : {M : Type 1} → statement M
 ascending-spec =

@@ -15,7 +15,10 @@ both-requires c κs = search needs
 
 returns : tie.Need-returns
 unfolding connectionPartsFit pairPartsFit
-returns c = both-is (c .both .ensures) (c .before .before .parts-fit .ensures) (c .before .parts-fit2 .ensures)
+returns c =
+    let after-parts-fit2 : tie.After-parts-fit2 = search in
+    let after-parts-fit : tie.After-parts-fit = search in
+    both-is (c .both .ensures) (after-parts-fit .parts-fit .ensures) (after-parts-fit2 .parts-fit2 .ensures)
 
 pub connections-fit-spec : {M : Type 1} → statement M
 connections-fit-spec =

@@ -28,7 +28,12 @@ shared-slice-read-if1 : tie.Need-shared-slice-read-if1 Inv-loop μ-loop
 shared-slice-read-if1 c = omega arith
 
 returns : tie.Need-returns Inv-loop μ-loop
-returns c = sym (c .before .before .before .loop .inv ∙ member-step (c .before .before .before .before .args .number) (c .before .before .before .before .args .part .now) (c .before .before .before .loop .k) (omega arith) ∙ or-left _ _ (eq-eqb _ _ (sym (c .if1 .taken))))
+returns c =
+    let at-loop : tie.At-loop Inv-loop μ-loop = search in
+    let start : tie.Start Inv-loop μ-loop = search in
+    sym (at-loop .loop .inv
+    ∙ member-step (start .args .number) (start .args .part .now) (at-loop .loop .k) (omega arith)
+    ∙ or-left _ _ (eq-eqb _ _ (sym (c .if1 .taken))))
 
 add-k : tie.Need-add-k Inv-loop μ-loop
 add-k c = omega arith
@@ -37,10 +42,20 @@ loop-less : tie.Need-loop-less Inv-loop μ-loop
 loop-less c = omega arith
 
 loop-again : tie.Need-loop-again Inv-loop μ-loop
-loop-again c = c .before .before .before .loop .inv ∙ member-step (c .before .before .before .before .args .number) (c .before .before .before .before .args .part .now) (c .before .before .before .loop .k) (omega arith) ∙ ap (λ b. b || member (c .before .before .before .before .args .number) (drop (c .before .before .before .loop .k + 1) (c .before .before .before .before .args .part .now))) (ne-eqb _ _ (λ e. c .if1 .left (sym e)))
+loop-again c =
+    let at-loop : tie.At-loop Inv-loop μ-loop = search in
+    let start : tie.Start Inv-loop μ-loop = search in
+    let number = start .args .number in let part = start .args .part .now in
+    at-loop .loop .inv
+    ∙ member-step number part (at-loop .loop .k) (omega arith)
+    ∙ ap (λ b. b || member number (drop (at-loop .loop .k + 1) part)) (ne-eqb _ _ (λ e. c .if1 .left (sym e)))
 
 returns-2 : tie.Need-returns-2 Inv-loop μ-loop
-returns-2 c = sym (c .before .loop .inv ∙ member-end (c .before .before .args .number) (c .before .before .args .part .now) (c .before .loop .k) (omega arith))
+returns-2 c =
+    let at-loop : tie.At-loop Inv-loop μ-loop = search in
+    let start : tie.Start Inv-loop μ-loop = search in
+    sym (at-loop .loop .inv
+    ∙ member-end (start .args .number) (start .args .part .now) (at-loop .loop .k) (omega arith))
 
 pub listed-spec : {M : Type 1} → statement M
 listed-spec =

@@ -38,11 +38,23 @@ part-result-start : tie.Need-part-result-start
 part-result-start c = search needs
 
 part-result-end : tie.Need-part-result-end
-part-result-end c = omega (arith, part-in 20 18 19 (length (c .before .before .before .before .args .sections .now)) (c .before .before .before .before .args .roads .now) (omega arith) (omega arith) (c .before .before .before .before .pre .0) (c .before .before .before .before .args .r) (c .before .before .before .before .pre .1), c .before .word .ensures .0, c .word2 .ensures .0)
+part-result-end c =
+    let after-word : tie.After-word = search in
+    let start : tie.Start = search in
+    omega (
+      arith,
+      part-in 20 18 19 (length (start .args .sections .now)) (start .args .roads .now) (omega arith)
+          (omega arith) (start .pre .0) (start .args .r) (start .pre .1),
+      after-word .word .ensures .0,
+      c .word2 .ensures .0,
+    )
 
 returns : tie.Need-returns
-returns c = let at = c .before .before .word in
-    let n = c .before .word2 in
+returns c =
+    let after-word2 : tie.After-word2 = search in
+    let after-word : tie.After-word = search in
+    let at = after-word .word in
+    let n = after-word2 .word2 in
     let e : at .result + n .result - at .result ≡ n .result = omega arith in
     rw (e, at .ensures .0, n .ensures .0)
 

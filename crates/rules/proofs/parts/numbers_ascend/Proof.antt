@@ -13,7 +13,9 @@ use Rattle.rules.proofs.parts.numbers_ascend.Statement.{statement}
 use Rattle.rules.proofs.parts.numbers_ascend.Tie as tie
 
 abbrev Inv-loop : tie.InvT-loop
-Inv-loop roads sections n i₀ i = (i ≤ n) × (all i (λ j. ascends (part (getD roads (j * 20 + 18) 0) (getD roads (j * 20 + 19) 0) sections)) ≡ true)
+Inv-loop roads sections n i₀ i =
+    (i ≤ n)
+    × (all i (λ j. ascends (part (getD roads (j * 20 + 18) 0) (getD roads (j * 20 + 19) 0) sections)) ≡ true)
 
 abbrev μ-loop : tie.MeasureT-loop
 μ-loop roads sections n i₀ i = n - i
@@ -22,15 +24,26 @@ loop-holds : tie.Need-loop-holds Inv-loop μ-loop
 loop-holds c = (omega arith, all-none _)
 
 numbers-requires : tie.Need-numbers-requires Inv-loop μ-loop
-numbers-requires c κs = (c .before .before .before .before .pre, omega arith)
+numbers-requires c κs =
+    let start : tie.Start Inv-loop μ-loop = search in
+    (start .pre, omega arith)
 
 ascending-requires : tie.Need-ascending-requires Inv-loop μ-loop
 ascending-requires c κs = search needs
 
 returns : tie.Need-returns Inv-loop μ-loop
-returns c = let s = c .before .before .before .before .before .before .before in
-    let l = c .before .before .before .before .loop in
-    sym (all-miss (length (s .args .roads .now) / 20) (l .i) (λ (i : ℕ). ascends (part (getD (s .args .roads .now) (i * 20 + 18) 0) (getD (s .args .roads .now) (i * 20 + 19) 0) (s .args .sections .now))) (omega arith) (sym (c .before .ascending .ensures ∙ ap ascends (c .before .before .numbers .ensures)) ∙ not-true _ (c .if1 .taken)))
+returns c =
+    let after-ascending : tie.After-ascending Inv-loop μ-loop = search in
+    let after-numbers : tie.After-numbers Inv-loop μ-loop = search in
+    let at-loop : tie.At-loop Inv-loop μ-loop = search in
+    let start : tie.Start Inv-loop μ-loop = search in
+    let roads = start .args .roads .now in
+    let l = at-loop .loop in
+    sym (all-miss (length roads / 20) (l .i)
+    (λ (i : ℕ).
+    ascends (part (getD roads (i * 20 + 18) 0) (getD roads (i * 20 + 19) 0) (start .args .sections .now)))
+    (omega arith) (sym (after-ascending .ascending .ensures ∙ ap ascends (after-numbers .numbers .ensures))
+    ∙ not-true _ (c .if1 .taken)))
 
 add-i : tie.Need-add-i Inv-loop μ-loop
 add-i c = omega arith
@@ -39,15 +52,32 @@ loop-less : tie.Need-loop-less Inv-loop μ-loop
 loop-less c = omega arith
 
 loop-again : tie.Need-loop-again Inv-loop μ-loop
-loop-again c = let s = c .before .before .before .before .before .before .before in
-    let l = c .before .before .before .before .loop in
-    (omega arith, all-step (l .i) (λ (i : ℕ). ascends (part (getD (s .args .roads .now) (i * 20 + 18) 0) (getD (s .args .roads .now) (i * 20 + 19) 0) (s .args .sections .now))) (l .inv .1) (sym (c .before .ascending .ensures ∙ ap ascends (c .before .before .numbers .ensures)) ∙ not-false _ (c .if1 .left)))
+loop-again c =
+    let after-ascending : tie.After-ascending Inv-loop μ-loop = search in
+    let after-numbers : tie.After-numbers Inv-loop μ-loop = search in
+    let at-loop : tie.At-loop Inv-loop μ-loop = search in
+    let start : tie.Start Inv-loop μ-loop = search in
+    let roads = start .args .roads .now in
+    let l = at-loop .loop in (
+      omega arith,
+      all-step (l .i) (λ (i : ℕ).
+          ascends (part (getD roads (i * 20 + 18) 0) (getD roads (i * 20 + 19) 0) (start .args .sections .now)))
+          (l .inv .1) (sym (after-ascending .ascending .ensures ∙ ap ascends (after-numbers .numbers .ensures))
+          ∙ not-false _ (c .if1 .left)),
+    )
 
 returns-2 : tie.Need-returns-2 Inv-loop μ-loop
-returns-2 c = let s = c .before .before .before .before in
-    let l = c .before .loop in
-    let past : length (s .args .roads .now) / 20 ≡ l .i = omega arith in
-    sym (ap (λ (k : ℕ). all k (λ (i : ℕ). ascends (part (getD (s .args .roads .now) (i * 20 + 18) 0) (getD (s .args .roads .now) (i * 20 + 19) 0) (s .args .sections .now)))) past ∙ l .inv .1)
+returns-2 c =
+    let at-loop : tie.At-loop Inv-loop μ-loop = search in
+    let start : tie.Start Inv-loop μ-loop = search in
+    let roads = start .args .roads .now in
+    let l = at-loop .loop in
+    let past : length roads / 20 ≡ l .i = omega arith in
+    sym (ap (λ (k : ℕ).
+    all k (λ (i : ℕ).
+    ascends (part (getD roads (i * 20 + 18) 0) (getD roads (i * 20 + 19) 0) (start .args .sections .now))))
+    past
+    ∙ l .inv .1)
 
 pub numbers-ascend-spec : {M : Type 1} → statement M
 numbers-ascend-spec =

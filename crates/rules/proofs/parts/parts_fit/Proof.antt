@@ -12,7 +12,8 @@ use Rattle.rules.proofs.parts.parts_fit.Statement.{statement}
 use Rattle.rules.proofs.parts.parts_fit.Tie as tie
 
 abbrev Inv-loop : tie.InvT-loop
-Inv-loop ws w kf kc n rows at₀ i₀ at i = (i ≤ rows) × (at ≤ n) × (partsFit kf kc 0 n (table w ws) ≡ partsFit kf kc at n (drop i (table w ws)))
+Inv-loop ws w kf kc n rows at₀ i₀ at i =
+    (i ≤ rows) × (at ≤ n) × (partsFit kf kc 0 n (table w ws) ≡ partsFit kf kc at n (drop i (table w ws)))
 
 abbrev μ-loop : tie.MeasureT-loop
 μ-loop ws w kf kc n rows at₀ i₀ at i = rows - i
@@ -24,52 +25,132 @@ loop-holds : tie.Need-loop-holds Inv-loop μ-loop
 loop-holds c = (omega arith, omega arith, refl)
 
 mul-word : tie.Need-mul-word Inv-loop μ-loop
-mul-word c = omega (arith, in-row (length (c .before .before .before .args .ws .now)) (c .before .before .before .args .w) (c .before .loop .i) (c .before .before .before .args .kf) (c .loop-test .taken) (c .before .before .before .pre .2))
+mul-word c =
+    let at-loop : tie.At-loop Inv-loop μ-loop = search in
+    let start : tie.Start Inv-loop μ-loop = search in
+    omega (
+      arith,
+      in-row (length (start .args .ws .now)) (start .args .w) (at-loop .loop .i) (start .args .kf)
+          (c .loop-test .taken) (start .pre .2),
+    )
 
 add-word : tie.Need-add-word Inv-loop μ-loop
-add-word c = omega (arith, in-row (length (c .before .before .before .args .ws .now)) (c .before .before .before .args .w) (c .before .loop .i) (c .before .before .before .args .kf) (c .loop-test .taken) (c .before .before .before .pre .2))
+add-word c =
+    let at-loop : tie.At-loop Inv-loop μ-loop = search in
+    let start : tie.Start Inv-loop μ-loop = search in
+    omega (
+      arith,
+      in-row (length (start .args .ws .now)) (start .args .w) (at-loop .loop .i) (start .args .kf)
+          (c .loop-test .taken) (start .pre .2),
+    )
 
 word-requires : tie.Need-word-requires Inv-loop μ-loop
-word-requires c κs = in-row (length (c .before .before .before .args .ws .now)) (c .before .before .before .args .w) (c .before .loop .i) (c .before .before .before .args .kf) (c .loop-test .taken) (c .before .before .before .pre .2)
+word-requires c κs =
+    let at-loop : tie.At-loop Inv-loop μ-loop = search in
+    let start : tie.Start Inv-loop μ-loop = search in
+    in-row (length (start .args .ws .now)) (start .args .w) (at-loop .loop .i) (start .args .kf)
+    (c .loop-test .taken) (start .pre .2)
 
 mul-word-2 : tie.Need-mul-word-2 Inv-loop μ-loop
-mul-word-2 c = omega (arith, in-row (length (c .before .before .before .before .args .ws .now)) (c .before .before .before .before .args .w) (c .before .before .loop .i) (c .before .before .before .before .args .kc) (c .before .loop-test .taken) (c .before .before .before .before .pre .3))
+mul-word-2 c =
+    let in-loop : tie.In-loop Inv-loop μ-loop = search in
+    let at-loop : tie.At-loop Inv-loop μ-loop = search in
+    let start : tie.Start Inv-loop μ-loop = search in
+    omega (
+      arith,
+      in-row (length (start .args .ws .now)) (start .args .w) (at-loop .loop .i) (start .args .kc)
+          (in-loop .loop-test .taken) (start .pre .3),
+    )
 
 add-word-2 : tie.Need-add-word-2 Inv-loop μ-loop
-add-word-2 c = omega (arith, in-row (length (c .before .before .before .before .args .ws .now)) (c .before .before .before .before .args .w) (c .before .before .loop .i) (c .before .before .before .before .args .kc) (c .before .loop-test .taken) (c .before .before .before .before .pre .3))
+add-word-2 c =
+    let in-loop : tie.In-loop Inv-loop μ-loop = search in
+    let at-loop : tie.At-loop Inv-loop μ-loop = search in
+    let start : tie.Start Inv-loop μ-loop = search in
+    omega (
+      arith,
+      in-row (length (start .args .ws .now)) (start .args .w) (at-loop .loop .i) (start .args .kc)
+          (in-loop .loop-test .taken) (start .pre .3),
+    )
 
 word-requires-2 : tie.Need-word-requires-2 Inv-loop μ-loop
-word-requires-2 c κs = in-row (length (c .before .before .before .before .args .ws .now)) (c .before .before .before .before .args .w) (c .before .before .loop .i) (c .before .before .before .before .args .kc) (c .before .loop-test .taken) (c .before .before .before .before .pre .3)
+word-requires-2 c κs =
+    let in-loop : tie.In-loop Inv-loop μ-loop = search in
+    let at-loop : tie.At-loop Inv-loop μ-loop = search in
+    let start : tie.Start Inv-loop μ-loop = search in
+    in-row (length (start .args .ws .now)) (start .args .w) (at-loop .loop .i) (start .args .kc)
+    (in-loop .loop-test .taken) (start .pre .3)
 
 returns : tie.Need-returns Inv-loop μ-loop
-returns c = sym (c .before .before .before .before .loop .inv .2 ∙ fit-step (c .before .before .before .before .before .before .args .w) (c .before .before .before .before .before .before .args .kf) (c .before .before .before .before .before .before .args .kc) (c .before .before .before .before .before .before .args .n) (c .before .before .before .before .before .before .args .ws .now) (c .before .before .before .before .before .before .pre .2) (c .before .before .before .before .before .before .pre .3) (c .before .before .before .before .loop .at) (c .before .before .before .before .loop .i) (c .before .before .before .loop-test .taken) ∙ and-off-left _ _ (ne-eqb _ _ (λ e. c .if1 .taken (c .before .before .word .ensures .0 ∙ e))))
+returns c =
+    let after-word : tie.After-word Inv-loop μ-loop = search in
+    let in-loop : tie.In-loop Inv-loop μ-loop = search in
+    let at-loop : tie.At-loop Inv-loop μ-loop = search in
+    let start : tie.Start Inv-loop μ-loop = search in
+    sym (at-loop .loop .inv .2
+    ∙ fit-step (start .args .w) (start .args .kf) (start .args .kc) (start .args .n) (start .args .ws .now)
+    (start .pre .2) (start .pre .3) (at-loop .loop .at) (at-loop .loop .i) (in-loop .loop-test .taken)
+    ∙ and-off-left _ _ (ne-eqb _ _ (λ e. c .if1 .taken (after-word .word .ensures .0 ∙ e))))
 
 sub-if2 : tie.Need-sub-if2 Inv-loop μ-loop
 sub-if2 c = omega arith
 
 returns-2 : tie.Need-returns-2 Inv-loop μ-loop
-returns-2 c = let e = c .before .before .word2 .ensures .0 in
-    let s = c .before .before .before .before .before .before .before in
-    let l = c .before .before .before .before .before .loop in
-    sym (l .inv .2 ∙ fit-step (c .before .before .before .before .before .before .before .args .w) (c .before .before .before .before .before .before .before .args .kf) (c .before .before .before .before .before .before .before .args .kc) (c .before .before .before .before .before .before .before .args .n) (c .before .before .before .before .before .before .before .args .ws .now) (c .before .before .before .before .before .before .before .pre .2) (c .before .before .before .before .before .before .before .pre .3) (c .before .before .before .before .before .loop .at) (c .before .before .before .before .before .loop .i) (c .before .before .before .before .loop-test .taken) ∙ and-off (eqb (getD (s .args .ws .now) (l .i * s .args .w + s .args .kf) 0) (l .at)) _ (fit-over (s .args .kf) (s .args .kc) (l .at + getD (s .args .ws .now) (l .i * s .args .w + s .args .kc) 0) (s .args .n) (drop (l .i + 1) (table (s .args .w) (s .args .ws .now))) (omega (arith, e, c .if2 .taken, l .inv .1))))
+returns-2 c =
+    let after-word2 : tie.After-word2 Inv-loop μ-loop = search in
+    let in-loop : tie.In-loop Inv-loop μ-loop = search in
+    let at-loop : tie.At-loop Inv-loop μ-loop = search in
+    let start : tie.Start Inv-loop μ-loop = search in
+    let w = start .args .w in let kf = start .args .kf in let kc = start .args .kc in let n = start .args .n in
+    let ws = start .args .ws .now in
+    let e = after-word2 .word2 .ensures .0 in
+    let l = at-loop .loop in
+    sym (l .inv .2
+    ∙ fit-step w kf kc n ws (start .pre .2) (start .pre .3) (at-loop .loop .at) (at-loop .loop .i)
+    (in-loop .loop-test .taken)
+    ∙ and-off (eqb (getD ws (l .i * w + kf) 0) (l .at)) _
+    (fit-over kf kc (l .at + getD ws (l .i * w + kc) 0) n (drop (l .i + 1) (table w ws))
+    (omega (arith, e, c .if2 .taken, l .inv .1))))
 
 add-at : tie.Need-add-at Inv-loop μ-loop
 add-at c = omega arith
 
 add-i : tie.Need-add-i Inv-loop μ-loop
-add-i c = omega (arith, div-le-self (length (c .before .before .before .before .before .before .before .args .ws .now)) (c .before .before .before .before .before .before .before .args .w))
+add-i c =
+    let start : tie.Start Inv-loop μ-loop = search in
+    omega (arith, div-le-self (length (start .args .ws .now)) (start .args .w))
 
 loop-less : tie.Need-loop-less Inv-loop μ-loop
 loop-less c = omega arith
 
 loop-again : tie.Need-loop-again Inv-loop μ-loop
-loop-again c = let e = c .before .before .word2 .ensures .0 in
-    let s = c .before .before .before .before .before .before .before in
-    let l = c .before .before .before .before .before .loop in
-    (omega arith, omega (arith, c .if2 .left, l .inv .1), l .inv .2 ∙ fit-step (c .before .before .before .before .before .before .before .args .w) (c .before .before .before .before .before .before .before .args .kf) (c .before .before .before .before .before .before .before .args .kc) (c .before .before .before .before .before .before .before .args .n) (c .before .before .before .before .before .before .before .args .ws .now) (c .before .before .before .before .before .before .before .pre .2) (c .before .before .before .before .before .before .before .pre .3) (c .before .before .before .before .before .loop .at) (c .before .before .before .before .before .loop .i) (c .before .before .before .before .loop-test .taken) ∙ and-on _ _ (eq-eqb _ _ (sym (c .before .before .before .word .ensures .0) ∙ c .before .if1 .left)) ∙ ap (λ (k : ℕ). partsFit (s .args .kf) (s .args .kc) (l .at + k) (s .args .n) (drop (l .i + 1) (table (s .args .w) (s .args .ws .now)))) (sym e))
+loop-again c =
+    let else1 : tie.Else1 Inv-loop μ-loop = search in
+    let after-word2 : tie.After-word2 Inv-loop μ-loop = search in
+    let after-word : tie.After-word Inv-loop μ-loop = search in
+    let in-loop : tie.In-loop Inv-loop μ-loop = search in
+    let at-loop : tie.At-loop Inv-loop μ-loop = search in
+    let start : tie.Start Inv-loop μ-loop = search in
+    let w = start .args .w in let kf = start .args .kf in let kc = start .args .kc in let n = start .args .n in
+    let ws = start .args .ws .now in
+    let e = after-word2 .word2 .ensures .0 in
+    let l = at-loop .loop in (
+      omega arith,
+      omega (arith, c .if2 .left, l .inv .1),
+      l .inv .2
+          ∙ fit-step w kf kc n ws (start .pre .2) (start .pre .3) (at-loop .loop .at) (at-loop .loop .i)
+          (in-loop .loop-test .taken)
+          ∙ and-on _ _ (eq-eqb _ _ (sym (after-word .word .ensures .0) ∙ else1 .if1 .left))
+          ∙ ap (λ (k : ℕ). partsFit kf kc (l .at + k) n (drop (l .i + 1) (table w ws))) (sym e),
+    )
 
 returns-3 : tie.Need-returns-3 Inv-loop μ-loop
-returns-3 c = sym (c .before .loop .inv .2 ∙ fit-end (c .before .before .before .args .w) (c .before .before .before .args .kf) (c .before .before .before .args .kc) (c .before .before .before .args .n) (c .before .before .before .args .ws .now) (c .before .before .before .pre .2) (c .before .before .before .pre .3) (c .before .loop .at) (c .before .loop .i) (omega arith))
+returns-3 c =
+    let at-loop : tie.At-loop Inv-loop μ-loop = search in
+    let start : tie.Start Inv-loop μ-loop = search in
+    sym (at-loop .loop .inv .2
+    ∙ fit-end (start .args .w) (start .args .kf) (start .args .kc) (start .args .n) (start .args .ws .now)
+    (start .pre .2) (start .pre .3) (at-loop .loop .at) (at-loop .loop .i) (omega arith))
 
 pub parts-fit-spec : {M : Type 1} → statement M
 parts-fit-spec =

@@ -40,7 +40,25 @@ both-requires-5 c κs = search needs
 
 returns : tie.Need-returns
 unfolding mapSized
-returns c = both-is (c .both5 .ensures) (both-is (c .before .before .both4 .ensures) (both-is (c .before .before .before .before .both3 .ensures) (both-is (c .before .before .before .before .before .before .both2 .ensures) (c .before .before .before .before .before .before .before .before .both .ensures ∙ ap (λ b. leb (length (c .before .before .before .before .before .before .before .before .before .before .before .before .before .before .before .before .args .text .now)) 1048576 && b) (c .before .before .before .before .before .before .before .before .before .fits2 .ensures)) (c .before .before .before .before .before .before .before .fits3 .ensures)) (c .before .before .before .before .before .fits4 .ensures)) (c .before .before .before .fits5 .ensures)) (c .before .fits6 .ensures)
+returns c =
+    let after-fits6 : tie.After-fits6 = search in
+    let after-both4 : tie.After-both4 = search in
+    let after-fits5 : tie.After-fits5 = search in
+    let after-both3 : tie.After-both3 = search in
+    let after-fits4 : tie.After-fits4 = search in
+    let after-both2 : tie.After-both2 = search in
+    let after-fits3 : tie.After-fits3 = search in
+    let after-both : tie.After-both = search in
+    let after-fits2 : tie.After-fits2 = search in
+    let start = after-fits2 .before .before .before .before .before .before .before in
+    both-is (c .both5 .ensures)
+    (both-is (after-both4 .both4 .ensures)
+    (both-is (after-both3 .both3 .ensures)
+    (both-is (after-both2 .both2 .ensures)
+    (after-both .both .ensures
+    ∙ ap (λ b. leb (length (start .args .text .now)) 1048576 && b) (after-fits2 .fits2 .ensures))
+    (after-fits3 .fits3 .ensures)) (after-fits4 .fits4 .ensures)) (after-fits5 .fits5 .ensures))
+    (after-fits6 .fits6 .ensures)
 
 pub map-sized-spec : {M : Type 1} → statement M
 map-sized-spec =

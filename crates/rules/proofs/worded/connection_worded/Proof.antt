@@ -34,7 +34,16 @@ both-requires-2 : tie.Need-both-requires-2
 both-requires-2 c κs = search needs
 
 returns : tie.Need-returns
-returns c = both-is (c .both2 .ensures) (both-is (c .before .before .before .both .ensures) (c .before .before .before .before .before .placed-at .ensures) (c .before .before .before .before .placed-at2 .ensures)) (c .before .most .ensures) ∙ sym (connection-words (c .before .before .before .before .before .before .before .before .args .text .now) (c .before .before .before .before .before .before .before .before .args .ws .now) (c .before .before .before .before .before .before .before .before .args .at))
+returns c =
+    let after-most : tie.After-most = search in
+    let after-both : tie.After-both = search in
+    let after-placed-at2 : tie.After-placed-at2 = search in
+    let after-placed-at : tie.After-placed-at = search in
+    let start : tie.Start = search in
+    both-is (c .both2 .ensures)
+    (both-is (after-both .both .ensures) (after-placed-at .placed-at .ensures)
+    (after-placed-at2 .placed-at2 .ensures)) (after-most .most .ensures)
+    ∙ sym (connection-words (start .args .text .now) (start .args .ws .now) (start .args .at))
 
 pub connection-worded-spec : {M : Type 1} → statement M
 connection-worded-spec =

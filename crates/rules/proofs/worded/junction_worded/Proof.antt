@@ -25,7 +25,12 @@ both-requires : tie.Need-both-requires
 both-requires c κs = search needs
 
 returns : tie.Need-returns
-returns c = both-is (c .both .ensures) (c .before .before .before .placed-at .ensures) (c .before .most .ensures) ∙ sym (junction-words (c .before .before .before .before .before .before .args .text .now) (c .before .before .before .before .before .before .args .ws .now) (c .before .before .before .before .before .before .args .at))
+returns c =
+    let after-most : tie.After-most = search in
+    let after-placed-at : tie.After-placed-at = search in
+    let start : tie.Start = search in
+    both-is (c .both .ensures) (after-placed-at .placed-at .ensures) (after-most .most .ensures)
+    ∙ sym (junction-words (start .args .text .now) (start .args .ws .now) (start .args .at))
 
 pub junction-worded-spec : {M : Type 1} → statement M
 junction-worded-spec =

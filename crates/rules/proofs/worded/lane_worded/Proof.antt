@@ -46,7 +46,19 @@ both-requires-3 : tie.Need-both-requires-3
 both-requires-3 c κs = search needs
 
 returns : tie.Need-returns
-returns c = both-is (c .both3 .ensures) (both-is (c .before .before .both2 .ensures) (both-is (c .before .before .before .before .both .ensures) (c .before .before .before .before .before .before .before .placed-at .ensures) (c .before .before .before .before .before .most .ensures)) (c .before .before .before .link-fits .ensures)) (c .before .link-fits2 .ensures) ∙ sym (lane-words (c .before .before .before .before .before .before .before .before .before .before .args .text .now) (c .before .before .before .before .before .before .before .before .before .before .args .ws .now) (c .before .before .before .before .before .before .before .before .before .before .args .at))
+returns c =
+    let after-link-fits2 : tie.After-link-fits2 = search in
+    let after-both2 : tie.After-both2 = search in
+    let after-link-fits : tie.After-link-fits = search in
+    let after-both : tie.After-both = search in
+    let after-most : tie.After-most = search in
+    let after-placed-at : tie.After-placed-at = search in
+    let start : tie.Start = search in
+    both-is (c .both3 .ensures)
+    (both-is (after-both2 .both2 .ensures)
+    (both-is (after-both .both .ensures) (after-placed-at .placed-at .ensures) (after-most .most .ensures))
+    (after-link-fits .link-fits .ensures)) (after-link-fits2 .link-fits2 .ensures)
+    ∙ sym (lane-words (start .args .text .now) (start .args .ws .now) (start .args .at))
 
 pub lane-worded-spec : {M : Type 1} → statement M
 lane-worded-spec =

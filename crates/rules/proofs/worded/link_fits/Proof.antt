@@ -11,7 +11,9 @@ shared-slice-read-if1 : tie.Need-shared-slice-read-if1
 shared-slice-read-if1 c = omega arith
 
 returns : tie.Need-returns
-returns c = link-on (c .before .before .before .args .ws .now) (c .before .before .before .args .at) (c .if1 .taken)
+returns c =
+    let start : tie.Start = search in
+    link-on (start .args .ws .now) (start .args .at) (c .if1 .taken)
 
 mul-most : tie.Need-mul-most
 mul-most c = omega arith
@@ -38,7 +40,13 @@ both-requires : tie.Need-both-requires
 both-requires c κs = search needs
 
 returns-2 : tie.Need-returns-2
-returns-2 c = link-off (c .before .before .before .before .before .before .before .before .args .ws .now) (c .before .before .before .before .before .before .before .before .args .at) (c .before .before .before .before .before .if1 .left) (both-is (c .both .ensures) (c .before .before .before .most .ensures) (c .before .is .ensures))
+returns-2 c =
+    let after-is : tie.After-is = search in
+    let after-most : tie.After-most = search in
+    let else1 : tie.Else1 = search in
+    let start : tie.Start = search in
+    link-off (start .args .ws .now) (start .args .at) (else1 .if1 .left)
+    (both-is (c .both .ensures) (after-most .most .ensures) (after-is .is .ensures))
 
 pub link-fits-spec : {M : Type 1} → statement M
 link-fits-spec =

@@ -19,7 +19,14 @@ both-requires-2 : tie.Need-both-requires-2
 both-requires-2 c κs = search needs
 
 returns : tie.Need-returns
-returns c = both-is (c .both2 .ensures) (both-is (c .before .before .both .ensures) (c .before .before .before .before .roads-worded .ensures) (c .before .before .before .junctions-worded .ensures)) (c .before .connections-worded .ensures)
+returns c =
+    let after-connections-worded : tie.After-connections-worded = search in
+    let after-both : tie.After-both = search in
+    let after-junctions-worded : tie.After-junctions-worded = search in
+    let after-roads-worded : tie.After-roads-worded = search in
+    both-is (c .both2 .ensures)
+    (both-is (after-both .both .ensures) (after-roads-worded .roads-worded .ensures)
+    (after-junctions-worded .junctions-worded .ensures)) (after-connections-worded .connections-worded .ensures)
 
 pub map-worded-spec : {M : Type 1} → statement M
 map-worded-spec =

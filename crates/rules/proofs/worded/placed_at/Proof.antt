@@ -18,7 +18,9 @@ add-result c = omega arith
 
 returns : tie.Need-returns
 unfolding placed
-returns c = rw (c .before .word .ensures .0, c .word2 .ensures .0)
+returns c =
+    let after-word : tie.After-word = search in
+    rw (after-word .word .ensures .0, c .word2 .ensures .0)
 
 pub placed-at-spec : {M : Type 1} → statement M
 placed-at-spec = tie.close (tie.spec word-requires add-word word-requires-2 add-result returns)

@@ -54,7 +54,21 @@ both-requires-3 : tie.Need-both-requires-3
 both-requires-3 c κs = search needs
 
 returns : tie.Need-returns
-returns c = road-absent (c .before .before .before .before .before .before .before .before .before .before .before .before .before .args .text .now) (c .before .before .before .before .before .before .before .before .before .before .before .before .before .args .ws .now) (c .before .before .before .before .before .before .before .before .before .before .before .before .before .args .at) (sym (both-is (c .before .before .before .both .ensures) (c .before .before .before .before .before .before .is .ensures) (c .before .before .before .before .is2 .ensures)) ∙ c .before .before .if1 .taken) (both-is (c .both3 .ensures) (both-is (c .before .both2 .ensures) (c .before .before .before .before .before .before .before .before .before .before .placed-at .ensures) (c .before .before .before .before .before .before .before .before .before .target-fits .ensures)) (c .before .before .before .before .before .before .before .before .target-fits2 .ensures))
+returns c =
+    let after-both2 : tie.After-both2 = search in
+    let then1 : tie.Then1 = search in
+    let after-both : tie.After-both = search in
+    let after-is2 : tie.After-is2 = search in
+    let after-is : tie.After-is = search in
+    let after-target-fits2 : tie.After-target-fits2 = search in
+    let after-target-fits : tie.After-target-fits = search in
+    let after-placed-at : tie.After-placed-at = search in
+    let start : tie.Start = search in
+    road-absent (start .args .text .now) (start .args .ws .now) (start .args .at)
+    (sym (both-is (after-both .both .ensures) (after-is .is .ensures) (after-is2 .is2 .ensures))
+    ∙ then1 .if1 .taken) (both-is (c .both3 .ensures)
+    (both-is (after-both2 .both2 .ensures) (after-placed-at .placed-at .ensures)
+    (after-target-fits .target-fits .ensures)) (after-target-fits2 .target-fits2 .ensures))
 
 add-placed-at : tie.Need-add-placed-at
 add-placed-at c = omega arith
@@ -72,7 +86,25 @@ both-requires-6 : tie.Need-both-requires-6
 both-requires-6 c κs = search needs
 
 returns-2 : tie.Need-returns-2
-returns-2 c = road-named (c .before .before .before .before .before .before .before .before .before .before .before .before .before .before .before .args .text .now) (c .before .before .before .before .before .before .before .before .before .before .before .before .before .before .before .args .ws .now) (c .before .before .before .before .before .before .before .before .before .before .before .before .before .before .before .args .at) (sym (both-is (c .before .before .before .before .before .both .ensures) (c .before .before .before .before .before .before .before .before .is .ensures) (c .before .before .before .before .before .before .is2 .ensures)) ∙ c .before .before .before .before .if1 .left) (both-is (c .both6 .ensures) (both-is (c .before .both5 .ensures) (both-is (c .before .before .both4 .ensures) (c .before .before .before .before .before .before .before .before .before .before .before .before .placed-at .ensures) (c .before .before .before .placed-at2 .ensures)) (c .before .before .before .before .before .before .before .before .before .before .before .target-fits .ensures)) (c .before .before .before .before .before .before .before .before .before .before .target-fits2 .ensures))
+returns-2 c =
+    let after-both5 : tie.After-both5 = search in
+    let after-both4 : tie.After-both4 = search in
+    let after-placed-at2 : tie.After-placed-at2 = search in
+    let else1 : tie.Else1 = search in
+    let after-both : tie.After-both = search in
+    let after-is2 : tie.After-is2 = search in
+    let after-is : tie.After-is = search in
+    let after-target-fits2 : tie.After-target-fits2 = search in
+    let after-target-fits : tie.After-target-fits = search in
+    let after-placed-at : tie.After-placed-at = search in
+    let start : tie.Start = search in
+    road-named (start .args .text .now) (start .args .ws .now) (start .args .at)
+    (sym (both-is (after-both .both .ensures) (after-is .is .ensures) (after-is2 .is2 .ensures))
+    ∙ else1 .if1 .left) (both-is (c .both6 .ensures)
+    (both-is (after-both5 .both5 .ensures)
+    (both-is (after-both4 .both4 .ensures) (after-placed-at .placed-at .ensures)
+    (after-placed-at2 .placed-at2 .ensures)) (after-target-fits .target-fits .ensures))
+    (after-target-fits2 .target-fits2 .ensures))
 
 pub road-worded-spec : {M : Type 1} → statement M
 road-worded-spec =

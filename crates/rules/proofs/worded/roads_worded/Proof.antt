@@ -33,9 +33,14 @@ one-requires c κs = omega arith
 
 returns : tie.Need-returns Inv-loop μ-loop
 returns c =
-    let s = c .before .before .before .before .before .before .args in
-    let l = c .before .before .before .loop in
-    sym (every-rows 20 (s .ws .now) (roadWorded (s .text .now)) (road-local (s .text .now)) ∙ all-miss (length (s .ws .now) / 20) (l .i) (test (s .text .now) (s .ws .now)) (omega arith) (sym (c .before .road-worded .ensures) ∙ not-true _ (c .if1 .taken)))
+    let after-road-worded : tie.After-road-worded Inv-loop μ-loop = search in
+    let at-loop : tie.At-loop Inv-loop μ-loop = search in
+    let start : tie.Start Inv-loop μ-loop = search in
+    let s = start .args in
+    let l = at-loop .loop in
+    sym (every-rows 20 (s .ws .now) (roadWorded (s .text .now)) (road-local (s .text .now))
+    ∙ all-miss (length (s .ws .now) / 20) (l .i) (test (s .text .now) (s .ws .now)) (omega arith)
+    (sym (after-road-worded .road-worded .ensures) ∙ not-true _ (c .if1 .taken)))
 
 add-i : tie.Need-add-i Inv-loop μ-loop
 add-i c = omega arith
@@ -44,14 +49,24 @@ loop-less : tie.Need-loop-less Inv-loop μ-loop
 loop-less c = omega arith
 
 loop-again : tie.Need-loop-again Inv-loop μ-loop
-loop-again c = (omega arith, all-step _ _ (c .before .before .before .loop .inv .1) (sym (c .before .road-worded .ensures) ∙ not-false _ (c .if1 .left)))
+loop-again c =
+    let after-road-worded : tie.After-road-worded Inv-loop μ-loop = search in
+    let at-loop : tie.At-loop Inv-loop μ-loop = search in (
+      omega arith,
+      all-step _ _ (at-loop .loop .inv .1)
+          (sym (after-road-worded .road-worded .ensures) ∙ not-false _ (c .if1 .left)),
+    )
 
 returns-2 : tie.Need-returns-2 Inv-loop μ-loop
 returns-2 c =
-    let s = c .before .before .before .before .args in
-    let l = c .before .loop in
+    let at-loop : tie.At-loop Inv-loop μ-loop = search in
+    let start : tie.Start Inv-loop μ-loop = search in
+    let s = start .args in
+    let l = at-loop .loop in
     let past : length (s .ws .now) / 20 ≡ l .i = omega arith in
-    sym (every-rows 20 (s .ws .now) (roadWorded (s .text .now)) (road-local (s .text .now)) ∙ ap (λ (k : ℕ). all k (test (s .text .now) (s .ws .now))) past ∙ l .inv .1)
+    sym (every-rows 20 (s .ws .now) (roadWorded (s .text .now)) (road-local (s .text .now))
+    ∙ ap (λ (k : ℕ). all k (test (s .text .now) (s .ws .now))) past
+    ∙ l .inv .1)
 
 pub roads-worded-spec : {M : Type 1} → statement M
 roads-worded-spec =

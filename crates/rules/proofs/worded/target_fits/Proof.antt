@@ -77,7 +77,23 @@ both-requires-4 : tie.Need-both-requires-4
 both-requires-4 c κs = search needs
 
 returns : tie.Need-returns
-returns c = target-on (c .before .before .before .before .before .before .before .before .before .before .before .before .before .before .before .before .before .args .text .now) (c .before .before .before .before .before .before .before .before .before .before .before .before .before .before .before .before .before .args .ws .now) (c .before .before .before .before .before .before .before .before .before .before .before .before .before .before .before .before .before .args .at) (c .before .before .before .before .before .before .before .before .before .before .before .before .before .if1 .taken) (both-is (c .both4 .ensures) (both-is (c .before .before .before .both3 .ensures) (both-is (c .before .before .before .before .before .before .both2 .ensures) (both-is (c .before .before .before .before .before .before .before .before .before .both .ensures) (c .before .before .before .before .before .before .before .before .before .before .before .most .ensures) (c .before .before .before .before .before .before .before .before .before .before .placed-at .ensures)) (c .before .before .before .before .before .before .before .most2 .ensures)) (c .before .before .before .before .most3 .ensures)) (c .before .most4 .ensures))
+returns c =
+    let after-most4 : tie.After-most4 = search in
+    let after-both3 : tie.After-both3 = search in
+    let after-most3 : tie.After-most3 = search in
+    let after-both2 : tie.After-both2 = search in
+    let after-most2 : tie.After-most2 = search in
+    let after-both : tie.After-both = search in
+    let after-placed-at : tie.After-placed-at = search in
+    let after-most : tie.After-most = search in
+    let then1 : tie.Then1 = search in
+    let start : tie.Start = search in
+    target-on (start .args .text .now) (start .args .ws .now) (start .args .at) (then1 .if1 .taken)
+    (both-is (c .both4 .ensures)
+    (both-is (after-both3 .both3 .ensures)
+    (both-is (after-both2 .both2 .ensures)
+    (both-is (after-both .both .ensures) (after-most .most .ensures) (after-placed-at .placed-at .ensures))
+    (after-most2 .most2 .ensures)) (after-most3 .most3 .ensures)) (after-most4 .most4 .ensures))
 
 add-is : tie.Need-add-is
 add-is c = omega arith
@@ -179,7 +195,29 @@ both-requires-10 : tie.Need-both-requires-10
 both-requires-10 c κs = search needs
 
 returns-2 : tie.Need-returns-2
-returns-2 c = target-off (c .before .before .before .before .before .before .before .before .before .before .before .before .before .before .before .before .before .before .before .before .before .before .before .before .args .text .now) (c .before .before .before .before .before .before .before .before .before .before .before .before .before .before .before .before .before .before .before .before .before .before .before .before .args .ws .now) (c .before .before .before .before .before .before .before .before .before .before .before .before .before .before .before .before .before .before .before .before .before .before .before .before .args .at) (c .before .before .before .before .before .before .before .before .before .before .before .before .before .before .before .before .before .before .before .before .if1 .left) (both-is (c .both10 .ensures) (c .before .before .before .before .before .before .before .before .before .before .is4 .ensures) (both-is (c .before .both9 .ensures) (both-is (c .before .before .before .before .both8 .ensures) (both-is (c .before .before .before .before .before .before .before .both7 .ensures) (both-is (c .before .before .before .before .before .before .before .before .before .before .before .before .both6 .ensures) (both-is (c .before .before .before .before .before .before .before .before .before .before .before .before .before .before .before .both5 .ensures) (c .before .before .before .before .before .before .before .before .before .before .before .before .before .before .before .before .before .before .is .ensures) (c .before .before .before .before .before .before .before .before .before .before .before .before .before .before .before .before .is2 .ensures)) (c .before .before .before .before .before .before .before .before .before .before .before .before .before .is3 .ensures)) (c .before .before .before .before .before .before .before .before .is5 .ensures)) (c .before .before .before .before .before .is6 .ensures)) (c .before .before .is7 .ensures)))
+returns-2 c =
+    let after-both9 : tie.After-both9 = search in
+    let after-is7 : tie.After-is7 = search in
+    let after-both8 : tie.After-both8 = search in
+    let after-is6 : tie.After-is6 = search in
+    let after-both7 : tie.After-both7 = search in
+    let after-is5 : tie.After-is5 = search in
+    let after-is4 : tie.After-is4 = search in
+    let after-both6 : tie.After-both6 = search in
+    let after-is3 : tie.After-is3 = search in
+    let after-both5 : tie.After-both5 = search in
+    let after-is2 : tie.After-is2 = search in
+    let after-is : tie.After-is = search in
+    let else1 : tie.Else1 = search in
+    let start : tie.Start = search in
+    target-off (start .args .text .now) (start .args .ws .now) (start .args .at) (else1 .if1 .left)
+    (both-is (c .both10 .ensures) (after-is4 .is4 .ensures)
+    (both-is (after-both9 .both9 .ensures)
+    (both-is (after-both8 .both8 .ensures)
+    (both-is (after-both7 .both7 .ensures)
+    (both-is (after-both6 .both6 .ensures)
+    (both-is (after-both5 .both5 .ensures) (after-is .is .ensures) (after-is2 .is2 .ensures))
+    (after-is3 .is3 .ensures)) (after-is5 .is5 .ensures)) (after-is6 .is6 .ensures)) (after-is7 .is7 .ensures)))
 
 pub target-fits-spec : {M : Type 1} → statement M
 target-fits-spec =

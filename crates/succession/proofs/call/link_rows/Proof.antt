@@ -14,10 +14,31 @@ slice-aggregate-link-names-2 : tie.Need-slice-aggregate-link-names-2
 slice-aggregate-link-names-2 c = search needs
 
 link-names-requires : tie.Need-link-names-requires
-link-names-requires c κs = let s = (c .before .before .before .before .before .before .before .before .before .before) in ((omega arith, omega arith, rows-in (length (s .args .junctions .now)) 5, s .pre .0 .3, length-replicate {A = ℕ} 16384 0, length-replicate {A = ℕ} 16384 0), λ b h. getD-replicate {A = ℕ} 16384 b 0 0 h)
+link-names-requires c κs =
+    let start : tie.Start = search in (
+      (
+        omega arith,
+        omega arith,
+        rows-in (length (start .args .junctions .now)) 5,
+        start .pre .0 .3,
+        length-replicate {A = ℕ} 16384 0,
+        length-replicate {A = ℕ} 16384 0,
+      ),
+      λ b h. getD-replicate {A = ℕ} 16384 b 0 0 h,
+    )
 
 link-sides-requires : tie.Need-link-sides-requires
-link-sides-requires c κs = let s = (c .before .before .before .before .before .before .before .before .before .before .before .before .before .before) in ((s .pre .0 .0, s .pre .0 .1, omega (arith, s .pre .0 .0, s .pre .0 .2), s .pre .0 .4, s .pre .0 .5), s .pre .1)
+link-sides-requires c κs =
+    let start : tie.Start = search in (
+      (
+        start .pre .0 .0,
+        start .pre .0 .1,
+        omega (arith, start .pre .0 .0, start .pre .0 .2),
+        start .pre .0 .4,
+        start .pre .0 .5,
+      ),
+      start .pre .1,
+    )
 
 slice-aggregate-link-ends : tie.Need-slice-aggregate-link-ends
 slice-aggregate-link-ends c = search needs
@@ -26,7 +47,27 @@ slice-aggregate-link-ends-2 : tie.Need-slice-aggregate-link-ends-2
 slice-aggregate-link-ends-2 c = search needs
 
 link-ends-requires : tie.Need-link-ends-requires
-link-ends-requires c κs = let s = (c .before .before .before .before .before .before .before .before .before .before .before .before .before .before .before .before .before .before .before .before) in ((s .pre .0 .0, s .pre .0 .1, omega (arith, s .pre .0 .0, s .pre .0 .2), s .pre .0 .6), (s .pre .1, ((s .pre .0 .3, c .before .before .before .before .before .before .before .before .before .link-names .kept .1 .1 .1 .1 .1 .0 ∙ length-replicate {A = ℕ} 16384 0, omega (arith, s .pre .0 .3, c .before .before .before .before .before .before .before .before .before .link-names .kept .1 .1 .1 .1 .1 .1 .0, length-replicate {A = ℕ} 16384 0)), c .before .before .before .before .before .before .before .before .before .link-names .ensures .1)))
+link-ends-requires c κs =
+    let after-link-names : tie.After-link-names = search in
+    let start : tie.Start = search in (
+      (start .pre .0 .0, start .pre .0 .1, omega (arith, start .pre .0 .0, start .pre .0 .2), start .pre .0 .6),
+      (
+        start .pre .1,
+        (
+          (
+            start .pre .0 .3,
+            after-link-names .link-names .kept .1 .1 .1 .1 .1 .0 ∙ length-replicate {A = ℕ} 16384 0,
+            omega (
+              arith,
+              start .pre .0 .3,
+              after-link-names .link-names .kept .1 .1 .1 .1 .1 .1 .0,
+              length-replicate {A = ℕ} 16384 0,
+            ),
+          ),
+          after-link-names .link-names .ensures .1,
+        ),
+      ),
+    )
 
 same-length : tie.Need-same-length
 same-length c = search needs
@@ -35,7 +76,10 @@ same-length-2 : tie.Need-same-length-2
 same-length-2 c = search needs
 
 returns : tie.Need-returns
-returns c = (c .before .before .before .before .before .before .before .before .link-sides .ensures, c .before .before .link-ends .ensures)
+returns c =
+    let after-link-ends : tie.After-link-ends = search in
+    let after-link-sides : tie.After-link-sides = search in
+    (after-link-sides .link-sides .ensures, after-link-ends .link-ends .ensures)
 
 pub link-rows-spec : {M : Type 1} → statement M
 link-rows-spec =

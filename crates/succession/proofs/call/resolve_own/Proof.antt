@@ -24,13 +24,34 @@ slice-aggregate-succession-verdict-5 : tie.Need-slice-aggregate-succession-verdi
 slice-aggregate-succession-verdict-5 c = search needs
 
 succession-verdict-requires : tie.Need-succession-verdict-requires
-succession-verdict-requires c κs = ((length-replicate {A = ℕ} 16384 0, length-replicate {A = ℕ} 16384 0, λ b h. getD-replicate {A = ℕ} 16384 b 0 0 h), (length-replicate {A = ℕ} 16384 0, (length-replicate {A = ℕ} 16384 0, length-replicate {A = ℕ} 16384 0, λ b h. getD-replicate {A = ℕ} 16384 b 0 0 h)))
+succession-verdict-requires c κs = (
+  (
+    length-replicate {A = ℕ} 16384 0,
+    length-replicate {A = ℕ} 16384 0,
+    λ b h. getD-replicate {A = ℕ} 16384 b 0 0 h,
+  ),
+  (
+    length-replicate {A = ℕ} 16384 0,
+    (
+      length-replicate {A = ℕ} 16384 0,
+      length-replicate {A = ℕ} 16384 0,
+      λ b h. getD-replicate {A = ℕ} 16384 b 0 0 h,
+    ),
+  ),
+)
 
 admitted-requires : tie.Need-admitted-requires
 admitted-requires c κs = search needs
 
 returns : tie.Need-returns
-returns c = (c .before .before .before .before .before .before .before .succession-verdict .ensures .0, λ e. absurd (is-some (refusalOf (c .before .before .before .before .before .before .before .succession-verdict .result)) (sym (c .before .admitted .ensures) ∙ not-true _ (c .if1 .taken)) e))
+returns c =
+    let after-admitted : tie.After-admitted = search in
+    let after-succession-verdict : tie.After-succession-verdict = search in (
+      after-succession-verdict .succession-verdict .ensures .0,
+      λ e.
+          absurd (is-some (refusalOf (after-succession-verdict .succession-verdict .result))
+          (sym (after-admitted .admitted .ensures) ∙ not-true _ (c .if1 .taken)) e),
+    )
 
 slice-aggregate-find-own : tie.Need-slice-aggregate-find-own
 slice-aggregate-find-own c = search needs
@@ -48,7 +69,34 @@ slice-aggregate-find-own-5 : tie.Need-slice-aggregate-find-own-5
 slice-aggregate-find-own-5 c = search needs
 
 find-own-requires : tie.Need-find-own-requires
-find-own-requires c κs = let s = (c .before .before .before .before .before .before .before .before .before .before .before .before .before .before .before .before .before .before .before .before .before .before .before .before .before .before .before .before .before) in let adm = is-none (refusalOf (c .before .before .before .before .before .before .before .before .before .before .before .before .before .before .succession-verdict .result)) (sym (c .before .before .before .before .before .before .before .before .admitted .ensures) ∙ not-false _ (c .before .before .before .before .before .before .before .if1 .left)) in (sym (c .before .before .before .before .before .before .before .before .before .before .before .before .before .before .succession-verdict .ensures .0) ∙ adm, (c .before .before .before .before .before .before .before .before .before .before .before .before .before .before .succession-verdict .ensures .1 adm, (c .before .before .before .before .before .before .before .before .before .before .before .before .before .before .succession-verdict .kept .1 .1 .1 .1 .1 .1 .1 .0 ∙ length-replicate {A = ℕ} 16384 0, c .before .before .before .before .before .before .before .before .before .before .before .before .before .before .succession-verdict .kept .1 .1 .1 .1 .1 .1 .1 .1 .0 ∙ length-replicate {A = ℕ} 16384 0, c .before .before .before .before .before .before .before .before .before .before .before .before .before .before .succession-verdict .kept .1 .1 .1 .1 .1 .1 .1 .1 .1 .0 ∙ length-replicate {A = ℕ} 16384 0, c .before .before .before .before .before .before .before .before .before .before .before .before .before .before .succession-verdict .kept .1 .1 .1 .1 .1 .1 .1 .1 .1 .1 .0 ∙ length-replicate {A = ℕ} 16384 0, c .before .before .before .before .before .before .before .before .before .before .before .before .before .before .succession-verdict .kept .1 .1 .1 .1 .1 .1 .1 .1 .1 .1 .1 .0 ∙ length-replicate {A = ℕ} 16384 0, s .pre .0, s .pre .1)))
+find-own-requires c κs =
+    let else1 : tie.Else1 = search in
+    let after-admitted : tie.After-admitted = search in
+    let after-succession-verdict : tie.After-succession-verdict = search in
+    let after-slice-known = after-succession-verdict .before .before .before .before .before .before .before in
+    let after-shared-slice-known = after-slice-known .before .before .before .before .before .before .before in
+    let start = after-shared-slice-known .before in
+    let adm = is-none (refusalOf (after-succession-verdict .succession-verdict .result))
+    (sym (after-admitted .admitted .ensures) ∙ not-false _ (else1 .if1 .left)) in (
+      sym (after-succession-verdict .succession-verdict .ensures .0) ∙ adm,
+      (
+        after-succession-verdict .succession-verdict .ensures .1 adm,
+        (
+          after-succession-verdict .succession-verdict .kept .1 .1 .1 .1 .1 .1 .1 .0
+              ∙ length-replicate {A = ℕ} 16384 0,
+          after-succession-verdict .succession-verdict .kept .1 .1 .1 .1 .1 .1 .1 .1 .0
+              ∙ length-replicate {A = ℕ} 16384 0,
+          after-succession-verdict .succession-verdict .kept .1 .1 .1 .1 .1 .1 .1 .1 .1 .0
+              ∙ length-replicate {A = ℕ} 16384 0,
+          after-succession-verdict .succession-verdict .kept .1 .1 .1 .1 .1 .1 .1 .1 .1 .1 .0
+              ∙ length-replicate {A = ℕ} 16384 0,
+          after-succession-verdict .succession-verdict .kept .1 .1 .1 .1 .1 .1 .1 .1 .1 .1 .1 .0
+              ∙ length-replicate {A = ℕ} 16384 0,
+          start .pre .0,
+          start .pre .1,
+        ),
+      ),
+    )
 
 same-length : tie.Need-same-length
 same-length c = search needs
@@ -57,7 +105,10 @@ same-length-2 : tie.Need-same-length-2
 same-length-2 c = search needs
 
 returns-2 : tie.Need-returns-2
-returns-2 c = (c .before .before .before .before .before .before .before .before .before .before .before .before .before .before .before .before .before .before .before .before .before .succession-verdict .ensures .0, λ e. c .before .before .before .before .before .before .find-own .ensures)
+returns-2 c =
+    let after-find-own : tie.After-find-own = search in
+    let after-succession-verdict : tie.After-succession-verdict = search in
+    (after-succession-verdict .succession-verdict .ensures .0, λ e. after-find-own .find-own .ensures)
 
 pub resolve-own-spec : {M : Type 1} → statement M
 resolve-own-spec =

@@ -25,7 +25,9 @@ shared-slice-read-next-section : tie.Need-shared-slice-read-next-section
 shared-slice-read-next-section c = search needs
 
 sub-next-section : tie.Need-sub-next-section
-sub-next-section c = let s = (c .before .before .before .before .before .before .before .before .before .before .before .before .before .before .before) in (let z = s .pre .0 .owner-low (s .args .l) (s .pre .1 .1 .0) in omega (arith, z))
+sub-next-section c =
+    let start : tie.Start = search in
+    (let z = start .pre .0 .owner-low (start .args .l) (start .pre .1 .1 .0) in omega (arith, z))
 
 link-at-requires : tie.Need-link-at-requires
 link-at-requires c κs = search needs
@@ -43,7 +45,18 @@ shared-slice-read-next-section-2 : tie.Need-shared-slice-read-next-section-2
 shared-slice-read-next-section-2 c = search needs
 
 next-section-requires : tie.Need-next-section-requires
-next-section-requires c κs = let s = c .before .before .before .before .before .before .before .before .before .before .before .before .before .before .before .before .before in ((let z = s .pre .0 .owner-high (s .args .l) (s .pre .1 .1 .0) in omega (arith, z, s .pre .0 .owner-low (s .args .l) (s .pre .1 .1 .0))), s .pre .0 .section-parts (getD (s .args .owner .now) (s .args .l) 0 - 1) (let z = s .pre .0 .owner-high (s .args .l) (s .pre .1 .1 .0) in omega (arith, z, s .pre .0 .owner-low (s .args .l) (s .pre .1 .1 .0))), s .pre .0 .rising (getD (s .args .owner .now) (s .args .l) 0 - 1) (let z = s .pre .0 .owner-high (s .args .l) (s .pre .1 .1 .0) in omega (arith, z, s .pre .0 .owner-low (s .args .l) (s .pre .1 .1 .0))))
+next-section-requires c κs =
+    let start : tie.Start = search in
+    let l = start .args .l in let owner = start .args .owner .now in (
+      (let z = start .pre .0 .owner-high l (start .pre .1 .1 .0) in
+          omega (arith, z, start .pre .0 .owner-low l (start .pre .1 .1 .0))),
+      start .pre .0 .section-parts (getD owner l 0 - 1)
+          (let z = start .pre .0 .owner-high l (start .pre .1 .1 .0) in
+          omega (arith, z, start .pre .0 .owner-low l (start .pre .1 .1 .0))),
+      start .pre .0 .rising (getD owner l 0 - 1)
+          (let z = start .pre .0 .owner-high l (start .pre .1 .1 .0) in
+          omega (arith, z, start .pre .0 .owner-low l (start .pre .1 .1 .0))),
+    )
 
 enum-known-s : tie.Need-enum-known-s
 enum-known-s c = search needs
@@ -53,32 +66,128 @@ entered-at-requires c κs = search needs
 
 within-road-requires : tie.Need-within-road-requires
 within-road-requires c κs =
-    let s = c .before .before .before .before .before .before .before .before .before .before .before .before .before .before .before .before .before .before .before .before .before .before .before in
-    ((s .pre .1 .1 .0, (let z : (b : Bool) → pick b (s .args .l * 10 + 8) (s .args .l * 10 + 6) ≤ s .args .l * 10 + 8 = up (s .args .l) in omega (arith, z (s .args .forward), c .before .before .before .before .before .before .before .link-at .ensures, s .pre .1 .1 .0)), s .pre .0 .owner-long, s .pre .0 .buckets, s .pre .0 .links, s .pre .0 .few), (s .pre .0 .chained, subst (λ (es : List Entry). Room (s .args .n) es (s .args .run .now)) (exits-within (rowsOf (s .args .roads .now) (s .args .sections .now) (s .args .junctions .now) (s .args .connections .now) (s .args .pairs .now) (s .args .lanes .now) (s .args .owner .now) (s .args .sides .now) (s .args .ends .now)) (s .args .l) (s .args .forward) (getD (s .args .owner .now) (s .args .l) 0) (c .before .before .before .before .before .before .before .link-at .result) (sectionOf (c .before .before .before .before .before .next-section .result)) (refl) (let z = s .pre .0 .owner-low (s .args .l) (s .pre .1 .1 .0) in omega (arith, z)) (c .before .before .before .before .before .before .before .link-at .ensures) (c .before .before .before .before .before .next-section .ensures) (c .before .before .before .s .given .0 .0) (ap sectionOf (c .before .before .before .s .given .1)) (flag (c .before .entered-at .result)) (c .before .entered-at .ensures)) (s .pre .1 .1 .1)))
+    let after-entered-at : tie.After-entered-at = search in
+    let after-s : tie.After-s = search in
+    let after-next-section : tie.After-next-section = search in
+    let after-link-at : tie.After-link-at = search in
+    let after-shared-slice-known9 = after-link-at .before .before .before .before .before .before .before in
+    let after-shared-slice-known2 = after-shared-slice-known9 .before .before .before .before .before .before .before in
+    let start = after-shared-slice-known2 .before .before in
+    let l = start .args .l in let forward = start .args .forward in let owner = start .args .owner .now in (
+      (
+        start .pre .1 .1 .0,
+        (let z : (b : Bool) → pick b (l * 10 + 8) (l * 10 + 6) ≤ l * 10 + 8 = up l in
+            omega (arith, z forward, after-link-at .link-at .ensures, start .pre .1 .1 .0)),
+        start .pre .0 .owner-long,
+        start .pre .0 .buckets,
+        start .pre .0 .links,
+        start .pre .0 .few,
+      ),
+      (
+        start .pre .0 .chained,
+        subst (λ (es : List Entry). Room (start .args .n) es (start .args .run .now))
+            (exits-within (rowsOf (start .args .roads .now) (start .args .sections .now)
+            (start .args .junctions .now) (start .args .connections .now) (start .args .pairs .now)
+            (start .args .lanes .now) owner (start .args .sides .now) (start .args .ends .now)) l forward
+            (getD owner l 0) (after-link-at .link-at .result)
+            (sectionOf (after-next-section .next-section .result)) (refl)
+            (let z = start .pre .0 .owner-low l (start .pre .1 .1 .0) in omega (arith, z))
+            (after-link-at .link-at .ensures) (after-next-section .next-section .ensures)
+            (after-s .s .given .0 .0) (ap sectionOf (after-s .s .given .1))
+            (flag (after-entered-at .entered-at .result)) (after-entered-at .entered-at .ensures))
+            (start .pre .1 .1 .1),
+      ),
+    )
 
 enum-told : tie.Need-enum-told
 enum-told c = search needs
 
 leave-requires : tie.Need-leave-requires
 leave-requires c κs =
-    let s = c .before .before .before .before .before .before .before .before .before .before .before .before .before .before .before .before .before .before .before .before .before in
-    (s .pre .0, (s .pre .1 .0, ((s .pre .1 .1 .0, (let z = s .pre .0 .owner-high (s .args .l) (s .pre .1 .1 .0) in omega (arith, z, s .pre .0 .owner-low (s .args .l) (s .pre .1 .1 .0))), (let z : (b : Bool) → pick b (s .args .l * 10 + 8) (s .args .l * 10 + 6) ≤ s .args .l * 10 + 8 = up (s .args .l) in omega (arith, z (s .args .forward), c .before .before .before .before .before .link-at .ensures, s .pre .1 .1 .0))), subst (λ (es : List Entry). Room (s .args .n) es (s .args .run .now)) (exits-past (rowsOf (s .args .roads .now) (s .args .sections .now) (s .args .junctions .now) (s .args .connections .now) (s .args .pairs .now) (s .args .lanes .now) (s .args .owner .now) (s .args .sides .now) (s .args .ends .now)) (s .args .l) (s .args .forward) (getD (s .args .owner .now) (s .args .l) 0) (c .before .before .before .before .before .link-at .result) (sectionOf (c .before .before .before .next-section .result)) (refl) (let z = s .pre .0 .owner-low (s .args .l) (s .pre .1 .1 .0) in omega (arith, z)) (c .before .before .before .before .before .link-at .ensures) (c .before .before .before .next-section .ensures) (ap sectionOf (c .before .enum-told .given .1))) (s .pre .1 .1 .1))))
+    let after-enum-told : tie.After-enum-told = search in
+    let after-next-section : tie.After-next-section = search in
+    let after-link-at : tie.After-link-at = search in
+    let after-shared-slice-known9 = after-link-at .before .before .before .before .before .before .before in
+    let after-shared-slice-known2 = after-shared-slice-known9 .before .before .before .before .before .before .before in
+    let start = after-shared-slice-known2 .before .before in
+    let l = start .args .l in let forward = start .args .forward in let owner = start .args .owner .now in (
+      start .pre .0,
+      (
+        start .pre .1 .0,
+        (
+          (
+            start .pre .1 .1 .0,
+            (let z = start .pre .0 .owner-high l (start .pre .1 .1 .0) in
+                omega (arith, z, start .pre .0 .owner-low l (start .pre .1 .1 .0))),
+            (let z : (b : Bool) → pick b (l * 10 + 8) (l * 10 + 6) ≤ l * 10 + 8 = up l in
+                omega (arith, z forward, after-link-at .link-at .ensures, start .pre .1 .1 .0)),
+          ),
+          subst (λ (es : List Entry). Room (start .args .n) es (start .args .run .now))
+              (exits-past (rowsOf (start .args .roads .now) (start .args .sections .now)
+              (start .args .junctions .now) (start .args .connections .now) (start .args .pairs .now)
+              (start .args .lanes .now) owner (start .args .sides .now) (start .args .ends .now)) l
+              forward (getD owner l 0) (after-link-at .link-at .result)
+              (sectionOf (after-next-section .next-section .result)) (refl)
+              (let z = start .pre .0 .owner-low l (start .pre .1 .1 .0) in omega (arith, z))
+              (after-link-at .link-at .ensures) (after-next-section .next-section .ensures)
+              (ap sectionOf (after-enum-told .enum-told .given .1))) (start .pre .1 .1 .1),
+        ),
+      ),
+    )
 
 same-length : tie.Need-same-length
 same-length c = search needs
 
 returns : tie.Need-returns
 returns c =
-    let s = c .before .before .before .before .before .before .before .before .before .before .before .before .before .before .before .before .before .before .before .before .before .before .before .before .before .before in
-    subst (λ (es : List Entry). Took (s .args .both) (s .args .n) es (s .args .run .now) (c .before .before .within-road .last .1 .1 .1 .1 .1 .1 .1 .1 .1 .0) (c .before .before .within-road .result)) (sym (exits-within (rowsOf (s .args .roads .now) (s .args .sections .now) (s .args .junctions .now) (s .args .connections .now) (s .args .pairs .now) (s .args .lanes .now) (s .args .owner .now) (s .args .sides .now) (s .args .ends .now)) (s .args .l) (s .args .forward) (getD (s .args .owner .now) (s .args .l) 0) (c .before .before .before .before .before .before .before .before .before .before .link-at .result) (sectionOf (c .before .before .before .before .before .before .before .before .next-section .result)) (refl) (let z = s .pre .0 .owner-low (s .args .l) (s .pre .1 .1 .0) in omega (arith, z)) (c .before .before .before .before .before .before .before .before .before .before .link-at .ensures) (c .before .before .before .before .before .before .before .before .next-section .ensures) (c .before .before .before .before .before .before .s .given .0 .0) (ap sectionOf (c .before .before .before .before .before .before .s .given .1)) (flag (c .before .before .before .before .entered-at .result)) (c .before .before .before .before .entered-at .ensures))) (c .before .before .within-road .ensures)
+    let after-within-road : tie.After-within-road = search in
+    let after-entered-at : tie.After-entered-at = search in
+    let after-s : tie.After-s = search in
+    let after-next-section : tie.After-next-section = search in
+    let after-link-at : tie.After-link-at = search in
+    let after-shared-slice-known9 = after-link-at .before .before .before .before .before .before .before in
+    let after-shared-slice-known2 = after-shared-slice-known9 .before .before .before .before .before .before .before in
+    let start = after-shared-slice-known2 .before .before in
+    let owner = start .args .owner .now in let l = start .args .l in
+    subst (λ (es : List Entry).
+    Took (start .args .both) (start .args .n) es (start .args .run .now)
+    (after-within-road .within-road .last .1 .1 .1 .1 .1 .1 .1 .1 .1 .0)
+    (after-within-road .within-road .result))
+    (sym (exits-within (rowsOf (start .args .roads .now) (start .args .sections .now)
+    (start .args .junctions .now) (start .args .connections .now) (start .args .pairs .now)
+    (start .args .lanes .now) owner (start .args .sides .now) (start .args .ends .now)) l
+    (start .args .forward) (getD owner l 0) (after-link-at .link-at .result)
+    (sectionOf (after-next-section .next-section .result)) (refl)
+    (let z = start .pre .0 .owner-low l (start .pre .1 .1 .0) in omega (arith, z))
+    (after-link-at .link-at .ensures) (after-next-section .next-section .ensures) (after-s .s .given .0 .0)
+    (ap sectionOf (after-s .s .given .1)) (flag (after-entered-at .entered-at .result))
+    (after-entered-at .entered-at .ensures))) (after-within-road .within-road .ensures)
 
 same-length-2 : tie.Need-same-length-2
 same-length-2 c = search needs
 
 returns-2 : tie.Need-returns-2
 returns-2 c =
-    let s = c .before .before .before .before .before .before .before .before .before .before .before .before .before .before .before .before .before .before .before .before .before .before .before .before in
-    subst (λ (es : List Entry). Took (s .args .both) (s .args .n) es (s .args .run .now) (c .before .before .leave .last .1 .1 .1 .1 .1 .1 .1 .1 .1 .1 .1 .1 .1 .1 .1 .1 .1 .1 .0) (c .before .before .leave .result)) (sym (exits-past (rowsOf (s .args .roads .now) (s .args .sections .now) (s .args .junctions .now) (s .args .connections .now) (s .args .pairs .now) (s .args .lanes .now) (s .args .owner .now) (s .args .sides .now) (s .args .ends .now)) (s .args .l) (s .args .forward) (getD (s .args .owner .now) (s .args .l) 0) (c .before .before .before .before .before .before .before .before .link-at .result) (sectionOf (c .before .before .before .before .before .before .next-section .result)) (refl) (let z = s .pre .0 .owner-low (s .args .l) (s .pre .1 .1 .0) in omega (arith, z)) (c .before .before .before .before .before .before .before .before .link-at .ensures) (c .before .before .before .before .before .before .next-section .ensures) (ap sectionOf (c .before .before .before .before .enum-told .given .1)))) (c .before .before .leave .ensures)
+    let after-leave : tie.After-leave = search in
+    let after-enum-told : tie.After-enum-told = search in
+    let after-next-section : tie.After-next-section = search in
+    let after-link-at : tie.After-link-at = search in
+    let after-shared-slice-known9 = after-link-at .before .before .before .before .before .before .before in
+    let after-shared-slice-known2 = after-shared-slice-known9 .before .before .before .before .before .before .before in
+    let start = after-shared-slice-known2 .before .before in
+    let owner = start .args .owner .now in let l = start .args .l in
+    subst (λ (es : List Entry).
+    Took (start .args .both) (start .args .n) es (start .args .run .now)
+    (after-leave .leave .last .1 .1 .1 .1 .1 .1 .1 .1 .1 .1 .1 .1 .1 .1 .1 .1 .1 .1 .0)
+    (after-leave .leave .result))
+    (sym (exits-past (rowsOf (start .args .roads .now) (start .args .sections .now)
+    (start .args .junctions .now) (start .args .connections .now) (start .args .pairs .now)
+    (start .args .lanes .now) owner (start .args .sides .now) (start .args .ends .now)) l
+    (start .args .forward) (getD owner l 0) (after-link-at .link-at .result)
+    (sectionOf (after-next-section .next-section .result)) (refl)
+    (let z = start .pre .0 .owner-low l (start .pre .1 .1 .0) in omega (arith, z))
+    (after-link-at .link-at .ensures) (after-next-section .next-section .ensures)
+    (ap sectionOf (after-enum-told .enum-told .given .1)))) (after-leave .leave .ensures)
 
 pub exits-spec : {M : Type 1} → statement M
 exits-spec =

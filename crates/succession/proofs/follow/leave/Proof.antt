@@ -32,25 +32,46 @@ word-requires c κs = search needs
 
 cross-requires : tie.Need-cross-requires
 cross-requires c κs =
-    let s = c .before .before .before .before .before .before .before .before .before .before .before .before .before .before .before .before .before .before in (
-      s .pre .0,
+    let after-word : tie.After-word = search in
+    let then1 : tie.Then1 = search in
+    let start : tie.Start = search in
+    let roads = start .args .roads .now in let ends = start .args .ends .now in
+    let sections = start .args .sections .now in let junctions = start .args .junctions .now in
+    let connections = start .args .connections .now in let pairs = start .args .pairs .now in
+    let lanes = start .args .lanes .now in let owner = start .args .owner .now in
+    let sides = start .args .sides .now in let l = start .args .l in let link = start .args .link in
+    let rowsOf′ = rowsOf roads sections junctions connections pairs lanes owner sides ends in (
+      start .pre .0,
       (
-        s .pre .1 .0,
+        start .pre .1 .0,
         (
           (
-            s .pre .1 .1 .0 .0,
-            omega (arith, s .pre .1 .1 .0 .1),
-            s .pre .1 .1 .0 .2,
-            (λ e. let i : s .args .r .0 * 20 + (5 + 1 * 7) ≡ s .args .r .0 * 20 + 11 + 1 = omega arith in
-                let j : s .args .r .0 * 2 + 1 ≡ s .args .r .0 * 2 + 1 = omega arith in
-                let b = s .pre .0 .junction-ends (s .args .r .0) 1 (s .pre .1 .1 .0 .1) (omega arith) (ap (λ (z : ℕ). eqb (getD (s .args .roads .now) z 0) 1) i ∙ e) in
-                omega (arith, b, ap (λ (z : ℕ). getD (s .args .ends .now) z 0) j, c .before .word .ensures .0)),
-            (λ e. let i : s .args .r .0 * 20 + (5 + 1 * 7) ≡ s .args .r .0 * 20 + 11 + 1 = omega arith in
-                let j : s .args .r .0 * 2 + 1 ≡ s .args .r .0 * 2 + 1 = omega arith in
-                let b = s .pre .0 .road-ends (s .args .r .0) 1 (s .pre .1 .1 .0 .1) (omega arith) (ap (λ (z : ℕ). eqb (getD (s .args .roads .now) z 0) 1) i ∙ e) in
-                omega (arith, b, ap (λ (z : ℕ). getD (s .args .ends .now) z 0) j, c .before .word .ensures .0)),
+            start .pre .1 .1 .0 .0,
+            omega (arith, start .pre .1 .1 .0 .1),
+            start .pre .1 .1 .0 .2,
+            (λ e.
+                let i : start .args .r .0 * 20 + (5 + 1 * 7) ≡ start .args .r .0 * 20 + 11 + 1 =
+                omega arith in
+                let j : start .args .r .0 * 2 + 1 ≡ start .args .r .0 * 2 + 1 = omega arith in
+                let b = start .pre .0 .junction-ends (start .args .r .0) 1
+                (start .pre .1 .1 .0 .1) (omega arith)
+                (ap (λ (z : ℕ). eqb (getD roads z 0) 1) i ∙ e) in
+                omega (arith, b, ap (λ (z : ℕ). getD ends z 0) j, after-word .word .ensures .0)),
+            (λ e.
+                let i : start .args .r .0 * 20 + (5 + 1 * 7) ≡ start .args .r .0 * 20 + 11 + 1 =
+                omega arith in
+                let j : start .args .r .0 * 2 + 1 ≡ start .args .r .0 * 2 + 1 = omega arith in
+                let b = start .pre .0 .road-ends (start .args .r .0) 1 (start .pre .1 .1 .0 .1)
+                (omega arith) (ap (λ (z : ℕ). eqb (getD roads z 0) 1) i ∙ e) in
+                omega (arith, b, ap (λ (z : ℕ). getD ends z 0) j, after-word .word .ensures .0)),
           ),
-          subst (λ (es : List Entry). Room (s .args .n) es (s .args .run .now)) (ap (λ (f : Bool). crossByRow (rowsOf (s .args .roads .now) (s .args .sections .now) (s .args .junctions .now) (s .args .connections .now) (s .args .pairs .now) (s .args .lanes .now) (s .args .owner .now) (s .args .sides .now) (s .args .ends .now)) (s .args .l) (pick f (s .args .r .0 * 20 + 4) (s .args .r .0 * 20 + 11)) (pick f (getD (s .args .ends .now) (s .args .r .0 * 2) 0) (getD (s .args .ends .now) (s .args .r .0 * 2 + 1) 0)) (s .args .link)) (c .before .before .if1 .taken) ∙ ap (λ (w : ℕ). crossByRow (rowsOf (s .args .roads .now) (s .args .sections .now) (s .args .junctions .now) (s .args .connections .now) (s .args .pairs .now) (s .args .lanes .now) (s .args .owner .now) (s .args .sides .now) (s .args .ends .now)) (s .args .l) (s .args .r .0 * 20 + 11) w (s .args .link)) (sym (c .before .word .ensures .0))) (s .pre .1 .1 .1),
+          subst (λ (es : List Entry). Room (start .args .n) es (start .args .run .now))
+              (ap (λ (f : Bool).
+              crossByRow rowsOf′ l (pick f (start .args .r .0 * 20 + 4) (start .args .r .0 * 20 + 11))
+              (pick f (getD ends (start .args .r .0 * 2) 0) (getD ends (start .args .r .0 * 2 + 1) 0))
+              link) (then1 .if1 .taken)
+              ∙ ap (λ (w : ℕ). crossByRow rowsOf′ l (start .args .r .0 * 20 + 11) w link)
+              (sym (after-word .word .ensures .0))) (start .pre .1 .1 .1),
         ),
       ),
     )
@@ -60,8 +81,28 @@ same-length c = search needs
 
 returns : tie.Need-returns
 returns c =
-    let s = c .before .before .before .before .before .before .before .before .before .before .before .before .before .before .before .before .before .before .before .before .before in
-    subst (λ (es : List Entry). Took (s .args .both) (s .args .n) es (s .args .run .now) (c .before .before .cross .last .1 .1 .1 .1 .1 .1 .1 .1 .1 .1 .1 .1 .1 .1 .1 .1 .1 .1 .0) (c .before .before .cross .result)) (sym (ap (λ (f : Bool). crossByRow (rowsOf (s .args .roads .now) (s .args .sections .now) (s .args .junctions .now) (s .args .connections .now) (s .args .pairs .now) (s .args .lanes .now) (s .args .owner .now) (s .args .sides .now) (s .args .ends .now)) (s .args .l) (pick f (s .args .r .0 * 20 + 4) (s .args .r .0 * 20 + 11)) (pick f (getD (s .args .ends .now) (s .args .r .0 * 2) 0) (getD (s .args .ends .now) (s .args .r .0 * 2 + 1) 0)) (s .args .link)) (c .before .before .before .before .before .if1 .taken) ∙ ap (λ (w : ℕ). crossByRow (rowsOf (s .args .roads .now) (s .args .sections .now) (s .args .junctions .now) (s .args .connections .now) (s .args .pairs .now) (s .args .lanes .now) (s .args .owner .now) (s .args .sides .now) (s .args .ends .now)) (s .args .l) (s .args .r .0 * 20 + 11) w (s .args .link)) (sym (c .before .before .before .before .word .ensures .0)))) (c .before .before .cross .ensures)
+    let after-cross : tie.After-cross = search in
+    let after-word : tie.After-word = search in
+    let then1 : tie.Then1 = search in
+    let after-shared-slice-known9 = then1 .before .before .before .before .before .before .before in
+    let after-shared-slice-known2 = after-shared-slice-known9 .before .before .before .before .before .before .before in
+    let start = after-shared-slice-known2 .before .before in
+    let roads = start .args .roads .now in let sections = start .args .sections .now in
+    let junctions = start .args .junctions .now in let connections = start .args .connections .now in
+    let pairs = start .args .pairs .now in let lanes = start .args .lanes .now in
+    let owner = start .args .owner .now in let sides = start .args .sides .now in
+    let ends = start .args .ends .now in let l = start .args .l in let link = start .args .link in
+    let rowsOf′ = rowsOf roads sections junctions connections pairs lanes owner sides ends in
+    subst (λ (es : List Entry).
+    Took (start .args .both) (start .args .n) es (start .args .run .now)
+    (after-cross .cross .last .1 .1 .1 .1 .1 .1 .1 .1 .1 .1 .1 .1 .1 .1 .1 .1 .1 .1 .0)
+    (after-cross .cross .result))
+    (sym (ap (λ (f : Bool).
+    crossByRow rowsOf′ l (pick f (start .args .r .0 * 20 + 4) (start .args .r .0 * 20 + 11))
+    (pick f (getD ends (start .args .r .0 * 2) 0) (getD ends (start .args .r .0 * 2 + 1) 0)) link)
+    (then1 .if1 .taken)
+    ∙ ap (λ (w : ℕ). crossByRow rowsOf′ l (start .args .r .0 * 20 + 11) w link)
+    (sym (after-word .word .ensures .0)))) (after-cross .cross .ensures)
 
 mul-cross-2 : tie.Need-mul-cross-2
 mul-cross-2 c = search needs
@@ -77,25 +118,46 @@ word-requires-2 c κs = search needs
 
 cross-requires-2 : tie.Need-cross-requires-2
 cross-requires-2 c κs =
-    let s = c .before .before .before .before .before .before .before .before .before .before .before .before .before .before .before .before .before .before in (
-      s .pre .0,
+    let after-word2 : tie.After-word2 = search in
+    let else1 : tie.Else1 = search in
+    let start : tie.Start = search in
+    let roads = start .args .roads .now in let ends = start .args .ends .now in
+    let sections = start .args .sections .now in let junctions = start .args .junctions .now in
+    let connections = start .args .connections .now in let pairs = start .args .pairs .now in
+    let lanes = start .args .lanes .now in let owner = start .args .owner .now in
+    let sides = start .args .sides .now in let l = start .args .l in let link = start .args .link in
+    let rowsOf′ = rowsOf roads sections junctions connections pairs lanes owner sides ends in (
+      start .pre .0,
       (
-        s .pre .1 .0,
+        start .pre .1 .0,
         (
           (
-            s .pre .1 .1 .0 .0,
-            omega (arith, s .pre .1 .1 .0 .1),
-            s .pre .1 .1 .0 .2,
-            (λ e. let i : s .args .r .0 * 20 + (5 + 0 * 7) ≡ s .args .r .0 * 20 + 4 + 1 = omega arith in
-                let j : s .args .r .0 * 2 + 0 ≡ s .args .r .0 * 2 = omega arith in
-                let b = s .pre .0 .junction-ends (s .args .r .0) 0 (s .pre .1 .1 .0 .1) (omega arith) (ap (λ (z : ℕ). eqb (getD (s .args .roads .now) z 0) 1) i ∙ e) in
-                omega (arith, b, ap (λ (z : ℕ). getD (s .args .ends .now) z 0) j, c .before .word2 .ensures .0)),
-            (λ e. let i : s .args .r .0 * 20 + (5 + 0 * 7) ≡ s .args .r .0 * 20 + 4 + 1 = omega arith in
-                let j : s .args .r .0 * 2 + 0 ≡ s .args .r .0 * 2 = omega arith in
-                let b = s .pre .0 .road-ends (s .args .r .0) 0 (s .pre .1 .1 .0 .1) (omega arith) (ap (λ (z : ℕ). eqb (getD (s .args .roads .now) z 0) 1) i ∙ e) in
-                omega (arith, b, ap (λ (z : ℕ). getD (s .args .ends .now) z 0) j, c .before .word2 .ensures .0)),
+            start .pre .1 .1 .0 .0,
+            omega (arith, start .pre .1 .1 .0 .1),
+            start .pre .1 .1 .0 .2,
+            (λ e.
+                let i : start .args .r .0 * 20 + (5 + 0 * 7) ≡ start .args .r .0 * 20 + 4 + 1 =
+                omega arith in
+                let j : start .args .r .0 * 2 + 0 ≡ start .args .r .0 * 2 = omega arith in
+                let b = start .pre .0 .junction-ends (start .args .r .0) 0
+                (start .pre .1 .1 .0 .1) (omega arith)
+                (ap (λ (z : ℕ). eqb (getD roads z 0) 1) i ∙ e) in
+                omega (arith, b, ap (λ (z : ℕ). getD ends z 0) j, after-word2 .word2 .ensures .0)),
+            (λ e.
+                let i : start .args .r .0 * 20 + (5 + 0 * 7) ≡ start .args .r .0 * 20 + 4 + 1 =
+                omega arith in
+                let j : start .args .r .0 * 2 + 0 ≡ start .args .r .0 * 2 = omega arith in
+                let b = start .pre .0 .road-ends (start .args .r .0) 0 (start .pre .1 .1 .0 .1)
+                (omega arith) (ap (λ (z : ℕ). eqb (getD roads z 0) 1) i ∙ e) in
+                omega (arith, b, ap (λ (z : ℕ). getD ends z 0) j, after-word2 .word2 .ensures .0)),
           ),
-          subst (λ (es : List Entry). Room (s .args .n) es (s .args .run .now)) (ap (λ (f : Bool). crossByRow (rowsOf (s .args .roads .now) (s .args .sections .now) (s .args .junctions .now) (s .args .connections .now) (s .args .pairs .now) (s .args .lanes .now) (s .args .owner .now) (s .args .sides .now) (s .args .ends .now)) (s .args .l) (pick f (s .args .r .0 * 20 + 4) (s .args .r .0 * 20 + 11)) (pick f (getD (s .args .ends .now) (s .args .r .0 * 2) 0) (getD (s .args .ends .now) (s .args .r .0 * 2 + 1) 0)) (s .args .link)) (c .before .before .if1 .left) ∙ ap (λ (w : ℕ). crossByRow (rowsOf (s .args .roads .now) (s .args .sections .now) (s .args .junctions .now) (s .args .connections .now) (s .args .pairs .now) (s .args .lanes .now) (s .args .owner .now) (s .args .sides .now) (s .args .ends .now)) (s .args .l) (s .args .r .0 * 20 + 4) w (s .args .link)) (sym (c .before .word2 .ensures .0))) (s .pre .1 .1 .1),
+          subst (λ (es : List Entry). Room (start .args .n) es (start .args .run .now))
+              (ap (λ (f : Bool).
+              crossByRow rowsOf′ l (pick f (start .args .r .0 * 20 + 4) (start .args .r .0 * 20 + 11))
+              (pick f (getD ends (start .args .r .0 * 2) 0) (getD ends (start .args .r .0 * 2 + 1) 0))
+              link) (else1 .if1 .left)
+              ∙ ap (λ (w : ℕ). crossByRow rowsOf′ l (start .args .r .0 * 20 + 4) w link)
+              (sym (after-word2 .word2 .ensures .0))) (start .pre .1 .1 .1),
         ),
       ),
     )
@@ -105,8 +167,28 @@ same-length-2 c = search needs
 
 returns-2 : tie.Need-returns-2
 returns-2 c =
-    let s = c .before .before .before .before .before .before .before .before .before .before .before .before .before .before .before .before .before .before .before .before .before in
-    subst (λ (es : List Entry). Took (s .args .both) (s .args .n) es (s .args .run .now) (c .before .before .cross2 .last .1 .1 .1 .1 .1 .1 .1 .1 .1 .1 .1 .1 .1 .1 .1 .1 .1 .1 .0) (c .before .before .cross2 .result)) (sym (ap (λ (f : Bool). crossByRow (rowsOf (s .args .roads .now) (s .args .sections .now) (s .args .junctions .now) (s .args .connections .now) (s .args .pairs .now) (s .args .lanes .now) (s .args .owner .now) (s .args .sides .now) (s .args .ends .now)) (s .args .l) (pick f (s .args .r .0 * 20 + 4) (s .args .r .0 * 20 + 11)) (pick f (getD (s .args .ends .now) (s .args .r .0 * 2) 0) (getD (s .args .ends .now) (s .args .r .0 * 2 + 1) 0)) (s .args .link)) (c .before .before .before .before .before .if1 .left) ∙ ap (λ (w : ℕ). crossByRow (rowsOf (s .args .roads .now) (s .args .sections .now) (s .args .junctions .now) (s .args .connections .now) (s .args .pairs .now) (s .args .lanes .now) (s .args .owner .now) (s .args .sides .now) (s .args .ends .now)) (s .args .l) (s .args .r .0 * 20 + 4) w (s .args .link)) (sym (c .before .before .before .before .word2 .ensures .0)))) (c .before .before .cross2 .ensures)
+    let after-cross2 : tie.After-cross2 = search in
+    let after-word2 : tie.After-word2 = search in
+    let else1 : tie.Else1 = search in
+    let after-shared-slice-known9 = else1 .before .before .before .before .before .before .before in
+    let after-shared-slice-known2 = after-shared-slice-known9 .before .before .before .before .before .before .before in
+    let start = after-shared-slice-known2 .before .before in
+    let roads = start .args .roads .now in let sections = start .args .sections .now in
+    let junctions = start .args .junctions .now in let connections = start .args .connections .now in
+    let pairs = start .args .pairs .now in let lanes = start .args .lanes .now in
+    let owner = start .args .owner .now in let sides = start .args .sides .now in
+    let ends = start .args .ends .now in let l = start .args .l in let link = start .args .link in
+    let rowsOf′ = rowsOf roads sections junctions connections pairs lanes owner sides ends in
+    subst (λ (es : List Entry).
+    Took (start .args .both) (start .args .n) es (start .args .run .now)
+    (after-cross2 .cross2 .last .1 .1 .1 .1 .1 .1 .1 .1 .1 .1 .1 .1 .1 .1 .1 .1 .1 .1 .0)
+    (after-cross2 .cross2 .result))
+    (sym (ap (λ (f : Bool).
+    crossByRow rowsOf′ l (pick f (start .args .r .0 * 20 + 4) (start .args .r .0 * 20 + 11))
+    (pick f (getD ends (start .args .r .0 * 2) 0) (getD ends (start .args .r .0 * 2 + 1) 0)) link)
+    (else1 .if1 .left)
+    ∙ ap (λ (w : ℕ). crossByRow rowsOf′ l (start .args .r .0 * 20 + 4) w link)
+    (sym (after-word2 .word2 .ensures .0)))) (after-cross2 .cross2 .ensures)
 
 pub leave-spec : {M : Type 1} → statement M
 leave-spec =

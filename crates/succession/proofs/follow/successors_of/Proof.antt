@@ -21,34 +21,145 @@ shared-slice-read-direction : tie.Need-shared-slice-read-direction
 shared-slice-read-direction c = search needs
 
 exits-requires : tie.Need-exits-requires
-exits-requires c κs = let s = c .before .before .before .before .before .before .before .before .before .before .before .before .before .before .before .before .before in (s .pre .0, (s .pre .1 .0, (s .pre .1 .1 .0, (room-none (exitsByRow (rowsOf (s .args .roads .now) (s .args .sections .now) (s .args .junctions .now) (s .args .connections .now) (s .args .pairs .now) (s .args .lanes .now) (s .args .owner .now) (s .args .sides .now) (s .args .ends .now)) (s .args .l) true) (s .args .run .now) (omega (arith, s .pre .1 .1 .1))))))
+exits-requires c κs =
+    let start : tie.Start = search in (
+      start .pre .0,
+      (
+        start .pre .1 .0,
+        (
+          start .pre .1 .1 .0,
+          (room-none (exitsByRow (rowsOf (start .args .roads .now) (start .args .sections .now)
+              (start .args .junctions .now) (start .args .connections .now) (start .args .pairs .now)
+              (start .args .lanes .now) (start .args .owner .now) (start .args .sides .now)
+              (start .args .ends .now)) (start .args .l) true) (start .args .run .now)
+              (omega (arith, start .pre .1 .1 .1))),
+        ),
+      ),
+    )
 
 same-length : tie.Need-same-length
 same-length c = search needs
 
 returns : tie.Need-returns
-returns c = let s = c .before .before .before .before .before .before .before .before .before .before .before .before .before .before .before .before .before .before .before .before in resolved-forward (rowsOf (s .args .roads .now) (s .args .sections .now) (s .args .junctions .now) (s .args .connections .now) (s .args .pairs .now) (s .args .lanes .now) (s .args .owner .now) (s .args .sides .now) (s .args .ends .now)) (s .args .l) (s .args .run .now) (c .before .before .exits .last .1 .1 .1 .1 .1 .1 .1 .1 .1 .1 .1 .1 .1 .1 .1 .1 .0) (c .before .before .exits .result) (c .before .before .before .before .if1 .taken) (c .before .before .exits .ensures)
+returns c =
+    let after-exits : tie.After-exits = search in
+    let then1 : tie.Then1 = search in
+    let after-shared-slice-known9 = then1 .before .before .before .before .before .before .before in
+    let after-shared-slice-known2 = after-shared-slice-known9 .before .before .before .before .before .before .before in
+    let start = after-shared-slice-known2 .before .before in
+    resolved-forward (rowsOf (start .args .roads .now) (start .args .sections .now)
+    (start .args .junctions .now) (start .args .connections .now) (start .args .pairs .now)
+    (start .args .lanes .now) (start .args .owner .now) (start .args .sides .now) (start .args .ends .now))
+    (start .args .l) (start .args .run .now)
+    (after-exits .exits .last .1 .1 .1 .1 .1 .1 .1 .1 .1 .1 .1 .1 .1 .1 .1 .1 .0) (after-exits .exits .result)
+    (then1 .if1 .taken) (after-exits .exits .ensures)
 
 exits-requires-2 : tie.Need-exits-requires-2
-exits-requires-2 c κs = let s = c .before .before .before .before .before .before .before .before .before .before .before .before .before .before .before .before .before .before in (s .pre .0, (s .pre .1 .0, (s .pre .1 .1 .0, (room-none (exitsByRow (rowsOf (s .args .roads .now) (s .args .sections .now) (s .args .junctions .now) (s .args .connections .now) (s .args .pairs .now) (s .args .lanes .now) (s .args .owner .now) (s .args .sides .now) (s .args .ends .now)) (s .args .l) false) (s .args .run .now) (omega (arith, s .pre .1 .1 .1))))))
+exits-requires-2 c κs =
+    let start : tie.Start = search in (
+      start .pre .0,
+      (
+        start .pre .1 .0,
+        (
+          start .pre .1 .1 .0,
+          (room-none (exitsByRow (rowsOf (start .args .roads .now) (start .args .sections .now)
+              (start .args .junctions .now) (start .args .connections .now) (start .args .pairs .now)
+              (start .args .lanes .now) (start .args .owner .now) (start .args .sides .now)
+              (start .args .ends .now)) (start .args .l) false) (start .args .run .now)
+              (omega (arith, start .pre .1 .1 .1))),
+        ),
+      ),
+    )
 
 same-length-2 : tie.Need-same-length-2
 same-length-2 c = search needs
 
 returns-2 : tie.Need-returns-2
-returns-2 c = let s = c .before .before .before .before .before .before .before .before .before .before .before .before .before .before .before .before .before .before .before .before .before in resolved-backward (rowsOf (s .args .roads .now) (s .args .sections .now) (s .args .junctions .now) (s .args .connections .now) (s .args .pairs .now) (s .args .lanes .now) (s .args .owner .now) (s .args .sides .now) (s .args .ends .now)) (s .args .l) (s .args .run .now) (c .before .before .exits2 .last .1 .1 .1 .1 .1 .1 .1 .1 .1 .1 .1 .1 .1 .1 .1 .1 .0) (c .before .before .exits2 .result) (c .before .before .before .before .if2 .taken) (c .before .before .exits2 .ensures)
+returns-2 c =
+    let after-exits2 : tie.After-exits2 = search in
+    let then2 : tie.Then2 = search in
+    let after-shared-slice-known10 = then2 .before .before .before .before .before .before .before in
+    let after-shared-slice-known3 = after-shared-slice-known10 .before .before .before .before .before .before .before in
+    let start = after-shared-slice-known3 .before .before .before in
+    resolved-backward (rowsOf (start .args .roads .now) (start .args .sections .now)
+    (start .args .junctions .now) (start .args .connections .now) (start .args .pairs .now)
+    (start .args .lanes .now) (start .args .owner .now) (start .args .sides .now) (start .args .ends .now))
+    (start .args .l) (start .args .run .now)
+    (after-exits2 .exits2 .last .1 .1 .1 .1 .1 .1 .1 .1 .1 .1 .1 .1 .1 .1 .1 .1 .0)
+    (after-exits2 .exits2 .result) (then2 .if2 .taken) (after-exits2 .exits2 .ensures)
 
 exits-requires-3 : tie.Need-exits-requires-3
-exits-requires-3 c κs = let s = c .before .before .before .before .before .before .before .before .before .before .before .before .before .before .before .before .before .before in (s .pre .0, (s .pre .1 .0, (s .pre .1 .1 .0, (room-none (exitsByRow (rowsOf (s .args .roads .now) (s .args .sections .now) (s .args .junctions .now) (s .args .connections .now) (s .args .pairs .now) (s .args .lanes .now) (s .args .owner .now) (s .args .sides .now) (s .args .ends .now)) (s .args .l) true) (s .args .run .now) (omega (arith, s .pre .1 .1 .1))))))
+exits-requires-3 c κs =
+    let start : tie.Start = search in (
+      start .pre .0,
+      (
+        start .pre .1 .0,
+        (
+          start .pre .1 .1 .0,
+          (room-none (exitsByRow (rowsOf (start .args .roads .now) (start .args .sections .now)
+              (start .args .junctions .now) (start .args .connections .now) (start .args .pairs .now)
+              (start .args .lanes .now) (start .args .owner .now) (start .args .sides .now)
+              (start .args .ends .now)) (start .args .l) true) (start .args .run .now)
+              (omega (arith, start .pre .1 .1 .1))),
+        ),
+      ),
+    )
 
 exits-requires-4 : tie.Need-exits-requires-4
-exits-requires-4 c κs = let s = c .before .before .before .before .before .before .before .before .before .before .before .before .before .before .before .before .before .before .before .before .before .before in (s .pre .0, (s .pre .1 .0, (s .pre .1 .1 .0, room-after true 0 (exitsByRow (rowsOf (s .args .roads .now) (s .args .sections .now) (s .args .junctions .now) (s .args .connections .now) (s .args .pairs .now) (s .args .lanes .now) (s .args .owner .now) (s .args .sides .now) (s .args .ends .now)) (s .args .l) true) (s .args .run .now) (c .before .before .before .exits3 .last .1 .1 .1 .1 .1 .1 .1 .1 .1 .1 .1 .1 .1 .1 .1 .1 .0) (c .before .before .before .exits3 .result) (c .before .before .before .exits3 .ensures) (omega (arith, s .pre .1 .1 .1)) (exitsByRow (rowsOf (s .args .roads .now) (s .args .sections .now) (s .args .junctions .now) (s .args .connections .now) (s .args .pairs .now) (s .args .lanes .now) (s .args .owner .now) (s .args .sides .now) (s .args .ends .now)) (s .args .l) false) ((room-none (exitsByRow (rowsOf (s .args .roads .now) (s .args .sections .now) (s .args .junctions .now) (s .args .connections .now) (s .args .pairs .now) (s .args .lanes .now) (s .args .owner .now) (s .args .sides .now) (s .args .ends .now)) (s .args .l) true) (s .args .run .now) (omega (arith, s .pre .1 .1 .1))) .rising) (omega (arith, s .pre .1 .1 .1, length-append (exitsByRow (rowsOf (s .args .roads .now) (s .args .sections .now) (s .args .junctions .now) (s .args .connections .now) (s .args .pairs .now) (s .args .lanes .now) (s .args .owner .now) (s .args .sides .now) (s .args .ends .now)) (s .args .l) true) (exitsByRow (rowsOf (s .args .roads .now) (s .args .sections .now) (s .args .junctions .now) (s .args .connections .now) (s .args .pairs .now) (s .args .lanes .now) (s .args .owner .now) (s .args .sides .now) (s .args .ends .now)) (s .args .l) false))))))
+exits-requires-4 c κs =
+    let after-exits3 : tie.After-exits3 = search in
+    let after-shared-slice-known12 = after-exits3 .before .before .before .before .before .before .before in
+    let after-shared-slice-known5 = after-shared-slice-known12 .before .before .before .before .before .before .before in
+    let start = after-shared-slice-known5 .before .before .before .before .before in
+    let roads = start .args .roads .now in let sections = start .args .sections .now in
+    let junctions = start .args .junctions .now in let connections = start .args .connections .now in
+    let pairs = start .args .pairs .now in let lanes = start .args .lanes .now in
+    let owner = start .args .owner .now in let sides = start .args .sides .now in
+    let ends = start .args .ends .now in let l = start .args .l in let run = start .args .run .now in
+    let rowsOf′ = rowsOf roads sections junctions connections pairs lanes owner sides ends in
+    let exitsByRow′ = exitsByRow rowsOf′ l true in (
+      start .pre .0,
+      (
+        start .pre .1 .0,
+        (
+          start .pre .1 .1 .0,
+          room-after true 0 exitsByRow′ run
+              (after-exits3 .exits3 .last .1 .1 .1 .1 .1 .1 .1 .1 .1 .1 .1 .1 .1 .1 .1 .1 .0)
+              (after-exits3 .exits3 .result) (after-exits3 .exits3 .ensures)
+              (omega (arith, start .pre .1 .1 .1)) (exitsByRow rowsOf′ l false)
+              ((room-none exitsByRow′ run (omega (arith, start .pre .1 .1 .1))) .rising)
+              (omega
+              (arith, start .pre .1 .1 .1, length-append exitsByRow′ (exitsByRow rowsOf′ l false))),
+        ),
+      ),
+    )
 
 same-length-3 : tie.Need-same-length-3
 same-length-3 c = search needs
 
 returns-3 : tie.Need-returns-3
-returns-3 c = let s = c .before .before .before .before .before .before .before .before .before .before .before .before .before .before .before .before .before .before .before .before .before .before .before .before .before in resolved-both (rowsOf (s .args .roads .now) (s .args .sections .now) (s .args .junctions .now) (s .args .connections .now) (s .args .pairs .now) (s .args .lanes .now) (s .args .owner .now) (s .args .sides .now) (s .args .ends .now)) (s .args .l) (s .args .run .now) (c .before .before .exits4 .last .1 .1 .1 .1 .1 .1 .1 .1 .1 .1 .1 .1 .1 .1 .1 .1 .0) (c .before .before .exits4 .result) (c .before .before .before .before .before .before .before .before .before .if1 .left) (c .before .before .before .before .before .before .before .before .if2 .left) (took-more true 0 (exitsByRow (rowsOf (s .args .roads .now) (s .args .sections .now) (s .args .junctions .now) (s .args .connections .now) (s .args .pairs .now) (s .args .lanes .now) (s .args .owner .now) (s .args .sides .now) (s .args .ends .now)) (s .args .l) true) (s .args .run .now) (c .before .before .before .before .before .before .exits3 .last .1 .1 .1 .1 .1 .1 .1 .1 .1 .1 .1 .1 .1 .1 .1 .1 .0) (c .before .before .before .before .before .before .exits3 .result) (c .before .before .before .before .before .before .exits3 .ensures) (omega (arith, s .pre .1 .1 .1)) (exitsByRow (rowsOf (s .args .roads .now) (s .args .sections .now) (s .args .junctions .now) (s .args .connections .now) (s .args .pairs .now) (s .args .lanes .now) (s .args .owner .now) (s .args .sides .now) (s .args .ends .now)) (s .args .l) false) (c .before .before .exits4 .last .1 .1 .1 .1 .1 .1 .1 .1 .1 .1 .1 .1 .1 .1 .1 .1 .0) (c .before .before .exits4 .result) (c .before .before .exits4 .ensures))
+returns-3 c =
+    let after-exits4 : tie.After-exits4 = search in
+    let after-exits3 : tie.After-exits3 = search in
+    let else2 : tie.Else2 = search in
+    let else1 : tie.Else1 = search in
+    let after-shared-slice-known9 = else1 .before .before .before .before .before .before .before in
+    let after-shared-slice-known2 = after-shared-slice-known9 .before .before .before .before .before .before .before in
+    let start = after-shared-slice-known2 .before .before in
+    let roads = start .args .roads .now in let sections = start .args .sections .now in
+    let junctions = start .args .junctions .now in let connections = start .args .connections .now in
+    let pairs = start .args .pairs .now in let lanes = start .args .lanes .now in
+    let owner = start .args .owner .now in let sides = start .args .sides .now in
+    let ends = start .args .ends .now in let l = start .args .l in let run = start .args .run .now in
+    let rowsOf′ = rowsOf roads sections junctions connections pairs lanes owner sides ends in
+    resolved-both rowsOf′ l run (after-exits4 .exits4 .last .1 .1 .1 .1 .1 .1 .1 .1 .1 .1 .1 .1 .1 .1 .1 .1 .0)
+    (after-exits4 .exits4 .result) (else1 .if1 .left) (else2 .if2 .left)
+    (took-more true 0 (exitsByRow rowsOf′ l true) run
+    (after-exits3 .exits3 .last .1 .1 .1 .1 .1 .1 .1 .1 .1 .1 .1 .1 .1 .1 .1 .1 .0)
+    (after-exits3 .exits3 .result) (after-exits3 .exits3 .ensures) (omega (arith, start .pre .1 .1 .1))
+    (exitsByRow rowsOf′ l false)
+    (after-exits4 .exits4 .last .1 .1 .1 .1 .1 .1 .1 .1 .1 .1 .1 .1 .1 .1 .1 .1 .0)
+    (after-exits4 .exits4 .result) (after-exits4 .exits4 .ensures))
 
 pub successors-of-spec : {M : Type 1} → statement M
 successors-of-spec =

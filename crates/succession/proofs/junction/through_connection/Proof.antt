@@ -11,19 +11,61 @@ use Rattle.succession.proofs.junction.through_connection.Statement.{sta
 use Rattle.succession.proofs.junction.through_connection.Tie as tie
 
 comes-from-requires : tie.Need-comes-from-requires
-comes-from-requires c κs = let s = (c .before .before .before .before .before .before .before .before .before .before .before .before) in (s .pre .1 .0 .0, omega (arith, s .pre .0 .sides-long, s .pre .1 .0 .1))
+comes-from-requires c κs =
+    let start : tie.Start = search in
+    (start .pre .1 .0 .0, omega (arith, start .pre .0 .sides-long, start .pre .1 .0 .1))
 
 returns : tie.Need-returns
-returns c = let s = (c .before .before .before .before .before .before .before .before .before .before .before .before .before .before) in subst (λ (es : List Entry). Took (s .args .both) (s .args .n) es (s .args .run .now) (s .args .run .now) (s .args .n)) (sym (meeting-none (rowsOf (s .args .roads .now) (s .args .sections .now) (s .args .junctions .now) (s .args .connections .now) (s .args .pairs .now) (s .args .lanes .now) (s .args .owner .now) (s .args .sides .now) (s .args .ends .now)) (s .args .j) (s .args .road) (s .args .k) (s .args .c) (sym (c .before .comes-from .ensures) ∙ not-true _ (c .if1 .taken)))) (took-none (s .args .both) (s .args .n) (s .args .run .now) (omega (arith, s .pre .1 .1 .fits)))
+returns c =
+    let after-comes-from : tie.After-comes-from = search in
+    let start : tie.Start = search in
+    let both = start .args .both in let n = start .args .n in let run = start .args .run .now in
+    subst (λ (es : List Entry). Took both n es run run n)
+    (sym (meeting-none (rowsOf (start .args .roads .now) (start .args .sections .now)
+    (start .args .junctions .now) (start .args .connections .now) (start .args .pairs .now)
+    (start .args .lanes .now) (start .args .owner .now) (start .args .sides .now) (start .args .ends .now))
+    (start .args .j) (start .args .road) (start .args .k) (start .args .c)
+    (sym (after-comes-from .comes-from .ensures) ∙ not-true _ (c .if1 .taken))))
+    (took-none both n run (omega (arith, start .pre .1 .1 .fits)))
 
 through-pairs-requires : tie.Need-through-pairs-requires
-through-pairs-requires c κs = let s = (c .before .before .before .before .before .before .before .before .before .before .before .before .before .before .before) in (s .pre .0, (s .pre .1 .0 .1, subst (λ (es : List Entry). Room (s .args .n) es (s .args .run .now)) (meeting-leads (rowsOf (s .args .roads .now) (s .args .sections .now) (s .args .junctions .now) (s .args .connections .now) (s .args .pairs .now) (s .args .lanes .now) (s .args .owner .now) (s .args .sides .now) (s .args .ends .now)) (s .args .j) (s .args .road) (s .args .k) (s .args .c) (sym (c .before .before .comes-from .ensures) ∙ not-false _ (c .before .if1 .left))) (s .pre .1 .1)))
+through-pairs-requires c κs =
+    let else1 : tie.Else1 = search in
+    let after-comes-from : tie.After-comes-from = search in
+    let start : tie.Start = search in (
+      start .pre .0,
+      (
+        start .pre .1 .0 .1,
+        subst (λ (es : List Entry). Room (start .args .n) es (start .args .run .now))
+            (meeting-leads (rowsOf (start .args .roads .now) (start .args .sections .now)
+            (start .args .junctions .now) (start .args .connections .now) (start .args .pairs .now)
+            (start .args .lanes .now) (start .args .owner .now) (start .args .sides .now)
+            (start .args .ends .now)) (start .args .j) (start .args .road) (start .args .k)
+            (start .args .c) (sym (after-comes-from .comes-from .ensures) ∙ not-false _ (else1 .if1 .left)))
+            (start .pre .1 .1),
+      ),
+    )
 
 same-length : tie.Need-same-length
 same-length c = search needs
 
 returns-2 : tie.Need-returns-2
-returns-2 c = let s = (c .before .before .before .before .before .before .before .before .before .before .before .before .before .before .before .before .before .before) in subst (λ (es : List Entry). Took (s .args .both) (s .args .n) es (s .args .run .now) (c .before .before .through-pairs .last .1 .1 .1 .1 .1 .1 .1 .1 .1 .1 .1 .1 .1 .1 .0) (c .before .before .through-pairs .result)) (sym (meeting-leads (rowsOf (s .args .roads .now) (s .args .sections .now) (s .args .junctions .now) (s .args .connections .now) (s .args .pairs .now) (s .args .lanes .now) (s .args .owner .now) (s .args .sides .now) (s .args .ends .now)) (s .args .j) (s .args .road) (s .args .k) (s .args .c) (sym (c .before .before .before .before .before .comes-from .ensures) ∙ not-false _ (c .before .before .before .before .if1 .left)))) (c .before .before .through-pairs .ensures)
+returns-2 c =
+    let after-through-pairs : tie.After-through-pairs = search in
+    let else1 : tie.Else1 = search in
+    let after-comes-from : tie.After-comes-from = search in
+    let after-shared-slice-known6 = after-comes-from .before .before .before .before .before .before .before in
+    let start = after-shared-slice-known6 .before .before .before .before .before .before in
+    subst (λ (es : List Entry).
+    Took (start .args .both) (start .args .n) es (start .args .run .now)
+    (after-through-pairs .through-pairs .last .1 .1 .1 .1 .1 .1 .1 .1 .1 .1 .1 .1 .1 .1 .0)
+    (after-through-pairs .through-pairs .result))
+    (sym (meeting-leads (rowsOf (start .args .roads .now) (start .args .sections .now)
+    (start .args .junctions .now) (start .args .connections .now) (start .args .pairs .now)
+    (start .args .lanes .now) (start .args .owner .now) (start .args .sides .now) (start .args .ends .now))
+    (start .args .j) (start .args .road) (start .args .k) (start .args .c)
+    (sym (after-comes-from .comes-from .ensures) ∙ not-false _ (else1 .if1 .left))))
+    (after-through-pairs .through-pairs .ensures)
 
 pub through-connection-spec : {M : Type 1} → statement M
 through-connection-spec =

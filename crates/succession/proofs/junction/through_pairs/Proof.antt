@@ -12,11 +12,16 @@ use Rattle.succession.proofs.junction.through_pairs.Statement.{statemen
 use Rattle.succession.proofs.junction.through_pairs.Tie as tie
 
 abbrev Inv-loop : tie.InvT-loop
-Inv-loop roads sections junctions connections pairs lanes owner sides ends heads next c k both run₀ start road contact section first end n₀ p₀ run n p =
-    (first ≤ p) × (p ≤ end) × Took both start (ranged first (p - first) (pairEntry pairs lanes owner road section (flag contact) k)) run₀ run n
+Inv-loop roads sections junctions connections pairs lanes owner sides ends heads next c k both run₀ start
+    road contact section first end n₀ p₀ run n p =
+    (first ≤ p)
+    × (p ≤ end)
+    × Took both start (ranged first (p - first) (pairEntry pairs lanes owner road section (flag contact) k))
+    run₀ run n
 
 abbrev μ-loop : tie.MeasureT-loop
-μ-loop roads sections junctions connections pairs lanes owner sides ends heads next c k both run₀ start road contact section first end n₀ p₀ run n p =
+μ-loop roads sections junctions connections pairs lanes owner sides ends heads next c k both run₀ start road
+    contact section first end n₀ p₀ run n p =
     end - p
 
 mul-word : tie.Need-mul-word Inv-loop μ-loop
@@ -26,7 +31,9 @@ add-word : tie.Need-add-word Inv-loop μ-loop
 add-word c = search needs
 
 word-requires : tie.Need-word-requires Inv-loop μ-loop
-word-requires c κs = omega (arith, c .before .before .before .before .before .before .before .before .before .before .before .before .pre .0 .sides-long, c .before .before .before .before .before .before .before .before .before .before .before .before .pre .1 .0)
+word-requires c κs =
+    let start : tie.Start Inv-loop μ-loop = search in
+    omega (arith, start .pre .0 .sides-long, start .pre .1 .0)
 
 mul-contact : tie.Need-mul-contact Inv-loop μ-loop
 mul-contact c = search needs
@@ -38,10 +45,18 @@ mul-contact-2 : tie.Need-mul-contact-2 Inv-loop μ-loop
 mul-contact-2 c = search needs
 
 shared-slice-read-contact : tie.Need-shared-slice-read-contact Inv-loop μ-loop
-shared-slice-read-contact c = omega (arith, c .before .before .before .before .before .before .before .before .before .before .before .before .before .before .pre .1 .0)
+shared-slice-read-contact c =
+    let start : tie.Start Inv-loop μ-loop = search in
+    omega (arith, start .pre .1 .0)
 
 end-section-requires : tie.Need-end-section-requires Inv-loop μ-loop
-end-section-requires c κs = (let s = c .before .before .before .before .before .before .before .before .before .before .before .before .before .before in omega (arith, c .before .word .ensures .0, s .pre .0 .sides-high (s .args .c) (s .pre .1 .0)), c .before .before .before .before .before .before .before .before .before .before .before .before .before .before .pre .0 .section-parts)
+end-section-requires c κs =
+    let after-word : tie.After-word Inv-loop μ-loop = search in
+    let start : tie.Start Inv-loop μ-loop = search in (
+      let s = start in
+          omega (arith, after-word .word .ensures .0, s .pre .0 .sides-high (s .args .c) (s .pre .1 .0)),
+      start .pre .0 .section-parts,
+    )
 
 mul-word-2 : tie.Need-mul-word-2 Inv-loop μ-loop
 mul-word-2 c = search needs
@@ -50,7 +65,9 @@ add-word-2 : tie.Need-add-word-2 Inv-loop μ-loop
 add-word-2 c = search needs
 
 word-requires-2 : tie.Need-word-requires-2 Inv-loop μ-loop
-word-requires-2 c κs = omega (arith, c .before .before .before .before .before .before .before .before .before .before .before .before .before .before .before .pre .1 .0)
+word-requires-2 c κs =
+    let start : tie.Start Inv-loop μ-loop = search in
+    omega (arith, start .pre .1 .0)
 
 mul-word-3 : tie.Need-mul-word-3 Inv-loop μ-loop
 mul-word-3 c = search needs
@@ -59,23 +76,85 @@ add-word-3 : tie.Need-add-word-3 Inv-loop μ-loop
 add-word-3 c = search needs
 
 word-requires-3 : tie.Need-word-requires-3 Inv-loop μ-loop
-word-requires-3 c κs = omega (arith, c .before .before .before .before .before .before .before .before .before .before .before .before .before .before .before .before .pre .1 .0)
+word-requires-3 c κs =
+    let start : tie.Start Inv-loop μ-loop = search in
+    omega (arith, start .pre .1 .0)
 
 add-end : tie.Need-add-end Inv-loop μ-loop
-add-end c = omega (arith, c .before .word2 .ensures .1, c .word3 .ensures .1)
+add-end c =
+    let after-word2 : tie.After-word2 Inv-loop μ-loop = search in
+    omega (arith, after-word2 .word2 .ensures .1, c .word3 .ensures .1)
 
 loop-holds : tie.Need-loop-holds Inv-loop μ-loop
-loop-holds c = let s = c .before .before .before .before .before .before .before .before .before .before .before .before .before .before .before .before .before in (omega arith, omega arith, turns-begin (s .args .both) (s .args .start) (c .before .word2 .result) (c .word3 .result) (pairEntry (s .args .pairs .now) (s .args .lanes .now) (s .args .owner .now) (c .before .before .before .before .word .result) (c .before .before .end-section .result) (flag (getD (s .args .connections .now) (s .args .c * 7 + 4) 0)) (s .args .k)) (s .args .run .now) (subst (λ (es : List Entry). Room (s .args .start) es (s .args .run .now)) (pairs-by (s .args .roads .now) (s .args .sections .now) (s .args .junctions .now) (s .args .connections .now) (s .args .pairs .now) (s .args .lanes .now) (s .args .owner .now) (s .args .sides .now) (s .args .ends .now) (s .args .c) (s .args .k) (c .before .before .before .before .word .result) (c .before .before .end-section .result) (c .before .word2 .result) (c .word3 .result) (c .before .before .before .before .word .ensures .0) (c .before .before .end-section .ensures) (c .before .word2 .ensures .0) (c .word3 .ensures .0)) (s .pre .1 .1)) (c .before .word2 .result) refl)
+loop-holds c =
+    let after-word2 : tie.After-word2 Inv-loop μ-loop = search in
+    let after-end-section : tie.After-end-section Inv-loop μ-loop = search in
+    let after-word : tie.After-word Inv-loop μ-loop = search in
+    let after-shared-slice-known6 = after-word .before .before .before .before .before .before .before in
+    let start = after-shared-slice-known6 .before .before .before .before .before .before in
+    let pairs = start .args .pairs .now in let lanes = start .args .lanes .now in
+    let owner = start .args .owner .now in let connections = start .args .connections .now in
+    let k = start .args .k in let run = start .args .run .now in (
+      omega arith,
+      omega arith,
+      turns-begin (start .args .both) (start .args .start) (after-word2 .word2 .result) (c .word3 .result)
+          (pairEntry pairs lanes owner (after-word .word .result) (after-end-section .end-section .result)
+          (flag (getD connections (start .args .c * 7 + 4) 0)) k) run
+          (subst (λ (es : List Entry). Room (start .args .start) es run)
+          (pairs-by (start .args .roads .now) (start .args .sections .now) (start .args .junctions .now)
+          connections pairs lanes owner (start .args .sides .now) (start .args .ends .now) (start .args .c) k
+          (after-word .word .result) (after-end-section .end-section .result) (after-word2 .word2 .result)
+          (c .word3 .result) (after-word .word .ensures .0) (after-end-section .end-section .ensures)
+          (after-word2 .word2 .ensures .0) (c .word3 .ensures .0)) (start .pre .1 .1))
+          (after-word2 .word2 .result) refl,
+    )
 
 through-pair-requires : tie.Need-through-pair-requires Inv-loop μ-loop
 through-pair-requires c κs =
-    let s = c .before .before .before .before .before .before .before .before .before .before .before .before .before .before .before .before .before .before .before .before in (
-      (omega (arith, c .before .before .before .before .before .before .before .word .ensures .1), s .pre .0 .owner-long, s .pre .0 .buckets, s .pre .0 .links, s .pre .0 .few),
+    let in-loop : tie.In-loop Inv-loop μ-loop = search in
+    let at-loop : tie.At-loop Inv-loop μ-loop = search in
+    let after-word3 : tie.After-word3 Inv-loop μ-loop = search in
+    let after-word2 : tie.After-word2 Inv-loop μ-loop = search in
+    let after-end-section : tie.After-end-section Inv-loop μ-loop = search in
+    let after-word : tie.After-word Inv-loop μ-loop = search in
+    let after-shared-slice-known6 = after-word .before .before .before .before .before .before .before in
+    let start = after-shared-slice-known6 .before .before .before .before .before .before in
+    let pairs = start .args .pairs .now in let lanes = start .args .lanes .now in
+    let owner = start .args .owner .now in let connections = start .args .connections .now in
+    let k = start .args .k in let run = start .args .run .now in (
       (
-        s .pre .0 .chained,
+        omega (arith, after-word .word .ensures .1),
+        start .pre .0 .owner-long,
+        start .pre .0 .buckets,
+        start .pre .0 .links,
+        start .pre .0 .few,
+      ),
+      (
+        start .pre .0 .chained,
         (
-          omega (arith, s .pre .0 .pair-parts (s .args .c) (s .pre .1 .0), c .before .before .before .before .word2 .ensures .0, c .before .before .before .word3 .ensures .0, c .before .before .loop .inv .1, c .before .loop-test .taken),
-          turns-room (s .args .both) (s .args .start) (c .before .before .before .before .word2 .result) (c .before .before .before .word3 .result) (pairEntry (s .args .pairs .now) (s .args .lanes .now) (s .args .owner .now) (c .before .before .before .before .before .before .before .word .result) (c .before .before .before .before .before .end-section .result) (flag (getD (s .args .connections .now) (s .args .c * 7 + 4) 0)) (s .args .k)) (s .args .run .now) (subst (λ (es : List Entry). Room (s .args .start) es (s .args .run .now)) (pairs-by (s .args .roads .now) (s .args .sections .now) (s .args .junctions .now) (s .args .connections .now) (s .args .pairs .now) (s .args .lanes .now) (s .args .owner .now) (s .args .sides .now) (s .args .ends .now) (s .args .c) (s .args .k) (c .before .before .before .before .before .before .before .word .result) (c .before .before .before .before .before .end-section .result) (c .before .before .before .before .word2 .result) (c .before .before .before .word3 .result) (c .before .before .before .before .before .before .before .word .ensures .0) (c .before .before .before .before .before .end-section .ensures) (c .before .before .before .before .word2 .ensures .0) (c .before .before .before .word3 .ensures .0)) (s .pre .1 .1)) (c .before .before .loop .p) (c .before .before .loop .n) (c .before .before .loop .run) (c .before .before .loop .inv .2) (c .before .before .loop .inv .0) (omega (arith, c .before .loop-test .taken)),
+          omega (
+            arith,
+            start .pre .0 .pair-parts (start .args .c) (start .pre .1 .0),
+            after-word2 .word2 .ensures .0,
+            after-word3 .word3 .ensures .0,
+            at-loop .loop .inv .1,
+            in-loop .loop-test .taken,
+          ),
+          turns-room (start .args .both) (start .args .start) (after-word2 .word2 .result)
+              (after-word3 .word3 .result)
+              (pairEntry pairs lanes owner (after-word .word .result)
+              (after-end-section .end-section .result)
+              (flag (getD connections (start .args .c * 7 + 4) 0)) k) run
+              (subst (λ (es : List Entry). Room (start .args .start) es run)
+              (pairs-by (start .args .roads .now) (start .args .sections .now)
+              (start .args .junctions .now) connections pairs lanes owner (start .args .sides .now)
+              (start .args .ends .now) (start .args .c) k (after-word .word .result)
+              (after-end-section .end-section .result) (after-word2 .word2 .result)
+              (after-word3 .word3 .result) (after-word .word .ensures .0)
+              (after-end-section .end-section .ensures) (after-word2 .word2 .ensures .0)
+              (after-word3 .word3 .ensures .0)) (start .pre .1 .1)) (at-loop .loop .p)
+              (at-loop .loop .n) (at-loop .loop .run) (at-loop .loop .inv .2) (at-loop .loop .inv .0)
+              (omega (arith, in-loop .loop-test .taken)),
         ),
       ),
     )
@@ -88,16 +167,89 @@ loop-less c = omega arith
 
 loop-again : tie.Need-loop-again Inv-loop μ-loop
 loop-again c =
-    let s = c .before .before .before .before .before .before .before .before .before .before .before .before .before .before .before .before .before .before .before .before .before .before .before in
-    (omega (arith, c .before .before .before .before .before .loop .inv .0), omega (arith, c .before .before .before .before .loop-test .taken), turns-on (s .args .both) (s .args .start) (c .before .before .before .before .before .before .before .word2 .result) (c .before .before .before .before .before .before .word3 .result) (pairEntry (s .args .pairs .now) (s .args .lanes .now) (s .args .owner .now) (c .before .before .before .before .before .before .before .before .before .before .word .result) (c .before .before .before .before .before .before .before .before .end-section .result) (flag (getD (s .args .connections .now) (s .args .c * 7 + 4) 0)) (s .args .k)) (s .args .run .now) (subst (λ (es : List Entry). Room (s .args .start) es (s .args .run .now)) (pairs-by (s .args .roads .now) (s .args .sections .now) (s .args .junctions .now) (s .args .connections .now) (s .args .pairs .now) (s .args .lanes .now) (s .args .owner .now) (s .args .sides .now) (s .args .ends .now) (s .args .c) (s .args .k) (c .before .before .before .before .before .before .before .before .before .before .word .result) (c .before .before .before .before .before .before .before .before .end-section .result) (c .before .before .before .before .before .before .before .word2 .result) (c .before .before .before .before .before .before .word3 .result) (c .before .before .before .before .before .before .before .before .before .before .word .ensures .0) (c .before .before .before .before .before .before .before .before .end-section .ensures) (c .before .before .before .before .before .before .before .word2 .ensures .0) (c .before .before .before .before .before .before .word3 .ensures .0)) (s .pre .1 .1)) (c .before .before .before .before .before .loop .p) (c .before .before .before .before .before .loop .n) (c .before .before .before .before .before .loop .run) (c .before .before .before .before .before .loop .inv .2) (c .before .before .before .before .before .loop .inv .0) (omega (arith, c .before .before .before .before .loop-test .taken)) (c .before .before .through-pair .last .1 .1 .1 .1 .1 .1 .1 .1 .1 .1 .1 .0) (c .before .before .through-pair .result) (c .before .before .through-pair .ensures))
+    let after-through-pair : tie.After-through-pair Inv-loop μ-loop = search in
+    let in-loop : tie.In-loop Inv-loop μ-loop = search in
+    let at-loop : tie.At-loop Inv-loop μ-loop = search in
+    let after-word3 : tie.After-word3 Inv-loop μ-loop = search in
+    let after-word2 : tie.After-word2 Inv-loop μ-loop = search in
+    let after-end-section : tie.After-end-section Inv-loop μ-loop = search in
+    let after-word : tie.After-word Inv-loop μ-loop = search in
+    let after-shared-slice-known6 = after-word .before .before .before .before .before .before .before in
+    let start = after-shared-slice-known6 .before .before .before .before .before .before in
+    let pairs = start .args .pairs .now in let lanes = start .args .lanes .now in
+    let owner = start .args .owner .now in let connections = start .args .connections .now in
+    let k = start .args .k in let run = start .args .run .now in (
+      omega (arith, at-loop .loop .inv .0),
+      omega (arith, in-loop .loop-test .taken),
+      turns-on (start .args .both) (start .args .start) (after-word2 .word2 .result)
+          (after-word3 .word3 .result)
+          (pairEntry pairs lanes owner (after-word .word .result) (after-end-section .end-section .result)
+          (flag (getD connections (start .args .c * 7 + 4) 0)) k) run
+          (subst (λ (es : List Entry). Room (start .args .start) es run)
+          (pairs-by (start .args .roads .now) (start .args .sections .now) (start .args .junctions .now)
+          connections pairs lanes owner (start .args .sides .now) (start .args .ends .now) (start .args .c) k
+          (after-word .word .result) (after-end-section .end-section .result) (after-word2 .word2 .result)
+          (after-word3 .word3 .result) (after-word .word .ensures .0)
+          (after-end-section .end-section .ensures) (after-word2 .word2 .ensures .0)
+          (after-word3 .word3 .ensures .0)) (start .pre .1 .1)) (at-loop .loop .p) (at-loop .loop .n)
+          (at-loop .loop .run) (at-loop .loop .inv .2) (at-loop .loop .inv .0)
+          (omega (arith, in-loop .loop-test .taken))
+          (after-through-pair .through-pair .last .1 .1 .1 .1 .1 .1 .1 .1 .1 .1 .1 .0)
+          (after-through-pair .through-pair .result) (after-through-pair .through-pair .ensures),
+    )
 
 same-length : tie.Need-same-length Inv-loop μ-loop
-same-length c = let s = c .before .before .before .before .before .before .before .before .before .before .before .before .before .before .before .before .before .before .before in turns-long (s .args .both) (s .args .start) (c .before .before .before .word2 .result) (c .before .before .word3 .result) (pairEntry (s .args .pairs .now) (s .args .lanes .now) (s .args .owner .now) (c .before .before .before .before .before .before .word .result) (c .before .before .before .before .end-section .result) (flag (getD (s .args .connections .now) (s .args .c * 7 + 4) 0)) (s .args .k)) (s .args .run .now) (subst (λ (es : List Entry). Room (s .args .start) es (s .args .run .now)) (pairs-by (s .args .roads .now) (s .args .sections .now) (s .args .junctions .now) (s .args .connections .now) (s .args .pairs .now) (s .args .lanes .now) (s .args .owner .now) (s .args .sides .now) (s .args .ends .now) (s .args .c) (s .args .k) (c .before .before .before .before .before .before .word .result) (c .before .before .before .before .end-section .result) (c .before .before .before .word2 .result) (c .before .before .word3 .result) (c .before .before .before .before .before .before .word .ensures .0) (c .before .before .before .before .end-section .ensures) (c .before .before .before .word2 .ensures .0) (c .before .before .word3 .ensures .0)) (s .pre .1 .1)) (c .before .loop .p) (c .before .loop .n) (c .before .loop .run) (c .before .loop .inv .2) (c .before .loop .inv .0) (c .before .loop .inv .1)
+same-length c =
+    let at-loop : tie.At-loop Inv-loop μ-loop = search in
+    let after-word3 : tie.After-word3 Inv-loop μ-loop = search in
+    let after-word2 : tie.After-word2 Inv-loop μ-loop = search in
+    let after-end-section : tie.After-end-section Inv-loop μ-loop = search in
+    let after-word : tie.After-word Inv-loop μ-loop = search in
+    let after-shared-slice-known6 = after-word .before .before .before .before .before .before .before in
+    let start = after-shared-slice-known6 .before .before .before .before .before .before in
+    let pairs = start .args .pairs .now in let lanes = start .args .lanes .now in
+    let owner = start .args .owner .now in let connections = start .args .connections .now in
+    let k = start .args .k in let run = start .args .run .now in
+    turns-long (start .args .both) (start .args .start) (after-word2 .word2 .result)
+    (after-word3 .word3 .result)
+    (pairEntry pairs lanes owner (after-word .word .result) (after-end-section .end-section .result)
+    (flag (getD connections (start .args .c * 7 + 4) 0)) k) run
+    (subst (λ (es : List Entry). Room (start .args .start) es run)
+    (pairs-by (start .args .roads .now) (start .args .sections .now) (start .args .junctions .now) connections
+    pairs lanes owner (start .args .sides .now) (start .args .ends .now) (start .args .c) k
+    (after-word .word .result) (after-end-section .end-section .result) (after-word2 .word2 .result)
+    (after-word3 .word3 .result) (after-word .word .ensures .0) (after-end-section .end-section .ensures)
+    (after-word2 .word2 .ensures .0) (after-word3 .word3 .ensures .0)) (start .pre .1 .1)) (at-loop .loop .p)
+    (at-loop .loop .n) (at-loop .loop .run) (at-loop .loop .inv .2) (at-loop .loop .inv .0)
+    (at-loop .loop .inv .1)
 
 returns : tie.Need-returns Inv-loop μ-loop
 returns c =
-    let s = c .before .before .before .before .before .before .before .before .before .before .before .before .before .before .before .before .before .before .before in
-    subst (λ (es : List Entry). Took (s .args .both) (s .args .start) es (s .args .run .now) (c .before .loop .run) (c .before .loop .n)) (sym (pairs-by (s .args .roads .now) (s .args .sections .now) (s .args .junctions .now) (s .args .connections .now) (s .args .pairs .now) (s .args .lanes .now) (s .args .owner .now) (s .args .sides .now) (s .args .ends .now) (s .args .c) (s .args .k) (c .before .before .before .before .before .before .word .result) (c .before .before .before .before .end-section .result) (c .before .before .before .word2 .result) (c .before .before .word3 .result) (c .before .before .before .before .before .before .word .ensures .0) (c .before .before .before .before .end-section .ensures) (c .before .before .before .word2 .ensures .0) (c .before .before .word3 .ensures .0))) (turns-end (s .args .both) (s .args .start) (c .before .before .before .word2 .result) (c .before .before .word3 .result) (pairEntry (s .args .pairs .now) (s .args .lanes .now) (s .args .owner .now) (c .before .before .before .before .before .before .word .result) (c .before .before .before .before .end-section .result) (flag (getD (s .args .connections .now) (s .args .c * 7 + 4) 0)) (s .args .k)) (s .args .run .now) (subst (λ (es : List Entry). Room (s .args .start) es (s .args .run .now)) (pairs-by (s .args .roads .now) (s .args .sections .now) (s .args .junctions .now) (s .args .connections .now) (s .args .pairs .now) (s .args .lanes .now) (s .args .owner .now) (s .args .sides .now) (s .args .ends .now) (s .args .c) (s .args .k) (c .before .before .before .before .before .before .word .result) (c .before .before .before .before .end-section .result) (c .before .before .before .word2 .result) (c .before .before .word3 .result) (c .before .before .before .before .before .before .word .ensures .0) (c .before .before .before .before .end-section .ensures) (c .before .before .before .word2 .ensures .0) (c .before .before .word3 .ensures .0)) (s .pre .1 .1)) (c .before .loop .p) (c .before .loop .n) (c .before .loop .run) (c .before .loop .inv .2) (omega (arith, c .before .loop .inv .1, c .loop-test .left)))
+    let at-loop : tie.At-loop Inv-loop μ-loop = search in
+    let after-word3 : tie.After-word3 Inv-loop μ-loop = search in
+    let after-word2 : tie.After-word2 Inv-loop μ-loop = search in
+    let after-end-section : tie.After-end-section Inv-loop μ-loop = search in
+    let after-word : tie.After-word Inv-loop μ-loop = search in
+    let after-shared-slice-known6 = after-word .before .before .before .before .before .before .before in
+    let start = after-shared-slice-known6 .before .before .before .before .before .before in
+    let both = start .args .both in let run = start .args .run .now in let roads = start .args .roads .now in
+    let sections = start .args .sections .now in let junctions = start .args .junctions .now in
+    let connections = start .args .connections .now in let pairs = start .args .pairs .now in
+    let lanes = start .args .lanes .now in let owner = start .args .owner .now in
+    let sides = start .args .sides .now in let ends = start .args .ends .now in let k = start .args .k in
+    let pairs-by′ = pairs-by roads sections junctions connections pairs lanes owner sides ends
+    (start .args .c) k (after-word .word .result) (after-end-section .end-section .result)
+    (after-word2 .word2 .result) (after-word3 .word3 .result) (after-word .word .ensures .0)
+    (after-end-section .end-section .ensures) (after-word2 .word2 .ensures .0)
+    (after-word3 .word3 .ensures .0) in
+    subst (λ (es : List Entry). Took both (start .args .start) es run (at-loop .loop .run) (at-loop .loop .n))
+    (sym pairs-by′) (turns-end both (start .args .start) (after-word2 .word2 .result)
+    (after-word3 .word3 .result)
+    (pairEntry pairs lanes owner (after-word .word .result) (after-end-section .end-section .result)
+    (flag (getD connections (start .args .c * 7 + 4) 0)) k) run
+    (subst (λ (es : List Entry). Room (start .args .start) es run) pairs-by′ (start .pre .1 .1))
+    (at-loop .loop .p) (at-loop .loop .n) (at-loop .loop .run) (at-loop .loop .inv .2)
+    (omega (arith, at-loop .loop .inv .1, c .loop-test .left)))
 
 pub through-pairs-spec : {M : Type 1} → statement M
 through-pairs-spec =

@@ -42,7 +42,17 @@ both-requires-2 c κs = search needs
 
 returns : tie.Need-returns
 unfolding meets
-returns c = c .both2 .ensures ∙ ap₂ _&&_ (c .before .before .both .ensures ∙ ap₂ (λ (a b : ℕ). leb a ((c .before .before .before .before .before .before .before) .args .c) && ltb ((c .before .before .before .before .before .before .before) .args .c) b) (c .before .before .before .before .word .ensures .0) (ap₂ _+_ (c .before .before .before .before .word .ensures .0) (c .before .before .before .word2 .ensures .0))) (ap (λ (x : ℕ). eqb x ((c .before .before .before .before .before .before .before) .args .road)) (c .before .word3 .ensures .0))
+returns c =
+    let after-word3 : tie.After-word3 = search in
+    let after-both : tie.After-both = search in
+    let after-word2 : tie.After-word2 = search in
+    let after-word : tie.After-word = search in
+    let start : tie.Start = search in
+    c .both2 .ensures
+    ∙ ap₂ _&&_ (after-both .both .ensures
+    ∙ ap₂ (λ (a b : ℕ). leb a (start .args .c) && ltb (start .args .c) b) (after-word .word .ensures .0)
+    (ap₂ _+_ (after-word .word .ensures .0) (after-word2 .word2 .ensures .0)))
+    (ap (λ (x : ℕ). eqb x (start .args .road)) (after-word3 .word3 .ensures .0))
 
 pub comes-from-spec : {M : Type 1} → statement M
 comes-from-spec =

@@ -1,4 +1,5 @@
-use Rattle.succession.proofs.Homes.{chains-begin, chains-end, chains-on, chains-part, end-in, homes-are, startAt}
+use Rattle.succession.proofs.Homes.{chains-begin, chains-end, chains-on, chains-part, end-in, homes-are}
+use Rattle.succession.proofs.Homes.{startAt}
 use Rattle.succession.specs.Meeting.{connectionHash}
 use Rattle.words.specs.Chain.{Chained}
 use lib.ListN.{length}
@@ -11,7 +12,11 @@ use Rattle.succession.proofs.meeting.link_connections.Statement.{statem
 use Rattle.succession.proofs.meeting.link_connections.Tie as tie
 
 abbrev Inv-loop : tie.InvT-loop
-Inv-loop junctions connections sides heads₀ next₀ n j₀ heads next j = (j ≤ length junctions / 5) × (length heads ≡ 16384) × (length next ≡ 16384) × Chained (connectionHash junctions sides n) (n - startAt junctions j) heads next
+Inv-loop junctions connections sides heads₀ next₀ n j₀ heads next j =
+    (j ≤ length junctions / 5)
+    × (length heads ≡ 16384)
+    × (length next ≡ 16384)
+    × Chained (connectionHash junctions sides n) (n - startAt junctions j) heads next
 
 abbrev μ-loop : tie.MeasureT-loop
 μ-loop junctions connections sides heads₀ next₀ n j₀ heads next j = j
@@ -20,28 +25,93 @@ clear-requires : tie.Need-clear-requires Inv-loop μ-loop
 clear-requires c κs = search needs
 
 loop-holds : tie.Need-loop-holds Inv-loop μ-loop
-loop-holds c = let s = (c .before .before .before .before .before .before .before .before .before) in (le-refl _, c .before .before .clear .kept .0 ∙ s .pre .0 .3, s .pre .0 .4, chains-begin (length (s .args .connections .now) / 7) (s .args .junctions .now) (s .pre .1) (s .args .sides .now) (c .before .before .clear .last .0) (s .args .next .now) (length (s .args .junctions .now) / 5) (c .before .before .clear .ensures) refl)
+loop-holds c =
+    let after-clear : tie.After-clear Inv-loop μ-loop = search in
+    let start : tie.Start Inv-loop μ-loop = search in
+    let junctions = start .args .junctions .now in (
+      le-refl _,
+      after-clear .clear .kept .0 ∙ start .pre .0 .3,
+      start .pre .0 .4,
+      chains-begin (length (start .args .connections .now) / 7) junctions (start .pre .1)
+          (start .args .sides .now) (after-clear .clear .last .0) (start .args .next .now)
+          (length junctions / 5) (after-clear .clear .ensures) refl,
+    )
 
 sub-j : tie.Need-sub-j Inv-loop μ-loop
 sub-j c = omega arith
 
 link-part-requires : tie.Need-link-part-requires Inv-loop μ-loop
-link-part-requires c κs = let s = (c .before .before .before .before .before .before .before .before .before .before .before .before .before) in ((s .pre .0 .0, omega (arith, s .pre .0 .0, s .pre .0 .2), c .before .before .before .loop .inv .1, omega (arith, s .pre .0 .0, c .before .before .before .loop .inv .2), omega (arith, c .before .before .before .loop .inv .0, c .before .before .loop-test .taken), s .pre .0 .1), ((end-in (length (s .args .connections .now) / 7) (s .args .junctions .now) (s .pre .1) (c .before .before .before .loop .j - 1) (omega (arith, c .before .before .before .loop .inv .0, c .before .before .loop-test .taken)), homes-are (length (s .args .connections .now) / 7) (s .args .junctions .now) (s .pre .1)), chains-part (length (s .args .connections .now) / 7) (s .args .junctions .now) (s .pre .1) (s .args .sides .now) (c .before .before .before .loop .heads) (c .before .before .before .loop .next) (c .before .before .before .loop .j) (omega (arith, c .before .before .loop-test .taken)) (c .before .before .before .loop .inv .0) (c .before .before .before .loop .inv .3)))
+link-part-requires c κs =
+    let in-loop : tie.In-loop Inv-loop μ-loop = search in
+    let at-loop : tie.At-loop Inv-loop μ-loop = search in
+    let start : tie.Start Inv-loop μ-loop = search in
+    let connections = start .args .connections .now in let junctions = start .args .junctions .now in (
+      (
+        start .pre .0 .0,
+        omega (arith, start .pre .0 .0, start .pre .0 .2),
+        at-loop .loop .inv .1,
+        omega (arith, start .pre .0 .0, at-loop .loop .inv .2),
+        omega (arith, at-loop .loop .inv .0, in-loop .loop-test .taken),
+        start .pre .0 .1,
+      ),
+      (
+        (
+          end-in (length connections / 7) junctions (start .pre .1) (at-loop .loop .j - 1)
+              (omega (arith, at-loop .loop .inv .0, in-loop .loop-test .taken)),
+          homes-are (length connections / 7) junctions (start .pre .1),
+        ),
+        chains-part (length connections / 7) junctions (start .pre .1) (start .args .sides .now)
+            (at-loop .loop .heads) (at-loop .loop .next) (at-loop .loop .j)
+            (omega (arith, in-loop .loop-test .taken)) (at-loop .loop .inv .0) (at-loop .loop .inv .3),
+      ),
+    )
 
 loop-less : tie.Need-loop-less Inv-loop μ-loop
 loop-less c = omega arith
 
 loop-again : tie.Need-loop-again Inv-loop μ-loop
-loop-again c = let s = (c .before .before .before .before .before .before .before .before .before .before .before .before .before .before .before .before .before .before) in (omega (arith, c .before .before .before .before .before .before .before .before .loop .inv .0), c .before .before .before .before .link-part .kept .1 .1 .1 .1 .0 ∙ c .before .before .before .before .before .before .before .before .loop .inv .1, c .before .before .before .before .link-part .kept .1 .1 .1 .1 .1 .0 ∙ c .before .before .before .before .before .before .before .before .loop .inv .2, chains-on (length (s .args .connections .now) / 7) (s .args .junctions .now) (s .pre .1) (s .args .sides .now) (c .before .before .before .before .link-part .last .1 .1 .1 .1 .0) (c .before .before .before .before .link-part .last .1 .1 .1 .1 .1 .0) (c .before .before .before .before .before .before .before .before .loop .j - 1) (omega (arith, c .before .before .before .before .before .before .before .before .loop .inv .0, c .before .before .before .before .before .before .before .loop-test .taken)) (c .before .before .before .before .link-part .ensures))
+loop-again c =
+    let after-link-part : tie.After-link-part Inv-loop μ-loop = search in
+    let in-loop : tie.In-loop Inv-loop μ-loop = search in
+    let at-loop : tie.At-loop Inv-loop μ-loop = search in
+    let start : tie.Start Inv-loop μ-loop = search in (
+      omega (arith, at-loop .loop .inv .0),
+      after-link-part .link-part .kept .1 .1 .1 .1 .0 ∙ at-loop .loop .inv .1,
+      after-link-part .link-part .kept .1 .1 .1 .1 .1 .0 ∙ at-loop .loop .inv .2,
+      chains-on (length (start .args .connections .now) / 7) (start .args .junctions .now) (start .pre .1)
+          (start .args .sides .now) (after-link-part .link-part .last .1 .1 .1 .1 .0)
+          (after-link-part .link-part .last .1 .1 .1 .1 .1 .0) (at-loop .loop .j - 1)
+          (omega (arith, at-loop .loop .inv .0, in-loop .loop-test .taken))
+          (after-link-part .link-part .ensures),
+    )
 
 same-length : tie.Need-same-length Inv-loop μ-loop
-same-length c = let s = (c .before .before .before .before .before .before .before .before .before .before .before) in c .before .loop .inv .1 ∙ sym (s .pre .0 .3)
+same-length c =
+    let at-loop : tie.At-loop Inv-loop μ-loop = search in
+    let start : tie.Start Inv-loop μ-loop = search in
+    at-loop .loop .inv .1 ∙ sym (start .pre .0 .3)
 
 same-length-2 : tie.Need-same-length-2 Inv-loop μ-loop
-same-length-2 c = let s = (c .before .before .before .before .before .before .before .before .before .before .before) in c .before .loop .inv .2 ∙ sym (s .pre .0 .4)
+same-length-2 c =
+    let at-loop : tie.At-loop Inv-loop μ-loop = search in
+    let start : tie.Start Inv-loop μ-loop = search in
+    at-loop .loop .inv .2 ∙ sym (start .pre .0 .4)
 
 returns : tie.Need-returns Inv-loop μ-loop
-returns c = let s = (c .before .before .before .before .before .before .before .before .before .before .before) in record { few = s .pre .0 .0; few-junctions = s .pre .0 .1; homes = homes-are (length (s .args .connections .now) / 7) (s .args .junctions .now) (s .pre .1); buckets = c .before .loop .inv .1; links = omega (arith, s .pre .0 .0, c .before .loop .inv .2); chained = chains-end (length (s .args .connections .now) / 7) (s .args .junctions .now) (s .pre .1) (s .args .sides .now) (c .before .loop .heads) (c .before .loop .next) (c .before .loop .j) (omega (arith, c .loop-test .left)) (c .before .loop .inv .3) }
+returns c =
+    let at-loop : tie.At-loop Inv-loop μ-loop = search in
+    let start : tie.Start Inv-loop μ-loop = search in
+    let connections = start .args .connections .now in let junctions = start .args .junctions .now in
+    record {
+      few = start .pre .0 .0;
+      few-junctions = start .pre .0 .1;
+      homes = homes-are (length connections / 7) junctions (start .pre .1);
+      buckets = at-loop .loop .inv .1;
+      links = omega (arith, start .pre .0 .0, at-loop .loop .inv .2);
+      chained = chains-end (length connections / 7) junctions (start .pre .1) (start .args .sides .now)
+          (at-loop .loop .heads) (at-loop .loop .next) (at-loop .loop .j) (omega (arith, c .loop-test .left))
+          (at-loop .loop .inv .3);
+    }
 
 pub link-connections-spec : {M : Type 1} → statement M
 link-connections-spec =

@@ -13,7 +13,9 @@ add-result : tie.Need-add-result
 add-result c = search needs
 
 returns : tie.Need-returns
-returns c = let s = c .before .args in sym (ap (λ (b : Bool). pick b (s .l * 10 + 8) (s .l * 10 + 6)) (c .if1 .taken))
+returns c =
+    let start : tie.Start = search in
+    let s = start .args in sym (ap (λ (b : Bool). pick b (s .l * 10 + 8) (s .l * 10 + 6)) (c .if1 .taken))
 
 mul-result-2 : tie.Need-mul-result-2
 mul-result-2 c = search needs
@@ -22,7 +24,9 @@ add-result-2 : tie.Need-add-result-2
 add-result-2 c = search needs
 
 returns-2 : tie.Need-returns-2
-returns-2 c = let s = c .before .args in sym (ap (λ (b : Bool). pick b (s .l * 10 + 8) (s .l * 10 + 6)) (c .if1 .left))
+returns-2 c =
+    let start : tie.Start = search in
+    let s = start .args in sym (ap (λ (b : Bool). pick b (s .l * 10 + 8) (s .l * 10 + 6)) (c .if1 .left))
 
 pub link-at-spec : {M : Type 1} → statement M
 link-at-spec =

@@ -14,8 +14,14 @@ find-key-requires c κs = search needs
 returns : tie.Need-returns
 unfolding laneRowOf
 returns c =
-    let s = c .before .before .before .before .before in
-    (c .find-key .ensures, subst (λ (k : ℕ). k ≤ length (s .args .lanes .now) / 10) (sym (c .find-key .ensures)) (last-le (length (s .args .lanes .now) / 10) (isKey (s .args .lanes .now) (s .args .owner .now) (s .args .road) (s .args .section) (s .args .number))))
+    let start : tie.Start = search in
+    let lanes = start .args .lanes .now in (
+      c .find-key .ensures,
+      subst (λ (k : ℕ). k ≤ length lanes / 10) (sym (c .find-key .ensures))
+          (last-le (length lanes / 10)
+          (isKey lanes (start .args .owner .now) (start .args .road) (start .args .section)
+          (start .args .number))),
+    )
 
 pub lookup-spec : {M : Type 1} → statement M
 lookup-spec = tie.close (tie.spec find-key-requires returns)

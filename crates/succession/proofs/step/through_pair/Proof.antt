@@ -19,7 +19,13 @@ shared-slice-read-if1 : tie.Need-shared-slice-read-if1
 shared-slice-read-if1 c = search needs
 
 returns : tie.Need-returns
-returns c = let s = c .before .before .before .before .before .before .before .before in subst (λ (es : List Entry). Took (s .args .both) (s .args .n) es (s .args .run .now) (s .args .run .now) (s .args .n)) (sym (pair-other (s .args .pairs .now) (s .args .lanes .now) (s .args .owner .now) (s .args .road) (s .args .section) (flag (s .args .contact)) (s .args .k) (s .args .p) (c .if1 .taken))) (took-none (s .args .both) (s .args .n) (s .args .run .now) (omega (arith, s .pre .1 .1 .1 .fits)))
+returns c =
+    let start : tie.Start = search in
+    let both = start .args .both in let n = start .args .n in let run = start .args .run .now in
+    subst (λ (es : List Entry). Took both n es run run n)
+    (sym (pair-other (start .args .pairs .now) (start .args .lanes .now) (start .args .owner .now)
+    (start .args .road) (start .args .section) (flag (start .args .contact)) (start .args .k) (start .args .p)
+    (c .if1 .taken))) (took-none both n run (omega (arith, start .pre .1 .1 .1 .fits)))
 
 mul-lookup : tie.Need-mul-lookup
 mul-lookup c = search needs
@@ -37,13 +43,34 @@ lookup-requires : tie.Need-lookup-requires
 lookup-requires c κs = search needs
 
 enter-requires : tie.Need-enter-requires
-enter-requires c κs = let s = c .before .before .before .before .before .before .before .before .before .before .before in (c .before .lookup .ensures .1, subst (λ (es : List Entry). Room (s .args .n) es (s .args .run .now)) (pair-leads (s .args .pairs .now) (s .args .lanes .now) (s .args .owner .now) (s .args .road) (s .args .section) (flag (s .args .contact)) (s .args .k) (s .args .p) (c .before .before .before .if1 .left) (c .before .lookup .result) (c .before .lookup .ensures .0)) (s .pre .1 .1 .1))
+enter-requires c κs =
+    let after-lookup : tie.After-lookup = search in
+    let else1 : tie.Else1 = search in
+    let start : tie.Start = search in (
+      after-lookup .lookup .ensures .1,
+      subst (λ (es : List Entry). Room (start .args .n) es (start .args .run .now))
+          (pair-leads (start .args .pairs .now) (start .args .lanes .now) (start .args .owner .now)
+          (start .args .road) (start .args .section) (flag (start .args .contact)) (start .args .k)
+          (start .args .p) (else1 .if1 .left) (after-lookup .lookup .result) (after-lookup .lookup .ensures .0))
+          (start .pre .1 .1 .1),
+    )
 
 same-length : tie.Need-same-length
 same-length c = search needs
 
 returns-2 : tie.Need-returns-2
-returns-2 c = let s = c .before .before .before .before .before .before .before .before .before .before .before .before .before .before in subst (λ (es : List Entry). Took (s .args .both) (s .args .n) es (s .args .run .now) (c .before .before .enter .last .1 .0) (c .before .before .enter .result)) (sym (pair-leads (s .args .pairs .now) (s .args .lanes .now) (s .args .owner .now) (s .args .road) (s .args .section) (flag (s .args .contact)) (s .args .k) (s .args .p) (c .before .before .before .before .before .before .if1 .left) (c .before .before .before .before .lookup .result) (c .before .before .before .before .lookup .ensures .0))) (c .before .before .enter .ensures)
+returns-2 c =
+    let after-enter : tie.After-enter = search in
+    let after-lookup : tie.After-lookup = search in
+    let else1 : tie.Else1 = search in
+    let start : tie.Start = search in
+    subst (λ (es : List Entry).
+    Took (start .args .both) (start .args .n) es (start .args .run .now) (after-enter .enter .last .1 .0)
+    (after-enter .enter .result))
+    (sym (pair-leads (start .args .pairs .now) (start .args .lanes .now) (start .args .owner .now)
+    (start .args .road) (start .args .section) (flag (start .args .contact)) (start .args .k) (start .args .p)
+    (else1 .if1 .left) (after-lookup .lookup .result) (after-lookup .lookup .ensures .0)))
+    (after-enter .enter .ensures)
 
 pub through-pair-spec : {M : Type 1} → statement M
 through-pair-spec =

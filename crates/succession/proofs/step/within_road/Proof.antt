@@ -17,7 +17,13 @@ shared-slice-read-if1 : tie.Need-shared-slice-read-if1
 shared-slice-read-if1 c = search needs
 
 returns : tie.Need-returns
-returns c = let s = c .before .before .before .before .before .before .before in subst (λ (es : List Entry). Took (s .args .both) (s .args .n) es (s .args .run .now) (s .args .run .now) (s .args .n)) (sym (step-none (s .args .lanes .now) (s .args .owner .now) (s .args .l) (s .args .s) (s .args .link) (flag (s .args .contact)) (c .if1 .taken))) (took-none (s .args .both) (s .args .n) (s .args .run .now) (omega (arith, s .pre .1 .1 .fits)))
+returns c =
+    let start : tie.Start = search in
+    let both = start .args .both in let n = start .args .n in let run = start .args .run .now in
+    subst (λ (es : List Entry). Took both n es run run n)
+    (sym (step-none (start .args .lanes .now) (start .args .owner .now) (start .args .l) (start .args .s)
+    (start .args .link) (flag (start .args .contact)) (c .if1 .taken)))
+    (took-none both n run (omega (arith, start .pre .1 .1 .fits)))
 
 word-requires : tie.Need-word-requires
 word-requires c κs = search needs
@@ -35,15 +41,36 @@ lookup-requires : tie.Need-lookup-requires
 lookup-requires c κs = search needs
 
 enter-requires : tie.Need-enter-requires
-enter-requires c κs = let s = c .before .before .before .before .before .before .before .before .before .before .before in (c .before .lookup .ensures .1, subst (λ (es : List Entry). Room (s .args .n) es (s .args .run .now)) (step-leads (s .args .lanes .now) (s .args .owner .now) (s .args .l) (s .args .s) (s .args .link) (flag (s .args .contact)) (c .before .before .before .before .if1 .left) (c .before .before .before .word .result) (c .before .lookup .result) (c .before .before .before .word .ensures .0) (c .before .lookup .ensures .0)) (s .pre .1 .1))
+enter-requires c κs =
+    let after-lookup : tie.After-lookup = search in
+    let after-word : tie.After-word = search in
+    let else1 : tie.Else1 = search in
+    let start : tie.Start = search in (
+      after-lookup .lookup .ensures .1,
+      subst (λ (es : List Entry). Room (start .args .n) es (start .args .run .now))
+          (step-leads (start .args .lanes .now) (start .args .owner .now) (start .args .l) (start .args .s)
+          (start .args .link) (flag (start .args .contact)) (else1 .if1 .left) (after-word .word .result)
+          (after-lookup .lookup .result) (after-word .word .ensures .0) (after-lookup .lookup .ensures .0))
+          (start .pre .1 .1),
+    )
 
 same-length : tie.Need-same-length
 same-length c = search needs
 
 returns-2 : tie.Need-returns-2
 returns-2 c =
-    let s = c .before .before .before .before .before .before .before .before .before .before .before .before .before .before in
-    subst (λ (es : List Entry). Took (s .args .both) (s .args .n) es (s .args .run .now) (c .before .before .enter .last .1 .0) (c .before .before .enter .result)) (sym (step-leads (s .args .lanes .now) (s .args .owner .now) (s .args .l) (s .args .s) (s .args .link) (flag (s .args .contact)) (c .before .before .before .before .before .before .before .if1 .left) (c .before .before .before .before .before .before .word .result) (c .before .before .before .before .lookup .result) (c .before .before .before .before .before .before .word .ensures .0) (c .before .before .before .before .lookup .ensures .0))) (c .before .before .enter .ensures)
+    let after-enter : tie.After-enter = search in
+    let after-lookup : tie.After-lookup = search in
+    let after-word : tie.After-word = search in
+    let else1 : tie.Else1 = search in
+    let start : tie.Start = search in
+    subst (λ (es : List Entry).
+    Took (start .args .both) (start .args .n) es (start .args .run .now) (after-enter .enter .last .1 .0)
+    (after-enter .enter .result))
+    (sym (step-leads (start .args .lanes .now) (start .args .owner .now) (start .args .l) (start .args .s)
+    (start .args .link) (flag (start .args .contact)) (else1 .if1 .left) (after-word .word .result)
+    (after-lookup .lookup .result) (after-word .word .ensures .0) (after-lookup .lookup .ensures .0)))
+    (after-enter .enter .ensures)
 
 pub within-road-spec : {M : Type 1} → statement M
 within-road-spec =

@@ -11,7 +11,11 @@ slice-aggregate-repair-verdict-2 : tie.Need-slice-aggregate-repair-verdict-2
 slice-aggregate-repair-verdict-2 c = search needs
 
 repair-verdict-requires : tie.Need-repair-verdict-requires
-repair-verdict-requires c κs = (length-replicate {A = ℕ} 16384 0, length-replicate {A = ℕ} 16384 0, λ b h. getD-replicate {A = ℕ} 16384 b 0 0 h)
+repair-verdict-requires c κs = (
+  length-replicate {A = ℕ} 16384 0,
+  length-replicate {A = ℕ} 16384 0,
+  λ b h. getD-replicate {A = ℕ} 16384 b 0 0 h,
+)
 
 returns : tie.Need-returns
 returns c = search needs

@@ -20,7 +20,21 @@ slice-aggregate-reversal-verdict-5 : tie.Need-slice-aggregate-reversal-verdict-5
 slice-aggregate-reversal-verdict-5 c = search needs
 
 reversal-verdict-requires : tie.Need-reversal-verdict-requires
-reversal-verdict-requires c κs = ((length-replicate {A = ℕ} 16384 0, length-replicate {A = ℕ} 16384 0, λ b h. getD-replicate {A = ℕ} 16384 b 0 0 h), (length-replicate {A = ℕ} 16384 0, (length-replicate {A = ℕ} 16384 0, length-replicate {A = ℕ} 16384 0, λ b h. getD-replicate {A = ℕ} 16384 b 0 0 h)))
+reversal-verdict-requires c κs = (
+  (
+    length-replicate {A = ℕ} 16384 0,
+    length-replicate {A = ℕ} 16384 0,
+    λ b h. getD-replicate {A = ℕ} 16384 b 0 0 h,
+  ),
+  (
+    length-replicate {A = ℕ} 16384 0,
+    (
+      length-replicate {A = ℕ} 16384 0,
+      length-replicate {A = ℕ} 16384 0,
+      λ b h. getD-replicate {A = ℕ} 16384 b 0 0 h,
+    ),
+  ),
+)
 
 returns : tie.Need-returns
 returns c = search needs

@@ -20,7 +20,21 @@ slice-aggregate-succession-verdict-5 : tie.Need-slice-aggregate-succession-verdi
 slice-aggregate-succession-verdict-5 c = search needs
 
 succession-verdict-requires : tie.Need-succession-verdict-requires
-succession-verdict-requires c κs = ((length-replicate {A = ℕ} 16384 0, length-replicate {A = ℕ} 16384 0, λ b h. getD-replicate {A = ℕ} 16384 b 0 0 h), (length-replicate {A = ℕ} 16384 0, (length-replicate {A = ℕ} 16384 0, length-replicate {A = ℕ} 16384 0, λ b h. getD-replicate {A = ℕ} 16384 b 0 0 h)))
+succession-verdict-requires c κs = (
+  (
+    length-replicate {A = ℕ} 16384 0,
+    length-replicate {A = ℕ} 16384 0,
+    λ b h. getD-replicate {A = ℕ} 16384 b 0 0 h,
+  ),
+  (
+    length-replicate {A = ℕ} 16384 0,
+    (
+      length-replicate {A = ℕ} 16384 0,
+      length-replicate {A = ℕ} 16384 0,
+      λ b h. getD-replicate {A = ℕ} 16384 b 0 0 h,
+    ),
+  ),
+)
 
 returns : tie.Need-returns
 returns c = search needs

@@ -17,13 +17,23 @@ find-name-requires : tie.Need-find-name-requires
 find-name-requires c κs = search needs
 
 row-found-requires : tie.Need-row-found-requires
-row-found-requires c κs = let l = last-le (length (c .before .before .before .before .before .args .junctions .now) / 5) (bears (c .before .before .before .before .before .args .text .now) 5 0 (c .before .before .before .before .before .args .junctions .now) (span (c .before .before .before .before .before .args .start) (c .before .before .before .before .before .args .size))) in omega (arith, c .find-name .ensures, c .before .before .before .before .before .pre .0 .0)
+row-found-requires c κs =
+    let start : tie.Start = search in
+    let junctions = start .args .junctions .now in
+    let l = last-le (length junctions / 5)
+    (bears (start .args .text .now) 5 0 junctions (span (start .args .start) (start .args .size))) in
+    omega (arith, c .find-name .ensures, start .pre .0 .0)
 
 returns : tie.Need-returns
-returns c = λ cs.
-    let s = (c .before .before .before .before .before .before) in
-    ap (junctionFound cs (s .args .junctions .now)) (c .row-found .ensures) ∙ found-junction cs (s .args .junctions .now) (c .before .find-name .result)
-    ∙ ap (recordAt (λ i. junctionIn cs (from 5 (s .args .junctions .now) i))) (c .before .find-name .ensures) ∙ sym (junction-row (s .args .text .now) (s .args .junctions .now) cs (span (s .args .start) (s .args .size)))
+returns c =
+    let after-find-name : tie.After-find-name = search in
+    let start : tie.Start = search in
+    let junctions = start .args .junctions .now in
+    λ cs.
+    ap (junctionFound cs junctions) (c .row-found .ensures)
+    ∙ found-junction cs junctions (after-find-name .find-name .result)
+    ∙ ap (recordAt (λ i. junctionIn cs (from 5 junctions i))) (after-find-name .find-name .ensures)
+    ∙ sym (junction-row (start .args .text .now) junctions cs (span (start .args .start) (start .args .size)))
 
 pub junction-of-spec : {M : Type 1} → statement M
 junction-of-spec = tie.close (tie.spec find-name-requires row-found-requires returns)

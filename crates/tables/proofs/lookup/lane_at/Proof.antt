@@ -23,14 +23,28 @@ find-key-requires : tie.Need-find-key-requires
 find-key-requires c κs = search needs
 
 row-found-requires : tie.Need-row-found-requires
-row-found-requires c κs = let l = last-le (length (c .before .before .before .before .before .before .args .lanes .now) / 10) (isKey (c .before .before .before .before .before .before .args .lanes .now) (c .before .before .before .before .before .before .args .owner .now) (c .before .before .before .before .before .before .args .road .0 + 1) (c .before .before .before .before .before .before .args .section) (c .before .before .before .before .before .before .args .number)) in omega (arith, c .find-key .ensures, c .before .before .before .before .before .before .pre .0 .0)
+row-found-requires c κs =
+    let start : tie.Start = search in
+    let lanes = start .args .lanes .now in
+    let l = last-le (length lanes / 10)
+    (isKey lanes (start .args .owner .now) (start .args .road .0 + 1) (start .args .section)
+    (start .args .number)) in
+    omega (arith, c .find-key .ensures, start .pre .0 .0)
 
 returns : tie.Need-returns
-returns c = λ text roads sections name listed o e.
-    let s = (c .before .before .before .before .before .before .before) in
-    ap (laneFound (s .args .lanes .now)) (c .row-found .ensures) ∙ found-lane (s .args .lanes .now) (c .before .find-key .result)
-    ∙ ap (onlyAt (λ i. laneIn (from 10 (s .args .lanes .now) i))) (c .before .find-key .ensures ∙ ap (λ (w : ℕ). lastOf (length (s .args .lanes .now) / 10) (isKey (s .args .lanes .now) (s .args .owner .now) w (s .args .section) (s .args .number))) (add-one (s .args .road .0) ∙ sym e))
-    ∙ sym (lane-keyed text roads sections (s .args .lanes .now) (s .args .owner .now) listed o (s .pre .1 .0) name (s .args .section) (s .args .number))
+returns c =
+    let after-find-key : tie.After-find-key = search in
+    let start : tie.Start = search in
+    let lanes = start .args .lanes .now in let owner = start .args .owner .now in
+    let section = start .args .section in let number = start .args .number in
+    λ text roads sections name listed o e.
+    ap (laneFound lanes) (c .row-found .ensures)
+    ∙ found-lane lanes (after-find-key .find-key .result)
+    ∙ ap (onlyAt (λ i. laneIn (from 10 lanes i)))
+    (after-find-key .find-key .ensures
+    ∙ ap (λ (w : ℕ). lastOf (length lanes / 10) (isKey lanes owner w section number))
+    (add-one (start .args .road .0) ∙ sym e))
+    ∙ sym (lane-keyed text roads sections lanes owner listed o (start .pre .1 .0) name section number)
 
 pub lane-at-spec : {M : Type 1} → statement M
 lane-at-spec =

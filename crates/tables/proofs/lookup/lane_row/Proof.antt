@@ -15,13 +15,22 @@ find-id-requires : tie.Need-find-id-requires
 find-id-requires c κs = search needs
 
 row-found-requires : tie.Need-row-found-requires
-row-found-requires c κs = let l = last-le (length (c .before .before .before .before .args .lanes .now) / 10) (isId (c .before .before .before .before .args .lanes .now) (c .before .before .before .before .args .id .0)) in omega (arith, c .find-id .ensures, c .before .before .before .before .pre .0 .0)
+row-found-requires c κs =
+    let start : tie.Start = search in
+    let lanes = start .args .lanes .now in
+    let l = last-le (length lanes / 10) (isId lanes (start .args .id .0)) in
+    omega (arith, c .find-id .ensures, start .pre .0 .0)
 
 returns : tie.Need-returns
 returns c =
-    let s = c .before .before .before .before .before in
-    let e = c .row-found .ensures ∙ ap rowFound (c .before .find-id .ensures) in
-    (e, λ edges once size. ap (edgedFound (s .args .lanes .now) edges) e ∙ identity-found (s .args .lanes .now) edges (s .args .id .0) once size)
+    let after-find-id : tie.After-find-id = search in
+    let start : tie.Start = search in
+    let lanes = start .args .lanes .now in
+    let e = c .row-found .ensures ∙ ap rowFound (after-find-id .find-id .ensures) in (
+      e,
+      λ edges once size.
+          ap (edgedFound lanes edges) e ∙ identity-found lanes edges (start .args .id .0) once size,
+    )
 
 pub lane-row-spec : {M : Type 1} → statement M
 lane-row-spec = tie.close (tie.spec find-id-requires row-found-requires returns)

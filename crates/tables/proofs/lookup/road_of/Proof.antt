@@ -16,16 +16,38 @@ find-name-requires : tie.Need-find-name-requires
 find-name-requires c κs = search needs
 
 returns : tie.Need-returns
-returns c = λ sections. let s = (c .before .before .before .before .before .before) in sym (road-row (s .args .text .now) (s .args .roads .now) sections (span (s .args .start) (s .args .size)) (s .pre .1 .0) ∙ ap (recordAt (λ i. roadIn sections (from 20 (s .args .roads .now) i))) (sym (c .before .find-name .ensures) ∙ c .if1 .taken))
+returns c =
+    let after-find-name : tie.After-find-name = search in
+    let start : tie.Start = search in
+    let roads = start .args .roads .now in
+    λ sections.
+    sym (road-row (start .args .text .now) roads sections (span (start .args .start) (start .args .size))
+    (start .pre .1 .0)
+    ∙ ap (recordAt (λ i. roadIn sections (from 20 roads i)))
+    (sym (after-find-name .find-name .ensures) ∙ c .if1 .taken))
 
 sub-t8 : tie.Need-sub-t8
 sub-t8 c = search needs
 
 cast-t11 : tie.Need-cast-t11
-cast-t11 c = let l = last-le (length (c .before .before .before .before .before .before .args .roads .now) / 20) (bears (c .before .before .before .before .before .before .args .text .now) 20 0 (c .before .before .before .before .before .before .args .roads .now) (span (c .before .before .before .before .before .before .args .start) (c .before .before .before .before .before .before .args .size))) in omega (arith, c .before .find-name .ensures, c .before .before .before .before .before .before .pre .0 .0)
+cast-t11 c =
+    let after-find-name : tie.After-find-name = search in
+    let start : tie.Start = search in
+    let roads = start .args .roads .now in
+    let l = last-le (length roads / 20)
+    (bears (start .args .text .now) 20 0 roads (span (start .args .start) (start .args .size))) in
+    omega (arith, after-find-name .find-name .ensures, start .pre .0 .0)
 
 returns-2 : tie.Need-returns-2
-returns-2 c = λ sections. let s = (c .before .before .before .before .before .before) in sym (road-row (s .args .text .now) (s .args .roads .now) sections (span (s .args .start) (s .args .size)) (s .pre .1 .0) ∙ ap (recordAt (λ i. roadIn sections (from 20 (s .args .roads .now) i))) (sym (c .before .find-name .ensures)) ∙ record-of (λ i. roadIn sections (from 20 (s .args .roads .now) i)) (c .before .find-name .result) (c .if1 .left))
+returns-2 c =
+    let after-find-name : tie.After-find-name = search in
+    let start : tie.Start = search in
+    let roads = start .args .roads .now in
+    λ sections.
+    sym (road-row (start .args .text .now) roads sections (span (start .args .start) (start .args .size))
+    (start .pre .1 .0)
+    ∙ ap (recordAt (λ i. roadIn sections (from 20 roads i))) (sym (after-find-name .find-name .ensures))
+    ∙ record-of (λ i. roadIn sections (from 20 roads i)) (after-find-name .find-name .result) (c .if1 .left))
 
 pub road-of-spec : {M : Type 1} → statement M
 road-of-spec = tie.close (tie.spec find-name-requires returns sub-t8 cast-t11 returns-2)

@@ -13,7 +13,9 @@ cast-t4 : tie.Need-cast-t4
 cast-t4 c = search needs
 
 returns-2 : tie.Need-returns-2
-returns-2 c = row-of (c .before .args .f) (c .if1 .left)
+returns-2 c =
+    let start : tie.Start = search in
+    row-of (start .args .f) (c .if1 .left)
 
 pub row-found-spec : {M : Type 1} → statement M
 row-found-spec = tie.close (tie.spec returns sub-t3 cast-t4 returns-2)

@@ -11,7 +11,8 @@ use Rattle.words.proofs.KeyLaws.{rows-in}
 use Rattle.rules.proofs.Forms.{identities-once, lanes-listed, roads-once}
 use Rattle.rules.proofs.Places.{keys-once}
 use Rattle.tables.specs.Verdicts.{refusalOf}
-use Rattle.tables.proofs.Order.{first-stays, is-none, is-some, kept5, lane-0, lane-6, lane-7, lane-8, not-none, parts-of, refused, then-first}
+use Rattle.tables.proofs.Order.{first-stays, is-none, is-some, kept5, lane-0, lane-6, lane-7, lane-8}
+use Rattle.tables.proofs.Order.{not-none, parts-of, refused, then-first}
 use Rattle.tables.proofs.verdict.lane_verdict.Statement.{statement}
 use Rattle.tables.proofs.verdict.lane_verdict.Tie as tie
 
@@ -29,11 +30,36 @@ same-length-2 c = search needs
 
 returns : tie.Need-returns
 unfolding rulesTo5
-returns c = let s = (c .before .before .before .before .before .before .before .before .before .before .before .before .before .before .before .before .before .before .before .before .before) in let t = (laneTables (s .args .text .now) (s .args .roads .now) (s .args .sections .now) (s .args .junctions .now) (s .args .connections .now) (s .args .pairs .now) (s .args .lanes .now)) in let no : refusalOf (c .before .before .before .before .before .before .map-verdict .result) ≡ none → ⊥ = is-some (refusalOf (c .before .before .before .before .before .before .map-verdict .result)) (sym (c .before .admitted .ensures) ∙ not-true _ (c .if1 .taken)) in (first-stays (rulesTo5 (s .args .sizes) (s .args .words) t) (laneRules t) (refusalOf (c .before .before .before .before .before .before .map-verdict .result)) no (c .before .before .before .before .before .before .map-verdict .ensures .0), λ e. absurd (no e))
+returns c =
+    let after-admitted : tie.After-admitted = search in
+    let after-map-verdict : tie.After-map-verdict = search in
+    let after-shared-slice-known5 = after-map-verdict .before .before .before .before .before .before .before .before .before .before in
+    let start = after-shared-slice-known5 .before .before .before .before .before in
+    let t = (laneTables (start .args .text .now) (start .args .roads .now) (start .args .sections .now)
+    (start .args .junctions .now) (start .args .connections .now) (start .args .pairs .now)
+    (start .args .lanes .now)) in
+    let no : refusalOf (after-map-verdict .map-verdict .result) ≡ none → ⊥ =
+    is-some (refusalOf (after-map-verdict .map-verdict .result))
+    (sym (after-admitted .admitted .ensures) ∙ not-true _ (c .if1 .taken)) in (
+      first-stays (rulesTo5 (start .args .sizes) (start .args .words) t) (laneRules t)
+          (refusalOf (after-map-verdict .map-verdict .result)) no (after-map-verdict .map-verdict .ensures .0),
+      λ e. absurd (no e),
+    )
 
 identities-once-requires : tie.Need-identities-once-requires
 unfolding rulesTo5
-identities-once-requires c κs = let s = (c .before .before .before .before .before .before .before .before .before .before .before .before .before .before .before .before .before .before .before .before .before) in let t = (laneTables (s .args .text .now) (s .args .roads .now) (s .args .sections .now) (s .args .junctions .now) (s .args .connections .now) (s .args .pairs .now) (s .args .lanes .now)) in let adm = is-none (refusalOf (c .before .before .before .before .before .before .map-verdict .result)) (sym (c .before .admitted .ensures) ∙ not-false _ (c .if1 .left)) in let first = sym adm ∙ c .before .before .before .before .before .before .map-verdict .ensures .0 in let k = kept5 (s .args .sizes) (s .args .words) t first in s .pre .0 .1 (k .sized)
+identities-once-requires c κs =
+    let after-admitted : tie.After-admitted = search in
+    let after-map-verdict : tie.After-map-verdict = search in
+    let after-shared-slice-known5 = after-map-verdict .before .before .before .before .before .before .before .before .before .before in
+    let start = after-shared-slice-known5 .before .before .before .before .before in
+    let t = (laneTables (start .args .text .now) (start .args .roads .now) (start .args .sections .now)
+    (start .args .junctions .now) (start .args .connections .now) (start .args .pairs .now)
+    (start .args .lanes .now)) in
+    let adm = is-none (refusalOf (after-map-verdict .map-verdict .result))
+    (sym (after-admitted .admitted .ensures) ∙ not-false _ (c .if1 .left)) in
+    let first = sym adm ∙ after-map-verdict .map-verdict .ensures .0 in
+    let k = kept5 (start .args .sizes) (start .args .words) t first in start .pre .0 .1 (k .sized)
 
 same-length-3 : tie.Need-same-length-3
 same-length-3 c = search needs
@@ -43,11 +69,57 @@ same-length-4 c = search needs
 
 returns-2 : tie.Need-returns-2
 unfolding rulesTo5
-returns-2 c = let s = (c .before .before .before .before .before .before .before .before .before .before .before .before .before .before .before .before .before .before .before .before .before .before .before) in let t = (laneTables (s .args .text .now) (s .args .roads .now) (s .args .sections .now) (s .args .junctions .now) (s .args .connections .now) (s .args .pairs .now) (s .args .lanes .now)) in let adm = is-none (refusalOf (c .before .before .before .before .before .before .before .before .map-verdict .result)) (sym (c .before .before .before .admitted .ensures) ∙ not-false _ (c .before .before .if1 .left)) in let first = sym adm ∙ c .before .before .before .before .before .before .before .before .map-verdict .ensures .0 in (then-first (rulesTo5 (s .args .sizes) (s .args .words) t) (laneRules t) first (lane-6 t (identities-once (s .args .lanes .now) ∙ sym (c .before .identities-once .ensures) ∙ not-true _ (c .if2 .taken))), refused 6)
+returns-2 c =
+    let after-identities-once : tie.After-identities-once = search in
+    let else1 : tie.Else1 = search in
+    let after-admitted : tie.After-admitted = search in
+    let after-map-verdict : tie.After-map-verdict = search in
+    let after-shared-slice-known5 = after-map-verdict .before .before .before .before .before .before .before .before .before .before in
+    let start = after-shared-slice-known5 .before .before .before .before .before in
+    let lanes = start .args .lanes .now in
+    let t = (laneTables (start .args .text .now) (start .args .roads .now) (start .args .sections .now)
+    (start .args .junctions .now) (start .args .connections .now) (start .args .pairs .now) lanes) in
+    let adm = is-none (refusalOf (after-map-verdict .map-verdict .result))
+    (sym (after-admitted .admitted .ensures) ∙ not-false _ (else1 .if1 .left)) in
+    let first = sym adm ∙ after-map-verdict .map-verdict .ensures .0 in (
+      then-first (rulesTo5 (start .args .sizes) (start .args .words) t) (laneRules t) first
+          (lane-6 t (identities-once lanes
+          ∙ sym (after-identities-once .identities-once .ensures)
+          ∙ not-true _ (c .if2 .taken))),
+      refused 6,
+    )
 
 lanes-listed-requires : tie.Need-lanes-listed-requires
 unfolding rulesTo5
-lanes-listed-requires c κs = let s = (c .before .before .before .before .before .before .before .before .before .before .before .before .before .before .before .before .before .before .before .before .before .before .before .before .before .before) in let t = (laneTables (s .args .text .now) (s .args .roads .now) (s .args .sections .now) (s .args .junctions .now) (s .args .connections .now) (s .args .pairs .now) (s .args .lanes .now)) in let adm = is-none (refusalOf (c .before .before .before .before .before .before .before .before .before .before .before .map-verdict .result)) (sym (c .before .before .before .before .before .before .admitted .ensures) ∙ not-false _ (c .before .before .before .before .before .if1 .left)) in let first = sym adm ∙ c .before .before .before .before .before .before .before .before .before .before .before .map-verdict .ensures .0 in let k = kept5 (s .args .sizes) (s .args .words) t first in ((s .pre .0 .0 (k .sized) .few-roads, s .pre .0 .1 (k .sized), c .before .before .before .before .before .before .before .before .before .before .before .map-verdict .kept .1 .1 .1 .1 .1 .1 .1 .1 .0 ∙ s .pre .1 .0 .0, c .before .before .before .before .before .before .before .before .before .before .before .map-verdict .kept .1 .1 .1 .1 .1 .1 .1 .1 .1 .0 ∙ s .pre .1 .0 .1, s .pre .1 .1 .0), (parts-of (s .args .sections .now) (s .args .roads .now) _ (k .sections), (not-none _ (sym (roads-once (s .args .text .now) (s .args .roads .now) (s .args .sections .now)) ∙ k .once), c .before .before .before .before .before .before .before .before .before .before .before .map-verdict .ensures .1 adm)))
+lanes-listed-requires c κs =
+    let else1 : tie.Else1 = search in
+    let after-admitted : tie.After-admitted = search in
+    let after-map-verdict : tie.After-map-verdict = search in
+    let after-shared-slice-known5 = after-map-verdict .before .before .before .before .before .before .before .before .before .before in
+    let start = after-shared-slice-known5 .before .before .before .before .before in
+    let text = start .args .text .now in let roads = start .args .roads .now in
+    let sections = start .args .sections .now in
+    let t = (laneTables text roads sections (start .args .junctions .now) (start .args .connections .now)
+    (start .args .pairs .now) (start .args .lanes .now)) in
+    let adm = is-none (refusalOf (after-map-verdict .map-verdict .result))
+    (sym (after-admitted .admitted .ensures) ∙ not-false _ (else1 .if1 .left)) in
+    let first = sym adm ∙ after-map-verdict .map-verdict .ensures .0 in
+    let k = kept5 (start .args .sizes) (start .args .words) t first in (
+      (
+        start .pre .0 .0 (k .sized) .few-roads,
+        start .pre .0 .1 (k .sized),
+        after-map-verdict .map-verdict .kept .1 .1 .1 .1 .1 .1 .1 .1 .0 ∙ start .pre .1 .0 .0,
+        after-map-verdict .map-verdict .kept .1 .1 .1 .1 .1 .1 .1 .1 .1 .0 ∙ start .pre .1 .0 .1,
+        start .pre .1 .1 .0,
+      ),
+      (
+        parts-of sections roads _ (k .sections),
+        (
+          not-none _ (sym (roads-once text roads sections) ∙ k .once),
+          after-map-verdict .map-verdict .ensures .1 adm,
+        ),
+      ),
+    )
 
 same-length-5 : tie.Need-same-length-5
 same-length-5 c = search needs
@@ -60,11 +132,62 @@ same-length-7 c = search needs
 
 returns-3 : tie.Need-returns-3
 unfolding rulesTo5
-returns-3 c = let s = (c .before .before .before .before .before .before .before .before .before .before .before .before .before .before .before .before .before .before .before .before .before .before .before .before .before .before .before .before .before .before) in let t = (laneTables (s .args .text .now) (s .args .roads .now) (s .args .sections .now) (s .args .junctions .now) (s .args .connections .now) (s .args .pairs .now) (s .args .lanes .now)) in let adm = is-none (refusalOf (c .before .before .before .before .before .before .before .before .before .before .before .before .before .before .before .map-verdict .result)) (sym (c .before .before .before .before .before .before .before .before .before .before .admitted .ensures) ∙ not-false _ (c .before .before .before .before .before .before .before .before .before .if1 .left)) in let first = sym adm ∙ c .before .before .before .before .before .before .before .before .before .before .before .before .before .before .before .map-verdict .ensures .0 in (then-first (rulesTo5 (s .args .sizes) (s .args .words) t) (laneRules t) first (lane-7 t (identities-once (s .args .lanes .now) ∙ sym (c .before .before .before .before .before .before .before .before .identities-once .ensures) ∙ not-false _ (c .before .before .before .before .before .before .before .if2 .left)) (lanes-listed (s .args .text .now) (s .args .roads .now) (s .args .sections .now) (s .args .lanes .now) ∙ sym (c .before .before .before .lanes-listed .ensures .0) ∙ not-true _ (c .if3 .taken))), refused 7)
+returns-3 c =
+    let after-lanes-listed : tie.After-lanes-listed = search in
+    let else2 : tie.Else2 = search in
+    let after-identities-once : tie.After-identities-once = search in
+    let else1 : tie.Else1 = search in
+    let after-admitted : tie.After-admitted = search in
+    let after-map-verdict : tie.After-map-verdict = search in
+    let after-shared-slice-known5 = after-map-verdict .before .before .before .before .before .before .before .before .before .before in
+    let start = after-shared-slice-known5 .before .before .before .before .before in
+    let text = start .args .text .now in let roads = start .args .roads .now in
+    let sections = start .args .sections .now in let lanes = start .args .lanes .now in
+    let t = (laneTables text roads sections (start .args .junctions .now) (start .args .connections .now)
+    (start .args .pairs .now) lanes) in
+    let adm = is-none (refusalOf (after-map-verdict .map-verdict .result))
+    (sym (after-admitted .admitted .ensures) ∙ not-false _ (else1 .if1 .left)) in
+    let first = sym adm ∙ after-map-verdict .map-verdict .ensures .0 in (
+      then-first (rulesTo5 (start .args .sizes) (start .args .words) t) (laneRules t) first
+          (lane-7 t (identities-once lanes
+          ∙ sym (after-identities-once .identities-once .ensures)
+          ∙ not-false _ (else2 .if2 .left))
+          (lanes-listed text roads sections lanes
+          ∙ sym (after-lanes-listed .lanes-listed .ensures .0)
+          ∙ not-true _ (c .if3 .taken))),
+      refused 7,
+    )
 
 link-keys-requires : tie.Need-link-keys-requires
 unfolding rulesTo5
-link-keys-requires c κs = let s = (c .before .before .before .before .before .before .before .before .before .before .before .before .before .before .before .before .before .before .before .before .before .before .before .before .before .before .before .before .before .before .before .before .before) in let t = (laneTables (s .args .text .now) (s .args .roads .now) (s .args .sections .now) (s .args .junctions .now) (s .args .connections .now) (s .args .pairs .now) (s .args .lanes .now)) in let adm = is-none (refusalOf (c .before .before .before .before .before .before .before .before .before .before .before .before .before .before .before .before .before .before .map-verdict .result)) (sym (c .before .before .before .before .before .before .before .before .before .before .before .before .before .admitted .ensures) ∙ not-false _ (c .before .before .before .before .before .before .before .before .before .before .before .before .if1 .left)) in let first = sym adm ∙ c .before .before .before .before .before .before .before .before .before .before .before .before .before .before .before .before .before .before .map-verdict .ensures .0 in let k = kept5 (s .args .sizes) (s .args .words) t first in ((rows-in (length (s .args .lanes .now)) 10, s .pre .0 .1 (k .sized), omega (arith, c .before .before .before .before .before .before .lanes-listed .kept .1 .1 .1 .1 .1 .1 .0, s .pre .1 .1 .0, s .pre .0 .1 (k .sized)), s .pre .1 .1 .1 .0, s .pre .1 .1 .1 .1), s .pre .1 .1 .1 .2)
+link-keys-requires c κs =
+    let after-lanes-listed : tie.After-lanes-listed = search in
+    let else1 : tie.Else1 = search in
+    let after-admitted : tie.After-admitted = search in
+    let after-map-verdict : tie.After-map-verdict = search in
+    let after-shared-slice-known5 = after-map-verdict .before .before .before .before .before .before .before .before .before .before in
+    let start = after-shared-slice-known5 .before .before .before .before .before in
+    let lanes = start .args .lanes .now in
+    let t = (laneTables (start .args .text .now) (start .args .roads .now) (start .args .sections .now)
+    (start .args .junctions .now) (start .args .connections .now) (start .args .pairs .now) lanes) in
+    let adm = is-none (refusalOf (after-map-verdict .map-verdict .result))
+    (sym (after-admitted .admitted .ensures) ∙ not-false _ (else1 .if1 .left)) in
+    let first = sym adm ∙ after-map-verdict .map-verdict .ensures .0 in
+    let k = kept5 (start .args .sizes) (start .args .words) t first in (
+      (
+        rows-in (length lanes) 10,
+        start .pre .0 .1 (k .sized),
+        omega (
+          arith,
+          after-lanes-listed .lanes-listed .kept .1 .1 .1 .1 .1 .1 .0,
+          start .pre .1 .1 .0,
+          start .pre .0 .1 (k .sized),
+        ),
+        start .pre .1 .1 .1 .0,
+        start .pre .1 .1 .1 .1,
+      ),
+      start .pre .1 .1 .1 .2,
+    )
 
 same-length-8 : tie.Need-same-length-8
 same-length-8 c = search needs
@@ -83,7 +206,37 @@ same-length-12 c = search needs
 
 returns-4 : tie.Need-returns-4
 unfolding rulesTo5
-returns-4 c = let s = (c .before .before .before .before .before .before .before .before .before .before .before .before .before .before .before .before .before .before .before .before .before .before .before .before .before .before .before .before .before .before .before .before .before .before .before .before .before .before .before) in let t = (laneTables (s .args .text .now) (s .args .roads .now) (s .args .sections .now) (s .args .junctions .now) (s .args .connections .now) (s .args .pairs .now) (s .args .lanes .now)) in let adm = is-none (refusalOf (c .before .before .before .before .before .before .before .before .before .before .before .before .before .before .before .before .before .before .before .before .before .before .before .before .map-verdict .result)) (sym (c .before .before .before .before .before .before .before .before .before .before .before .before .before .before .before .before .before .before .before .admitted .ensures) ∙ not-false _ (c .before .before .before .before .before .before .before .before .before .before .before .before .before .before .before .before .before .before .if1 .left)) in let first = sym adm ∙ c .before .before .before .before .before .before .before .before .before .before .before .before .before .before .before .before .before .before .before .before .before .before .before .before .map-verdict .ensures .0 in (then-first (rulesTo5 (s .args .sizes) (s .args .words) t) (laneRules t) first (lane-8 t (identities-once (s .args .lanes .now) ∙ sym (c .before .before .before .before .before .before .before .before .before .before .before .before .before .before .before .before .before .identities-once .ensures) ∙ not-false _ (c .before .before .before .before .before .before .before .before .before .before .before .before .before .before .before .before .if2 .left)) (lanes-listed (s .args .text .now) (s .args .roads .now) (s .args .sections .now) (s .args .lanes .now) ∙ sym (c .before .before .before .before .before .before .before .before .before .before .before .before .lanes-listed .ensures .0) ∙ not-false _ (c .before .before .before .before .before .before .before .before .before .if3 .left)) (keys-once (s .args .text .now) (s .args .roads .now) (s .args .sections .now) (s .args .lanes .now) (c .before .before .before .before .before .before .before .before .before .before .before .before .lanes-listed .last .1 .1 .1 .1 .1 .1 .0) (sym (c .before .before .before .before .before .before .before .before .before .before .before .before .lanes-listed .ensures .0) ∙ not-false _ (c .before .before .before .before .before .before .before .before .before .if3 .left)) (c .before .before .before .before .before .before .before .before .before .before .before .before .lanes-listed .ensures .1) ∙ ap not (sym (c .before .before .before .before .before .link-keys .ensures .0) ∙ c .if4 .taken))), refused 8)
+returns-4 c =
+    let after-link-keys : tie.After-link-keys = search in
+    let else3 : tie.Else3 = search in
+    let after-lanes-listed : tie.After-lanes-listed = search in
+    let else2 : tie.Else2 = search in
+    let after-identities-once : tie.After-identities-once = search in
+    let else1 : tie.Else1 = search in
+    let after-admitted : tie.After-admitted = search in
+    let after-map-verdict : tie.After-map-verdict = search in
+    let after-shared-slice-known5 = after-map-verdict .before .before .before .before .before .before .before .before .before .before in
+    let start = after-shared-slice-known5 .before .before .before .before .before in
+    let text = start .args .text .now in let roads = start .args .roads .now in
+    let sections = start .args .sections .now in let lanes = start .args .lanes .now in
+    let t = (laneTables text roads sections (start .args .junctions .now) (start .args .connections .now)
+    (start .args .pairs .now) lanes) in
+    let adm = is-none (refusalOf (after-map-verdict .map-verdict .result))
+    (sym (after-admitted .admitted .ensures) ∙ not-false _ (else1 .if1 .left)) in
+    let first = sym adm ∙ after-map-verdict .map-verdict .ensures .0 in (
+      then-first (rulesTo5 (start .args .sizes) (start .args .words) t) (laneRules t) first
+          (lane-8 t (identities-once lanes
+          ∙ sym (after-identities-once .identities-once .ensures)
+          ∙ not-false _ (else2 .if2 .left))
+          (lanes-listed text roads sections lanes
+          ∙ sym (after-lanes-listed .lanes-listed .ensures .0)
+          ∙ not-false _ (else3 .if3 .left))
+          (keys-once text roads sections lanes (after-lanes-listed .lanes-listed .last .1 .1 .1 .1 .1 .1 .0)
+          (sym (after-lanes-listed .lanes-listed .ensures .0) ∙ not-false _ (else3 .if3 .left))
+          (after-lanes-listed .lanes-listed .ensures .1)
+          ∙ ap not (sym (after-link-keys .link-keys .ensures .0) ∙ c .if4 .taken))),
+      refused 8,
+    )
 
 same-length-13 : tie.Need-same-length-13
 same-length-13 c = search needs
@@ -102,7 +255,42 @@ same-length-17 c = search needs
 
 returns-5 : tie.Need-returns-5
 unfolding rulesTo5
-returns-5 c = let s = (c .before .before .before .before .before .before .before .before .before .before .before .before .before .before .before .before .before .before .before .before .before .before .before .before .before .before .before .before .before .before .before .before .before .before .before .before .before .before .before) in let t = (laneTables (s .args .text .now) (s .args .roads .now) (s .args .sections .now) (s .args .junctions .now) (s .args .connections .now) (s .args .pairs .now) (s .args .lanes .now)) in let adm = is-none (refusalOf (c .before .before .before .before .before .before .before .before .before .before .before .before .before .before .before .before .before .before .before .before .before .before .before .before .map-verdict .result)) (sym (c .before .before .before .before .before .before .before .before .before .before .before .before .before .before .before .before .before .before .before .admitted .ensures) ∙ not-false _ (c .before .before .before .before .before .before .before .before .before .before .before .before .before .before .before .before .before .before .if1 .left)) in let first = sym adm ∙ c .before .before .before .before .before .before .before .before .before .before .before .before .before .before .before .before .before .before .before .before .before .before .before .before .map-verdict .ensures .0 in (then-first (rulesTo5 (s .args .sizes) (s .args .words) t) (laneRules t) first (lane-0 t (identities-once (s .args .lanes .now) ∙ sym (c .before .before .before .before .before .before .before .before .before .before .before .before .before .before .before .before .before .identities-once .ensures) ∙ not-false _ (c .before .before .before .before .before .before .before .before .before .before .before .before .before .before .before .before .if2 .left)) (lanes-listed (s .args .text .now) (s .args .roads .now) (s .args .sections .now) (s .args .lanes .now) ∙ sym (c .before .before .before .before .before .before .before .before .before .before .before .before .lanes-listed .ensures .0) ∙ not-false _ (c .before .before .before .before .before .before .before .before .before .if3 .left)) (keys-once (s .args .text .now) (s .args .roads .now) (s .args .sections .now) (s .args .lanes .now) (c .before .before .before .before .before .before .before .before .before .before .before .before .lanes-listed .last .1 .1 .1 .1 .1 .1 .0) (sym (c .before .before .before .before .before .before .before .before .before .before .before .before .lanes-listed .ensures .0) ∙ not-false _ (c .before .before .before .before .before .before .before .before .before .if3 .left)) (c .before .before .before .before .before .before .before .before .before .before .before .before .lanes-listed .ensures .1) ∙ ap not (sym (c .before .before .before .before .before .link-keys .ensures .0) ∙ c .if4 .left))), λ e. record { named = c .before .before .before .before .before .before .before .before .before .before .before .before .before .before .before .before .before .before .before .before .before .before .before .before .map-verdict .ensures .1 adm; owned = c .before .before .before .before .before .before .before .before .before .before .before .before .lanes-listed .ensures .1; keyed = c .before .before .before .before .before .link-keys .ensures .1 })
+returns-5 c =
+    let after-link-keys : tie.After-link-keys = search in
+    let else3 : tie.Else3 = search in
+    let after-lanes-listed : tie.After-lanes-listed = search in
+    let else2 : tie.Else2 = search in
+    let after-identities-once : tie.After-identities-once = search in
+    let else1 : tie.Else1 = search in
+    let after-admitted : tie.After-admitted = search in
+    let after-map-verdict : tie.After-map-verdict = search in
+    let after-shared-slice-known5 = after-map-verdict .before .before .before .before .before .before .before .before .before .before in
+    let start = after-shared-slice-known5 .before .before .before .before .before in
+    let text = start .args .text .now in let roads = start .args .roads .now in
+    let sections = start .args .sections .now in let lanes = start .args .lanes .now in
+    let t = (laneTables text roads sections (start .args .junctions .now) (start .args .connections .now)
+    (start .args .pairs .now) lanes) in
+    let adm = is-none (refusalOf (after-map-verdict .map-verdict .result))
+    (sym (after-admitted .admitted .ensures) ∙ not-false _ (else1 .if1 .left)) in
+    let first = sym adm ∙ after-map-verdict .map-verdict .ensures .0 in (
+      then-first (rulesTo5 (start .args .sizes) (start .args .words) t) (laneRules t) first
+          (lane-0 t (identities-once lanes
+          ∙ sym (after-identities-once .identities-once .ensures)
+          ∙ not-false _ (else2 .if2 .left))
+          (lanes-listed text roads sections lanes
+          ∙ sym (after-lanes-listed .lanes-listed .ensures .0)
+          ∙ not-false _ (else3 .if3 .left))
+          (keys-once text roads sections lanes (after-lanes-listed .lanes-listed .last .1 .1 .1 .1 .1 .1 .0)
+          (sym (after-lanes-listed .lanes-listed .ensures .0) ∙ not-false _ (else3 .if3 .left))
+          (after-lanes-listed .lanes-listed .ensures .1)
+          ∙ ap not (sym (after-link-keys .link-keys .ensures .0) ∙ c .if4 .left))),
+      λ e.
+          record {
+            named = after-map-verdict .map-verdict .ensures .1 adm;
+            owned = after-lanes-listed .lanes-listed .ensures .1;
+            keyed = after-link-keys .link-keys .ensures .1;
+          },
+    )
 
 pub lane-verdict-spec : {M : Type 1} → statement M
 lane-verdict-spec =

@@ -15,7 +15,15 @@ map-worded-requires : tie.Need-map-worded-requires
 map-worded-requires c κs = search needs
 
 map-verdict-requires : tie.Need-map-verdict-requires
-map-verdict-requires c κs = let s = (c .before .before .before .before .before .before .before .before .before .before .before .before) in (λ e. few 8192 (mapTables (s .args .text .now) (s .args .roads .now) (s .args .sections .now) (s .args .junctions .now) (s .args .connections .now) (s .args .pairs .now)) (omega arith) (sym (c .before .before .before .map-sized .ensures) ∙ e), s .pre)
+map-verdict-requires c κs =
+    let after-map-sized : tie.After-map-sized = search in
+    let start : tie.Start = search in (
+      λ e.
+          few 8192 (mapTables (start .args .text .now) (start .args .roads .now) (start .args .sections .now)
+          (start .args .junctions .now) (start .args .connections .now) (start .args .pairs .now)) (omega arith)
+          (sym (after-map-sized .map-sized .ensures) ∙ e),
+      start .pre,
+    )
 
 same-length : tie.Need-same-length
 same-length c = search needs
@@ -25,7 +33,19 @@ same-length-2 c = search needs
 
 returns : tie.Need-returns
 unfolding repairRules mapWorded
-returns c = let s = (c .before .before .before .before .before .before .before .before .before .before .before .before .before .before .before .before .before) in (c .before .before .before .before .map-verdict .ensures .0 ∙ ap₂ (λ a b. firstBroken (rulesTo5 a b (mapTables (s .args .text .now) (s .args .roads .now) (s .args .sections .now) (s .args .junctions .now) (s .args .connections .now) (s .args .pairs .now)))) (c .before .before .before .before .before .before .before .before .map-sized .ensures) (c .before .before .before .before .before .before .before .map-worded .ensures), c .before .before .before .before .map-verdict .ensures .1)
+returns c =
+    let after-map-verdict : tie.After-map-verdict = search in
+    let after-map-worded : tie.After-map-worded = search in
+    let after-map-sized : tie.After-map-sized = search in
+    let start = after-map-sized .before .before .before .before .before .before .before .before .before in (
+      after-map-verdict .map-verdict .ensures .0
+          ∙ ap₂ (λ a b.
+          firstBroken (rulesTo5 a b (mapTables (start .args .text .now) (start .args .roads .now)
+          (start .args .sections .now) (start .args .junctions .now) (start .args .connections .now)
+          (start .args .pairs .now)))) (after-map-sized .map-sized .ensures)
+          (after-map-worded .map-worded .ensures),
+      after-map-verdict .map-verdict .ensures .1,
+    )
 
 pub repair-verdict-spec : {M : Type 1} → statement M
 repair-verdict-spec =

@@ -7,14 +7,16 @@ use native.Mathlib.Omega.{arith}
 use mathlib.Core.Path.{_≡_, sym, ap₂, _∙_}
 use borrow.Author.Needs.{needs}
 use Rattle.model.specs.Calls.{laneRules, rulesTo5, tableRules}
-use Rattle.model.specs.Rules.{edgesFit, edgesSized, firstBroken, lanesSized, lanesWorded, mapSized, mapWorded, marksFit, numbersFine, rule}
+use Rattle.model.specs.Rules.{edgesFit, edgesSized, firstBroken, lanesSized, lanesWorded, mapSized, mapWorded}
+use Rattle.model.specs.Rules.{marksFit, numbersFine, rule}
 use Rattle.model.specs.Tables.{allTables, lanesIn, mapTables, pairsIn}
 use Rattle.words.proofs.Scans.{left-on, right-on}
 use Rattle.rules.proofs.Counts.{few, junctions-few, sized-few, sized10, sized12}
 use Rattle.rules.proofs.Leaves.{both-is}
 use Rattle.rules.proofs.OneEnd.{one-ended}
 use Rattle.tables.specs.Verdicts.{refusalOf}
-use Rattle.tables.proofs.Order.{is-none, is-some, kept5-more, mark-0, mark-12, mark-13, mark-14, mark-early, marks-count, refused}
+use Rattle.tables.proofs.Order.{is-none, is-some, kept5-more, mark-0, mark-12, mark-13, mark-14}
+use Rattle.tables.proofs.Order.{mark-early, marks-count, refused}
 use Rattle.tables.proofs.verdict.reversal_verdict.Statement.{statement}
 use Rattle.tables.proofs.verdict.reversal_verdict.Tie as tie
 
@@ -43,7 +45,32 @@ both-requires-3 : tie.Need-both-requires-3
 both-requires-3 c κs = search needs
 
 table-verdict-requires : tie.Need-table-verdict-requires
-table-verdict-requires c κs = let s = (c .before .before .before .before .before .before .before .before .before .before .before .before .before .before .before .before .before .before .before .before .before .before .before .before .before .before .before) in let m = (mapTables (s .args .text .now) (s .args .roads .now) (s .args .sections .now) (s .args .junctions .now) (s .args .connections .now) (s .args .pairs .now)) in let sized = both-is (c .before .before .before .before .before .before .before .before .both2 .ensures) (both-is (c .before .before .before .before .before .before .before .before .before .before .both .ensures) (c .before .before .before .before .before .before .before .before .before .before .before .before .map-sized .ensures) (c .before .before .before .before .before .before .before .before .before .before .before .fits2 .ensures)) (c .before .before .before .before .before .before .before .before .before .fits3 .ensures) in let l = sized10 (s .args .lanes .now) in let e12 = sized12 (s .args .edges .now) in ((λ e. few 16384 m (omega arith) (left-on (mapSized 16384 m) l (left-on (mapSized 16384 m && l) e12 (sym sized ∙ e))), λ e. sized-few 10 16384 (length (s .args .lanes .now)) (right-on (mapSized 16384 m) l (left-on (mapSized 16384 m && l) e12 (sym sized ∙ e)))), s .pre)
+table-verdict-requires c κs =
+    let after-both2 : tie.After-both2 = search in
+    let after-fits3 : tie.After-fits3 = search in
+    let after-both : tie.After-both = search in
+    let after-fits2 : tie.After-fits2 = search in
+    let after-map-sized : tie.After-map-sized = search in
+    let after-shared-slice-known5 = after-map-sized .before .before .before .before .before .before .before .before .before .before in
+    let start = after-shared-slice-known5 .before .before .before .before .before in
+    let lanes = start .args .lanes .now in
+    let m = (mapTables (start .args .text .now) (start .args .roads .now) (start .args .sections .now)
+    (start .args .junctions .now) (start .args .connections .now) (start .args .pairs .now)) in
+    let sized = both-is (after-both2 .both2 .ensures)
+    (both-is (after-both .both .ensures) (after-map-sized .map-sized .ensures) (after-fits2 .fits2 .ensures))
+    (after-fits3 .fits3 .ensures) in
+    let l = sized10 lanes in
+    let e12 = sized12 (start .args .edges .now) in (
+      (
+        λ e.
+            few 16384 m (omega arith)
+            (left-on (mapSized 16384 m) l (left-on (mapSized 16384 m && l) e12 (sym sized ∙ e))),
+        λ e.
+            sized-few 10 16384 (length lanes)
+            (right-on (mapSized 16384 m) l (left-on (mapSized 16384 m && l) e12 (sym sized ∙ e))),
+      ),
+      start .pre,
+    )
 
 admitted-requires : tie.Need-admitted-requires
 admitted-requires c κs = search needs
@@ -65,7 +92,35 @@ same-length-5 c = search needs
 
 returns : tie.Need-returns
 unfolding tableRules mapSized lanesSized edgesSized mapWorded lanesWorded marksFit numbersFine lanesIn pairsIn rulesTo5
-returns c = let s = (c .before .before .before .before .before .before .before .before .before .before .before .before .before .before .before .before .before .before .before .before .before .before .before .before .before .before .before .before .before .before .before .before .before .before .before .before .before .before .before .before) in let t = (allTables (s .args .text .now) (s .args .roads .now) (s .args .sections .now) (s .args .junctions .now) (s .args .connections .now) (s .args .pairs .now) (s .args .lanes .now) (s .args .edges .now)) in let sized = both-is (c .before .before .before .before .before .before .before .before .before .before .before .before .before .before .before .before .before .before .before .before .before .both2 .ensures) (both-is (c .before .before .before .before .before .before .before .before .before .before .before .before .before .before .before .before .before .before .before .before .before .before .before .both .ensures) (c .before .before .before .before .before .before .before .before .before .before .before .before .before .before .before .before .before .before .before .before .before .before .before .before .before .map-sized .ensures) (c .before .before .before .before .before .before .before .before .before .before .before .before .before .before .before .before .before .before .before .before .before .before .before .before .fits2 .ensures)) (c .before .before .before .before .before .before .before .before .before .before .before .before .before .before .before .before .before .before .before .before .before .before .fits3 .ensures) in let worded = both-is (c .before .before .before .before .before .before .before .before .before .before .before .before .before .before .before .before .before .before .both3 .ensures) (c .before .before .before .before .before .before .before .before .before .before .before .before .before .before .before .before .before .before .before .before .map-worded .ensures) (c .before .before .before .before .before .before .before .before .before .before .before .before .before .before .before .before .before .before .before .lanes-worded .ensures) in let judged = c .before .before .before .before .before .before .before .before .before .before .before .before .table-verdict .ensures .0 ∙ ap₂ (λ a b. firstBroken (rulesTo5 a b t ++ laneRules t ++ (rule 10 (edgesFit t) ∷ []))) sized worded in let no : refusalOf (c .before .before .before .before .before .before .before .before .before .before .before .before .table-verdict .result) ≡ none → ⊥ = is-some (refusalOf (c .before .before .before .before .before .before .before .before .before .before .before .before .table-verdict .result)) (sym (c .before .admitted .ensures) ∙ not-true _ (c .if1 .taken)) in (mark-early t (s .args .marks .now) (refusalOf (c .before .before .before .before .before .before .before .before .before .before .before .before .table-verdict .result)) no judged, λ e. absurd (no e))
+returns c =
+    let after-admitted : tie.After-admitted = search in
+    let after-table-verdict : tie.After-table-verdict = search in
+    let after-both3 : tie.After-both3 = search in
+    let after-lanes-worded : tie.After-lanes-worded = search in
+    let after-map-worded : tie.After-map-worded = search in
+    let after-both2 : tie.After-both2 = search in
+    let after-fits3 : tie.After-fits3 = search in
+    let after-both : tie.After-both = search in
+    let after-fits2 : tie.After-fits2 = search in
+    let after-map-sized : tie.After-map-sized = search in
+    let after-shared-slice-known5 = after-map-sized .before .before .before .before .before .before .before .before .before .before in
+    let start = after-shared-slice-known5 .before .before .before .before .before in
+    let t = (allTables (start .args .text .now) (start .args .roads .now) (start .args .sections .now)
+    (start .args .junctions .now) (start .args .connections .now) (start .args .pairs .now)
+    (start .args .lanes .now) (start .args .edges .now)) in
+    let sized = both-is (after-both2 .both2 .ensures)
+    (both-is (after-both .both .ensures) (after-map-sized .map-sized .ensures) (after-fits2 .fits2 .ensures))
+    (after-fits3 .fits3 .ensures) in
+    let worded = both-is (after-both3 .both3 .ensures) (after-map-worded .map-worded .ensures)
+    (after-lanes-worded .lanes-worded .ensures) in
+    let judged = after-table-verdict .table-verdict .ensures .0
+    ∙ ap₂ (λ a b. firstBroken (rulesTo5 a b t ++ laneRules t ++ (rule 10 (edgesFit t) ∷ []))) sized worded in
+    let no : refusalOf (after-table-verdict .table-verdict .result) ≡ none → ⊥ =
+    is-some (refusalOf (after-table-verdict .table-verdict .result))
+    (sym (after-admitted .admitted .ensures) ∙ not-true _ (c .if1 .taken)) in (
+      mark-early t (start .args .marks .now) (refusalOf (after-table-verdict .table-verdict .result)) no judged,
+      λ e. absurd (no e),
+    )
 
 marks-fit-requires : tie.Need-marks-fit-requires
 marks-fit-requires c κs = search needs
@@ -87,7 +142,38 @@ same-length-10 c = search needs
 
 returns-2 : tie.Need-returns-2
 unfolding tableRules mapSized lanesSized edgesSized mapWorded lanesWorded marksFit numbersFine lanesIn pairsIn rulesTo5
-returns-2 c = let s = (c .before .before .before .before .before .before .before .before .before .before .before .before .before .before .before .before .before .before .before .before .before .before .before .before .before .before .before .before .before .before .before .before .before .before .before .before .before .before .before .before .before .before) in let t = (allTables (s .args .text .now) (s .args .roads .now) (s .args .sections .now) (s .args .junctions .now) (s .args .connections .now) (s .args .pairs .now) (s .args .lanes .now) (s .args .edges .now)) in let sized = both-is (c .before .before .before .before .before .before .before .before .before .before .before .before .before .before .before .before .before .before .before .before .before .before .before .both2 .ensures) (both-is (c .before .before .before .before .before .before .before .before .before .before .before .before .before .before .before .before .before .before .before .before .before .before .before .before .before .both .ensures) (c .before .before .before .before .before .before .before .before .before .before .before .before .before .before .before .before .before .before .before .before .before .before .before .before .before .before .before .map-sized .ensures) (c .before .before .before .before .before .before .before .before .before .before .before .before .before .before .before .before .before .before .before .before .before .before .before .before .before .before .fits2 .ensures)) (c .before .before .before .before .before .before .before .before .before .before .before .before .before .before .before .before .before .before .before .before .before .before .before .before .fits3 .ensures) in let worded = both-is (c .before .before .before .before .before .before .before .before .before .before .before .before .before .before .before .before .before .before .before .before .both3 .ensures) (c .before .before .before .before .before .before .before .before .before .before .before .before .before .before .before .before .before .before .before .before .before .before .map-worded .ensures) (c .before .before .before .before .before .before .before .before .before .before .before .before .before .before .before .before .before .before .before .before .before .lanes-worded .ensures) in let judged = c .before .before .before .before .before .before .before .before .before .before .before .before .before .before .table-verdict .ensures .0 ∙ ap₂ (λ a b. firstBroken (rulesTo5 a b t ++ laneRules t ++ (rule 10 (edgesFit t) ∷ []))) sized worded in let adm = is-none (refusalOf (c .before .before .before .before .before .before .before .before .before .before .before .before .before .before .table-verdict .result)) (sym (c .before .before .before .admitted .ensures) ∙ not-false _ (c .before .before .if1 .left)) in let first = sym adm ∙ judged in (mark-12 t (s .args .marks .now) first (sym (c .before .marks-fit .ensures) ∙ not-true _ (c .if2 .taken)), refused 12)
+returns-2 c =
+    let after-marks-fit : tie.After-marks-fit = search in
+    let else1 : tie.Else1 = search in
+    let after-admitted : tie.After-admitted = search in
+    let after-table-verdict : tie.After-table-verdict = search in
+    let after-both3 : tie.After-both3 = search in
+    let after-lanes-worded : tie.After-lanes-worded = search in
+    let after-map-worded : tie.After-map-worded = search in
+    let after-both2 : tie.After-both2 = search in
+    let after-fits3 : tie.After-fits3 = search in
+    let after-both : tie.After-both = search in
+    let after-fits2 : tie.After-fits2 = search in
+    let after-map-sized : tie.After-map-sized = search in
+    let after-shared-slice-known5 = after-map-sized .before .before .before .before .before .before .before .before .before .before in
+    let start = after-shared-slice-known5 .before .before .before .before .before in
+    let t = (allTables (start .args .text .now) (start .args .roads .now) (start .args .sections .now)
+    (start .args .junctions .now) (start .args .connections .now) (start .args .pairs .now)
+    (start .args .lanes .now) (start .args .edges .now)) in
+    let sized = both-is (after-both2 .both2 .ensures)
+    (both-is (after-both .both .ensures) (after-map-sized .map-sized .ensures) (after-fits2 .fits2 .ensures))
+    (after-fits3 .fits3 .ensures) in
+    let worded = both-is (after-both3 .both3 .ensures) (after-map-worded .map-worded .ensures)
+    (after-lanes-worded .lanes-worded .ensures) in
+    let judged = after-table-verdict .table-verdict .ensures .0
+    ∙ ap₂ (λ a b. firstBroken (rulesTo5 a b t ++ laneRules t ++ (rule 10 (edgesFit t) ∷ []))) sized worded in
+    let adm = is-none (refusalOf (after-table-verdict .table-verdict .result))
+    (sym (after-admitted .admitted .ensures) ∙ not-false _ (else1 .if1 .left)) in
+    let first = sym adm ∙ judged in (
+      mark-12 t (start .args .marks .now) first
+          (sym (after-marks-fit .marks-fit .ensures) ∙ not-true _ (c .if2 .taken)),
+      refused 12,
+    )
 
 lanes-turn-requires : tie.Need-lanes-turn-requires
 lanes-turn-requires c κs = search needs
@@ -115,11 +201,82 @@ same-length-15 c = search needs
 
 returns-3 : tie.Need-returns-3
 unfolding tableRules mapSized lanesSized edgesSized mapWorded lanesWorded marksFit numbersFine lanesIn pairsIn rulesTo5
-returns-3 c = let s = (c .before .before .before .before .before .before .before .before .before .before .before .before .before .before .before .before .before .before .before .before .before .before .before .before .before .before .before .before .before .before .before .before .before .before .before .before .before .before .before .before .before .before .before .before .before .before) in let t = (allTables (s .args .text .now) (s .args .roads .now) (s .args .sections .now) (s .args .junctions .now) (s .args .connections .now) (s .args .pairs .now) (s .args .lanes .now) (s .args .edges .now)) in let sized = both-is (c .before .before .before .before .before .before .before .before .before .before .before .before .before .before .before .before .before .before .before .before .before .before .before .before .before .before .before .both2 .ensures) (both-is (c .before .before .before .before .before .before .before .before .before .before .before .before .before .before .before .before .before .before .before .before .before .before .before .before .before .before .before .before .before .both .ensures) (c .before .before .before .before .before .before .before .before .before .before .before .before .before .before .before .before .before .before .before .before .before .before .before .before .before .before .before .before .before .before .before .map-sized .ensures) (c .before .before .before .before .before .before .before .before .before .before .before .before .before .before .before .before .before .before .before .before .before .before .before .before .before .before .before .before .before .before .fits2 .ensures)) (c .before .before .before .before .before .before .before .before .before .before .before .before .before .before .before .before .before .before .before .before .before .before .before .before .before .before .before .before .fits3 .ensures) in let worded = both-is (c .before .before .before .before .before .before .before .before .before .before .before .before .before .before .before .before .before .before .before .before .before .before .before .before .both3 .ensures) (c .before .before .before .before .before .before .before .before .before .before .before .before .before .before .before .before .before .before .before .before .before .before .before .before .before .before .map-worded .ensures) (c .before .before .before .before .before .before .before .before .before .before .before .before .before .before .before .before .before .before .before .before .before .before .before .before .before .lanes-worded .ensures) in let judged = c .before .before .before .before .before .before .before .before .before .before .before .before .before .before .before .before .before .before .table-verdict .ensures .0 ∙ ap₂ (λ a b. firstBroken (rulesTo5 a b t ++ laneRules t ++ (rule 10 (edgesFit t) ∷ []))) sized worded in let adm = is-none (refusalOf (c .before .before .before .before .before .before .before .before .before .before .before .before .before .before .before .before .before .before .table-verdict .result)) (sym (c .before .before .before .before .before .before .before .admitted .ensures) ∙ not-false _ (c .before .before .before .before .before .before .if1 .left)) in let first = sym adm ∙ judged in (mark-13 t (s .args .marks .now) first (sym (c .before .before .before .before .before .marks-fit .ensures) ∙ not-false _ (c .before .before .before .before .if2 .left)) (sym (both-is (c .before .both4 .ensures) (c .before .before .before .lanes-turn .ensures) (c .before .before .pairs-turn .ensures)) ∙ not-true _ (c .if3 .taken)), refused 13)
+returns-3 c =
+    let after-both4 : tie.After-both4 = search in
+    let after-pairs-turn : tie.After-pairs-turn = search in
+    let after-lanes-turn : tie.After-lanes-turn = search in
+    let else2 : tie.Else2 = search in
+    let after-marks-fit : tie.After-marks-fit = search in
+    let else1 : tie.Else1 = search in
+    let after-admitted : tie.After-admitted = search in
+    let after-heads = after-admitted .before .before .before .before .before .before .before .before .before .before in
+    let after-table-verdict = after-heads .before in
+    let after-both3 = after-table-verdict .before .before .before .before .before .before in
+    let after-lanes-worded : tie.After-lanes-worded = search in
+    let after-map-worded : tie.After-map-worded = search in
+    let after-both2 : tie.After-both2 = search in
+    let after-fits3 : tie.After-fits3 = search in
+    let after-both : tie.After-both = search in
+    let after-fits2 : tie.After-fits2 = search in
+    let after-map-sized : tie.After-map-sized = search in
+    let after-shared-slice-known5 = after-map-sized .before .before .before .before .before .before .before .before .before .before in
+    let start = after-shared-slice-known5 .before .before .before .before .before in
+    let t = (allTables (start .args .text .now) (start .args .roads .now) (start .args .sections .now)
+    (start .args .junctions .now) (start .args .connections .now) (start .args .pairs .now)
+    (start .args .lanes .now) (start .args .edges .now)) in
+    let sized = both-is (after-both2 .both2 .ensures)
+    (both-is (after-both .both .ensures) (after-map-sized .map-sized .ensures) (after-fits2 .fits2 .ensures))
+    (after-fits3 .fits3 .ensures) in
+    let worded = both-is (after-both3 .both3 .ensures) (after-map-worded .map-worded .ensures)
+    (after-lanes-worded .lanes-worded .ensures) in
+    let judged = after-table-verdict .table-verdict .ensures .0
+    ∙ ap₂ (λ a b. firstBroken (rulesTo5 a b t ++ laneRules t ++ (rule 10 (edgesFit t) ∷ []))) sized worded in
+    let adm = is-none (refusalOf (after-table-verdict .table-verdict .result))
+    (sym (after-admitted .admitted .ensures) ∙ not-false _ (else1 .if1 .left)) in
+    let first = sym adm ∙ judged in (
+      mark-13 t (start .args .marks .now) first
+          (sym (after-marks-fit .marks-fit .ensures) ∙ not-false _ (else2 .if2 .left))
+          (sym (both-is (after-both4 .both4 .ensures) (after-lanes-turn .lanes-turn .ensures)
+          (after-pairs-turn .pairs-turn .ensures))
+          ∙ not-true _ (c .if3 .taken)),
+      refused 13,
+    )
 
 one-ended-requires : tie.Need-one-ended-requires
 unfolding tableRules mapSized lanesSized edgesSized mapWorded lanesWorded marksFit numbersFine lanesIn pairsIn rulesTo5
-one-ended-requires c κs = let s = (c .before .before .before .before .before .before .before .before .before .before .before .before .before .before .before .before .before .before .before .before .before .before .before .before .before .before .before .before .before .before .before .before .before .before .before .before .before .before .before .before .before .before .before .before .before .before) in let t = (allTables (s .args .text .now) (s .args .roads .now) (s .args .sections .now) (s .args .junctions .now) (s .args .connections .now) (s .args .pairs .now) (s .args .lanes .now) (s .args .edges .now)) in let m = (mapTables (s .args .text .now) (s .args .roads .now) (s .args .sections .now) (s .args .junctions .now) (s .args .connections .now) (s .args .pairs .now)) in let sized = both-is (c .before .before .before .before .before .before .before .before .before .before .before .before .before .before .before .before .before .before .before .before .before .before .before .before .before .before .before .both2 .ensures) (both-is (c .before .before .before .before .before .before .before .before .before .before .before .before .before .before .before .before .before .before .before .before .before .before .before .before .before .before .before .before .before .both .ensures) (c .before .before .before .before .before .before .before .before .before .before .before .before .before .before .before .before .before .before .before .before .before .before .before .before .before .before .before .before .before .before .before .map-sized .ensures) (c .before .before .before .before .before .before .before .before .before .before .before .before .before .before .before .before .before .before .before .before .before .before .before .before .before .before .before .before .before .before .fits2 .ensures)) (c .before .before .before .before .before .before .before .before .before .before .before .before .before .before .before .before .before .before .before .before .before .before .before .before .before .before .before .before .fits3 .ensures) in let adm = is-none (refusalOf (c .before .before .before .before .before .before .before .before .before .before .before .before .before .before .before .before .before .before .table-verdict .result)) (sym (c .before .before .before .before .before .before .before .admitted .ensures) ∙ not-false _ (c .before .before .before .before .before .before .if1 .left)) in let kept = kept5-more (c .before .before .before .before .before .before .before .before .before .before .before .before .before .before .before .before .before .before .before .before .before .before .before .before .before .before .before .both2 .result) (c .before .before .before .before .before .before .before .before .before .before .before .before .before .before .before .before .before .before .before .before .before .before .before .before .both3 .result) t (laneRules t ++ (rule 10 (edgesFit t) ∷ [])) (sym adm ∙ c .before .before .before .before .before .before .before .before .before .before .before .before .before .before .before .before .before .before .table-verdict .ensures .0) in (marks-count (s .args .roads .now) (s .args .marks .now) (sym (c .before .before .before .before .before .marks-fit .ensures) ∙ not-false _ (c .before .before .before .before .if2 .left)), junctions-few 16384 m (left-on (mapSized 16384 m) (sized10 (s .args .lanes .now)) (left-on (mapSized 16384 m && sized10 (s .args .lanes .now)) (sized12 (s .args .edges .now)) (sym sized ∙ kept .sized))))
+one-ended-requires c κs =
+    let else2 : tie.Else2 = search in
+    let after-marks-fit : tie.After-marks-fit = search in
+    let else1 : tie.Else1 = search in
+    let after-admitted : tie.After-admitted = search in
+    let after-heads = after-admitted .before .before .before .before .before .before .before .before .before .before in
+    let after-table-verdict = after-heads .before in
+    let after-both3 : tie.After-both3 = search in
+    let after-both2 : tie.After-both2 = search in
+    let after-fits3 : tie.After-fits3 = search in
+    let after-both : tie.After-both = search in
+    let after-fits2 : tie.After-fits2 = search in
+    let after-map-sized : tie.After-map-sized = search in
+    let after-shared-slice-known5 = after-map-sized .before .before .before .before .before .before .before .before .before .before in
+    let start = after-shared-slice-known5 .before .before .before .before .before in
+    let text = start .args .text .now in let roads = start .args .roads .now in
+    let sections = start .args .sections .now in let junctions = start .args .junctions .now in
+    let connections = start .args .connections .now in let pairs = start .args .pairs .now in
+    let lanes = start .args .lanes .now in let edges = start .args .edges .now in
+    let t = (allTables text roads sections junctions connections pairs lanes edges) in
+    let m = (mapTables text roads sections junctions connections pairs) in
+    let sized = both-is (after-both2 .both2 .ensures)
+    (both-is (after-both .both .ensures) (after-map-sized .map-sized .ensures) (after-fits2 .fits2 .ensures))
+    (after-fits3 .fits3 .ensures) in
+    let adm = is-none (refusalOf (after-table-verdict .table-verdict .result))
+    (sym (after-admitted .admitted .ensures) ∙ not-false _ (else1 .if1 .left)) in
+    let kept = kept5-more (after-both2 .both2 .result) (after-both3 .both3 .result) t
+    (laneRules t ++ (rule 10 (edgesFit t) ∷ [])) (sym adm ∙ after-table-verdict .table-verdict .ensures .0) in (
+      marks-count roads (start .args .marks .now)
+          (sym (after-marks-fit .marks-fit .ensures) ∙ not-false _ (else2 .if2 .left)),
+      junctions-few 16384 m (left-on (mapSized 16384 m) (sized10 lanes)
+          (left-on (mapSized 16384 m && sized10 lanes) (sized12 edges) (sym sized ∙ kept .sized))),
+    )
 
 same-length-16 : tie.Need-same-length-16
 same-length-16 c = search needs
@@ -138,7 +295,57 @@ same-length-20 c = search needs
 
 returns-4 : tie.Need-returns-4
 unfolding tableRules mapSized lanesSized edgesSized mapWorded lanesWorded marksFit numbersFine lanesIn pairsIn rulesTo5
-returns-4 c = let s = (c .before .before .before .before .before .before .before .before .before .before .before .before .before .before .before .before .before .before .before .before .before .before .before .before .before .before .before .before .before .before .before .before .before .before .before .before .before .before .before .before .before .before .before .before .before .before .before .before) in let t = (allTables (s .args .text .now) (s .args .roads .now) (s .args .sections .now) (s .args .junctions .now) (s .args .connections .now) (s .args .pairs .now) (s .args .lanes .now) (s .args .edges .now)) in let sized = both-is (c .before .before .before .before .before .before .before .before .before .before .before .before .before .before .before .before .before .before .before .before .before .before .before .before .before .before .before .before .before .both2 .ensures) (both-is (c .before .before .before .before .before .before .before .before .before .before .before .before .before .before .before .before .before .before .before .before .before .before .before .before .before .before .before .before .before .before .before .both .ensures) (c .before .before .before .before .before .before .before .before .before .before .before .before .before .before .before .before .before .before .before .before .before .before .before .before .before .before .before .before .before .before .before .before .before .map-sized .ensures) (c .before .before .before .before .before .before .before .before .before .before .before .before .before .before .before .before .before .before .before .before .before .before .before .before .before .before .before .before .before .before .before .before .fits2 .ensures)) (c .before .before .before .before .before .before .before .before .before .before .before .before .before .before .before .before .before .before .before .before .before .before .before .before .before .before .before .before .before .before .fits3 .ensures) in let worded = both-is (c .before .before .before .before .before .before .before .before .before .before .before .before .before .before .before .before .before .before .before .before .before .before .before .before .before .before .both3 .ensures) (c .before .before .before .before .before .before .before .before .before .before .before .before .before .before .before .before .before .before .before .before .before .before .before .before .before .before .before .before .map-worded .ensures) (c .before .before .before .before .before .before .before .before .before .before .before .before .before .before .before .before .before .before .before .before .before .before .before .before .before .before .before .lanes-worded .ensures) in let judged = c .before .before .before .before .before .before .before .before .before .before .before .before .before .before .before .before .before .before .before .before .table-verdict .ensures .0 ∙ ap₂ (λ a b. firstBroken (rulesTo5 a b t ++ laneRules t ++ (rule 10 (edgesFit t) ∷ []))) sized worded in let adm = is-none (refusalOf (c .before .before .before .before .before .before .before .before .before .before .before .before .before .before .before .before .before .before .before .before .table-verdict .result)) (sym (c .before .before .before .before .before .before .before .before .before .admitted .ensures) ∙ not-false _ (c .before .before .before .before .before .before .before .before .if1 .left)) in let first = sym adm ∙ judged in let kept = kept5-more (c .before .before .before .before .before .before .before .before .before .before .before .before .before .before .before .before .before .before .before .before .before .before .before .before .before .before .before .before .before .both2 .result) (c .before .before .before .before .before .before .before .before .before .before .before .before .before .before .before .before .before .before .before .before .before .before .before .before .before .before .both3 .result) t (laneRules t ++ (rule 10 (edgesFit t) ∷ [])) (sym adm ∙ c .before .before .before .before .before .before .before .before .before .before .before .before .before .before .before .before .before .before .before .before .table-verdict .ensures .0) in (mark-14 t (s .args .marks .now) first (sym (c .before .before .before .before .before .before .before .marks-fit .ensures) ∙ not-false _ (c .before .before .before .before .before .before .if2 .left)) (sym (both-is (c .before .before .before .both4 .ensures) (c .before .before .before .before .before .lanes-turn .ensures) (c .before .before .before .before .pairs-turn .ensures)) ∙ not-false _ (c .before .before .if3 .left)) (one-ended (s .args .text .now) (s .args .roads .now) (s .args .sections .now) (s .args .junctions .now) (s .args .connections .now) (s .args .pairs .now) (s .args .marks .now) (kept .once) (marks-count (s .args .roads .now) (s .args .marks .now) (sym (c .before .before .before .before .before .before .before .marks-fit .ensures) ∙ not-false _ (c .before .before .before .before .before .before .if2 .left))) ∙ sym (c .before .one-ended .ensures) ∙ not-true _ (c .if4 .taken)), refused 14)
+returns-4 c =
+    let after-one-ended : tie.After-one-ended = search in
+    let else3 : tie.Else3 = search in
+    let after-both4 : tie.After-both4 = search in
+    let after-pairs-turn : tie.After-pairs-turn = search in
+    let after-lanes-turn : tie.After-lanes-turn = search in
+    let else2 : tie.Else2 = search in
+    let after-marks-fit : tie.After-marks-fit = search in
+    let else1 : tie.Else1 = search in
+    let after-admitted : tie.After-admitted = search in
+    let after-heads = after-admitted .before .before .before .before .before .before .before .before .before .before in
+    let after-table-verdict = after-heads .before in
+    let after-both3 = after-table-verdict .before .before .before .before .before .before in
+    let after-lanes-worded : tie.After-lanes-worded = search in
+    let after-map-worded : tie.After-map-worded = search in
+    let after-both2 : tie.After-both2 = search in
+    let after-fits3 : tie.After-fits3 = search in
+    let after-both : tie.After-both = search in
+    let after-fits2 : tie.After-fits2 = search in
+    let after-map-sized : tie.After-map-sized = search in
+    let after-shared-slice-known5 = after-map-sized .before .before .before .before .before .before .before .before .before .before in
+    let start = after-shared-slice-known5 .before .before .before .before .before in
+    let text = start .args .text .now in let roads = start .args .roads .now in
+    let sections = start .args .sections .now in let junctions = start .args .junctions .now in
+    let connections = start .args .connections .now in let pairs = start .args .pairs .now in
+    let marks = start .args .marks .now in
+    let t = (allTables text roads sections junctions connections pairs (start .args .lanes .now)
+    (start .args .edges .now)) in
+    let sized = both-is (after-both2 .both2 .ensures)
+    (both-is (after-both .both .ensures) (after-map-sized .map-sized .ensures) (after-fits2 .fits2 .ensures))
+    (after-fits3 .fits3 .ensures) in
+    let worded = both-is (after-both3 .both3 .ensures) (after-map-worded .map-worded .ensures)
+    (after-lanes-worded .lanes-worded .ensures) in
+    let judged = after-table-verdict .table-verdict .ensures .0
+    ∙ ap₂ (λ a b. firstBroken (rulesTo5 a b t ++ laneRules t ++ (rule 10 (edgesFit t) ∷ []))) sized worded in
+    let adm = is-none (refusalOf (after-table-verdict .table-verdict .result))
+    (sym (after-admitted .admitted .ensures) ∙ not-false _ (else1 .if1 .left)) in
+    let first = sym adm ∙ judged in
+    let kept = kept5-more (after-both2 .both2 .result) (after-both3 .both3 .result) t
+    (laneRules t ++ (rule 10 (edgesFit t) ∷ [])) (sym adm ∙ after-table-verdict .table-verdict .ensures .0) in (
+      mark-14 t marks first (sym (after-marks-fit .marks-fit .ensures) ∙ not-false _ (else2 .if2 .left))
+          (sym (both-is (after-both4 .both4 .ensures) (after-lanes-turn .lanes-turn .ensures)
+          (after-pairs-turn .pairs-turn .ensures))
+          ∙ not-false _ (else3 .if3 .left))
+          (one-ended text roads sections junctions connections pairs marks (kept .once)
+          (marks-count roads marks
+          (sym (after-marks-fit .marks-fit .ensures) ∙ not-false _ (else2 .if2 .left)))
+          ∙ sym (after-one-ended .one-ended .ensures)
+          ∙ not-true _ (c .if4 .taken)),
+      refused 14,
+    )
 
 same-length-21 : tie.Need-same-length-21
 same-length-21 c = search needs
@@ -157,7 +364,57 @@ same-length-25 c = search needs
 
 returns-5 : tie.Need-returns-5
 unfolding tableRules mapSized lanesSized edgesSized mapWorded lanesWorded marksFit numbersFine lanesIn pairsIn rulesTo5
-returns-5 c = let s = (c .before .before .before .before .before .before .before .before .before .before .before .before .before .before .before .before .before .before .before .before .before .before .before .before .before .before .before .before .before .before .before .before .before .before .before .before .before .before .before .before .before .before .before .before .before .before .before .before) in let t = (allTables (s .args .text .now) (s .args .roads .now) (s .args .sections .now) (s .args .junctions .now) (s .args .connections .now) (s .args .pairs .now) (s .args .lanes .now) (s .args .edges .now)) in let sized = both-is (c .before .before .before .before .before .before .before .before .before .before .before .before .before .before .before .before .before .before .before .before .before .before .before .before .before .before .before .before .before .both2 .ensures) (both-is (c .before .before .before .before .before .before .before .before .before .before .before .before .before .before .before .before .before .before .before .before .before .before .before .before .before .before .before .before .before .before .before .both .ensures) (c .before .before .before .before .before .before .before .before .before .before .before .before .before .before .before .before .before .before .before .before .before .before .before .before .before .before .before .before .before .before .before .before .before .map-sized .ensures) (c .before .before .before .before .before .before .before .before .before .before .before .before .before .before .before .before .before .before .before .before .before .before .before .before .before .before .before .before .before .before .before .before .fits2 .ensures)) (c .before .before .before .before .before .before .before .before .before .before .before .before .before .before .before .before .before .before .before .before .before .before .before .before .before .before .before .before .before .before .fits3 .ensures) in let worded = both-is (c .before .before .before .before .before .before .before .before .before .before .before .before .before .before .before .before .before .before .before .before .before .before .before .before .before .before .both3 .ensures) (c .before .before .before .before .before .before .before .before .before .before .before .before .before .before .before .before .before .before .before .before .before .before .before .before .before .before .before .before .map-worded .ensures) (c .before .before .before .before .before .before .before .before .before .before .before .before .before .before .before .before .before .before .before .before .before .before .before .before .before .before .before .lanes-worded .ensures) in let judged = c .before .before .before .before .before .before .before .before .before .before .before .before .before .before .before .before .before .before .before .before .table-verdict .ensures .0 ∙ ap₂ (λ a b. firstBroken (rulesTo5 a b t ++ laneRules t ++ (rule 10 (edgesFit t) ∷ []))) sized worded in let adm = is-none (refusalOf (c .before .before .before .before .before .before .before .before .before .before .before .before .before .before .before .before .before .before .before .before .table-verdict .result)) (sym (c .before .before .before .before .before .before .before .before .before .admitted .ensures) ∙ not-false _ (c .before .before .before .before .before .before .before .before .if1 .left)) in let first = sym adm ∙ judged in let kept = kept5-more (c .before .before .before .before .before .before .before .before .before .before .before .before .before .before .before .before .before .before .before .before .before .before .before .before .before .before .before .before .before .both2 .result) (c .before .before .before .before .before .before .before .before .before .before .before .before .before .before .before .before .before .before .before .before .before .before .before .before .before .before .both3 .result) t (laneRules t ++ (rule 10 (edgesFit t) ∷ [])) (sym adm ∙ c .before .before .before .before .before .before .before .before .before .before .before .before .before .before .before .before .before .before .before .before .table-verdict .ensures .0) in (mark-0 t (s .args .marks .now) first (sym (c .before .before .before .before .before .before .before .marks-fit .ensures) ∙ not-false _ (c .before .before .before .before .before .before .if2 .left)) (sym (both-is (c .before .before .before .both4 .ensures) (c .before .before .before .before .before .lanes-turn .ensures) (c .before .before .before .before .pairs-turn .ensures)) ∙ not-false _ (c .before .before .if3 .left)) (one-ended (s .args .text .now) (s .args .roads .now) (s .args .sections .now) (s .args .junctions .now) (s .args .connections .now) (s .args .pairs .now) (s .args .marks .now) (kept .once) (marks-count (s .args .roads .now) (s .args .marks .now) (sym (c .before .before .before .before .before .before .before .marks-fit .ensures) ∙ not-false _ (c .before .before .before .before .before .before .if2 .left))) ∙ sym (c .before .one-ended .ensures) ∙ not-false _ (c .if4 .left)), λ e. c .before .before .before .before .before .before .before .before .before .before .before .before .before .before .before .before .before .before .before .before .table-verdict .ensures .1 adm)
+returns-5 c =
+    let after-one-ended : tie.After-one-ended = search in
+    let else3 : tie.Else3 = search in
+    let after-both4 : tie.After-both4 = search in
+    let after-pairs-turn : tie.After-pairs-turn = search in
+    let after-lanes-turn : tie.After-lanes-turn = search in
+    let else2 : tie.Else2 = search in
+    let after-marks-fit : tie.After-marks-fit = search in
+    let else1 : tie.Else1 = search in
+    let after-admitted : tie.After-admitted = search in
+    let after-heads = after-admitted .before .before .before .before .before .before .before .before .before .before in
+    let after-table-verdict = after-heads .before in
+    let after-both3 = after-table-verdict .before .before .before .before .before .before in
+    let after-lanes-worded : tie.After-lanes-worded = search in
+    let after-map-worded : tie.After-map-worded = search in
+    let after-both2 : tie.After-both2 = search in
+    let after-fits3 : tie.After-fits3 = search in
+    let after-both : tie.After-both = search in
+    let after-fits2 : tie.After-fits2 = search in
+    let after-map-sized : tie.After-map-sized = search in
+    let after-shared-slice-known5 = after-map-sized .before .before .before .before .before .before .before .before .before .before in
+    let start = after-shared-slice-known5 .before .before .before .before .before in
+    let text = start .args .text .now in let roads = start .args .roads .now in
+    let sections = start .args .sections .now in let junctions = start .args .junctions .now in
+    let connections = start .args .connections .now in let pairs = start .args .pairs .now in
+    let marks = start .args .marks .now in
+    let t = (allTables text roads sections junctions connections pairs (start .args .lanes .now)
+    (start .args .edges .now)) in
+    let sized = both-is (after-both2 .both2 .ensures)
+    (both-is (after-both .both .ensures) (after-map-sized .map-sized .ensures) (after-fits2 .fits2 .ensures))
+    (after-fits3 .fits3 .ensures) in
+    let worded = both-is (after-both3 .both3 .ensures) (after-map-worded .map-worded .ensures)
+    (after-lanes-worded .lanes-worded .ensures) in
+    let judged = after-table-verdict .table-verdict .ensures .0
+    ∙ ap₂ (λ a b. firstBroken (rulesTo5 a b t ++ laneRules t ++ (rule 10 (edgesFit t) ∷ []))) sized worded in
+    let adm = is-none (refusalOf (after-table-verdict .table-verdict .result))
+    (sym (after-admitted .admitted .ensures) ∙ not-false _ (else1 .if1 .left)) in
+    let first = sym adm ∙ judged in
+    let kept = kept5-more (after-both2 .both2 .result) (after-both3 .both3 .result) t
+    (laneRules t ++ (rule 10 (edgesFit t) ∷ [])) (sym adm ∙ after-table-verdict .table-verdict .ensures .0) in (
+      mark-0 t marks first (sym (after-marks-fit .marks-fit .ensures) ∙ not-false _ (else2 .if2 .left))
+          (sym (both-is (after-both4 .both4 .ensures) (after-lanes-turn .lanes-turn .ensures)
+          (after-pairs-turn .pairs-turn .ensures))
+          ∙ not-false _ (else3 .if3 .left))
+          (one-ended text roads sections junctions connections pairs marks (kept .once)
+          (marks-count roads marks
+          (sym (after-marks-fit .marks-fit .ensures) ∙ not-false _ (else2 .if2 .left)))
+          ∙ sym (after-one-ended .one-ended .ensures)
+          ∙ not-false _ (c .if4 .left)),
+      λ e. after-table-verdict .table-verdict .ensures .1 adm,
+    )
 
 pub reversal-verdict-spec : {M : Type 1} → statement M
 reversal-verdict-spec =

@@ -31,7 +31,23 @@ both-requires-2 : tie.Need-both-requires-2
 both-requires-2 c κs = search needs
 
 lane-verdict-requires : tie.Need-lane-verdict-requires
-lane-verdict-requires c κs = let s = (c .before .before .before .before .before .before .before .before .before .before .before .before .before .before .before .before .before .before .before .before .before .before .before) in let m = (mapTables (s .args .text .now) (s .args .roads .now) (s .args .sections .now) (s .args .junctions .now) (s .args .connections .now) (s .args .pairs .now)) in let sized = both-is (c .before .before .before .before .before .before .before .before .both .ensures) (c .before .before .before .before .before .before .before .before .before .before .map-sized .ensures) (c .before .before .before .before .before .before .before .before .before .fits2 .ensures) in ((λ e. few 16384 m (omega arith) (left-on (mapSized 16384 m) (sized10 (s .args .lanes .now)) (sym sized ∙ e)), λ e. sized-few 10 16384 (length (s .args .lanes .now)) (right-on (mapSized 16384 m) (sized10 (s .args .lanes .now)) (sym sized ∙ e))), s .pre)
+lane-verdict-requires c κs =
+    let after-both : tie.After-both = search in
+    let after-fits2 : tie.After-fits2 = search in
+    let after-map-sized : tie.After-map-sized = search in
+    let after-shared-slice-known3 = after-map-sized .before .before .before .before .before .before .before .before .before .before in
+    let start = after-shared-slice-known3 .before .before .before in
+    let lanes = start .args .lanes .now in
+    let m = (mapTables (start .args .text .now) (start .args .roads .now) (start .args .sections .now)
+    (start .args .junctions .now) (start .args .connections .now) (start .args .pairs .now)) in
+    let sized = both-is (after-both .both .ensures) (after-map-sized .map-sized .ensures)
+    (after-fits2 .fits2 .ensures) in (
+      (
+        λ e. few 16384 m (omega arith) (left-on (mapSized 16384 m) (sized10 lanes) (sym sized ∙ e)),
+        λ e. sized-few 10 16384 (length lanes) (right-on (mapSized 16384 m) (sized10 lanes) (sym sized ∙ e)),
+      ),
+      start .pre,
+    )
 
 same-length : tie.Need-same-length
 same-length c = search needs
@@ -50,7 +66,27 @@ same-length-5 c = search needs
 
 returns : tie.Need-returns
 unfolding successionRules lanesSized mapWorded lanesWorded mapSized
-returns c = let s = (c .before .before .before .before .before .before .before .before .before .before .before .before .before .before .before .before .before .before .before .before .before .before .before .before .before .before .before .before .before .before .before .before .before .before) in let t = (laneTables (s .args .text .now) (s .args .roads .now) (s .args .sections .now) (s .args .junctions .now) (s .args .connections .now) (s .args .pairs .now) (s .args .lanes .now)) in let sized = both-is (c .before .before .before .before .before .before .before .before .before .before .before .before .before .before .before .before .before .before .before .both .ensures) (c .before .before .before .before .before .before .before .before .before .before .before .before .before .before .before .before .before .before .before .before .before .map-sized .ensures) (c .before .before .before .before .before .before .before .before .before .before .before .before .before .before .before .before .before .before .before .before .fits2 .ensures) in let worded = both-is (c .before .before .before .before .before .before .before .before .before .before .before .before .before .before .before .before .both2 .ensures) (c .before .before .before .before .before .before .before .before .before .before .before .before .before .before .before .before .before .before .map-worded .ensures) (c .before .before .before .before .before .before .before .before .before .before .before .before .before .before .before .before .before .lanes-worded .ensures) in (c .before .before .before .before .before .before .before .before .before .before .lane-verdict .ensures .0 ∙ ap₂ (λ a b. firstBroken (rulesTo5 a b t ++ laneRules t)) sized worded, c .before .before .before .before .before .before .before .before .before .before .lane-verdict .ensures .1)
+returns c =
+    let after-lane-verdict : tie.After-lane-verdict = search in
+    let after-both2 : tie.After-both2 = search in
+    let after-lanes-worded : tie.After-lanes-worded = search in
+    let after-map-worded : tie.After-map-worded = search in
+    let after-both : tie.After-both = search in
+    let after-fits2 : tie.After-fits2 = search in
+    let after-map-sized : tie.After-map-sized = search in
+    let after-shared-slice-known3 = after-map-sized .before .before .before .before .before .before .before .before .before .before in
+    let start = after-shared-slice-known3 .before .before .before in
+    let t = (laneTables (start .args .text .now) (start .args .roads .now) (start .args .sections .now)
+    (start .args .junctions .now) (start .args .connections .now) (start .args .pairs .now)
+    (start .args .lanes .now)) in
+    let sized = both-is (after-both .both .ensures) (after-map-sized .map-sized .ensures)
+    (after-fits2 .fits2 .ensures) in
+    let worded = both-is (after-both2 .both2 .ensures) (after-map-worded .map-worded .ensures)
+    (after-lanes-worded .lanes-worded .ensures) in (
+      after-lane-verdict .lane-verdict .ensures .0
+          ∙ ap₂ (λ a b. firstBroken (rulesTo5 a b t ++ laneRules t)) sized worded,
+      after-lane-verdict .lane-verdict .ensures .1,
+    )
 
 pub succession-verdict-spec : {M : Type 1} → statement M
 succession-verdict-spec =

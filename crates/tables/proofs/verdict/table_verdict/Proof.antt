@@ -7,7 +7,8 @@ use Rattle.model.specs.Calls.{laneRules, rulesTo5}
 use Rattle.model.specs.Rules.{edgesEven, edgesFit, rule}
 use Rattle.model.specs.Tables.{allTables}
 use Rattle.tables.specs.Verdicts.{refusalOf}
-use Rattle.tables.proofs.Order.{edge-0, edge-10, first-stays, is-none, is-some, kept5-more, refused, then-first}
+use Rattle.tables.proofs.Order.{edge-0, edge-10, first-stays, is-none, is-some, kept5-more, refused}
+use Rattle.tables.proofs.Order.{then-first}
 use Rattle.tables.proofs.verdict.table_verdict.Statement.{statement}
 use Rattle.tables.proofs.verdict.table_verdict.Tie as tie
 
@@ -34,11 +35,37 @@ same-length-5 c = search needs
 
 returns : tie.Need-returns
 unfolding rulesTo5 laneRules edgesEven
-returns c = let s = (c .before .before .before .before .before .before .before .before .before .before .before .before .before .before .before .before .before .before .before .before .before .before .before .before .before .before .before .before .before .before .before) in let t = (allTables (s .args .text .now) (s .args .roads .now) (s .args .sections .now) (s .args .junctions .now) (s .args .connections .now) (s .args .pairs .now) (s .args .lanes .now) (s .args .edges .now)) in let no : refusalOf (c .before .before .before .before .before .before .before .before .before .before .before .before .lane-verdict .result) ≡ none → ⊥ = is-some (refusalOf (c .before .before .before .before .before .before .before .before .before .before .before .before .lane-verdict .result)) (sym (c .before .admitted .ensures) ∙ not-true _ (c .if1 .taken)) in (first-stays (rulesTo5 (s .args .sizes) (s .args .words) t ++ laneRules t) (rule 10 (edgesFit t) ∷ []) (refusalOf (c .before .before .before .before .before .before .before .before .before .before .before .before .lane-verdict .result)) no (c .before .before .before .before .before .before .before .before .before .before .before .before .lane-verdict .ensures .0), λ e. absurd (no e))
+returns c =
+    let after-admitted : tie.After-admitted = search in
+    let after-lane-verdict : tie.After-lane-verdict = search in
+    let after-slice-known = after-lane-verdict .before .before .before .before .before .before .before .before .before .before in
+    let start = after-slice-known .before .before .before .before .before .before .before .before .before in
+    let t = (allTables (start .args .text .now) (start .args .roads .now) (start .args .sections .now)
+    (start .args .junctions .now) (start .args .connections .now) (start .args .pairs .now)
+    (start .args .lanes .now) (start .args .edges .now)) in
+    let no : refusalOf (after-lane-verdict .lane-verdict .result) ≡ none → ⊥ =
+    is-some (refusalOf (after-lane-verdict .lane-verdict .result))
+    (sym (after-admitted .admitted .ensures) ∙ not-true _ (c .if1 .taken)) in (
+      first-stays (rulesTo5 (start .args .sizes) (start .args .words) t ++ laneRules t)
+          (rule 10 (edgesFit t) ∷ []) (refusalOf (after-lane-verdict .lane-verdict .result)) no
+          (after-lane-verdict .lane-verdict .ensures .0),
+      λ e. absurd (no e),
+    )
 
 edges-fit-requires : tie.Need-edges-fit-requires
 unfolding rulesTo5 laneRules edgesEven
-edges-fit-requires c κs = let s = (c .before .before .before .before .before .before .before .before .before .before .before .before .before .before .before .before .before .before .before .before .before .before .before .before .before .before .before .before .before .before .before) in let t = (allTables (s .args .text .now) (s .args .roads .now) (s .args .sections .now) (s .args .junctions .now) (s .args .connections .now) (s .args .pairs .now) (s .args .lanes .now) (s .args .edges .now)) in let adm = is-none (refusalOf (c .before .before .before .before .before .before .before .before .before .before .before .before .lane-verdict .result)) (sym (c .before .admitted .ensures) ∙ not-false _ (c .if1 .left)) in let first = sym adm ∙ c .before .before .before .before .before .before .before .before .before .before .before .before .lane-verdict .ensures .0 in s .pre .0 .1 (kept5-more (s .args .sizes) (s .args .words) t (laneRules t) first .sized)
+edges-fit-requires c κs =
+    let after-admitted : tie.After-admitted = search in
+    let after-lane-verdict : tie.After-lane-verdict = search in
+    let after-slice-known = after-lane-verdict .before .before .before .before .before .before .before .before .before .before in
+    let start = after-slice-known .before .before .before .before .before .before .before .before .before in
+    let t = (allTables (start .args .text .now) (start .args .roads .now) (start .args .sections .now)
+    (start .args .junctions .now) (start .args .connections .now) (start .args .pairs .now)
+    (start .args .lanes .now) (start .args .edges .now)) in
+    let adm = is-none (refusalOf (after-lane-verdict .lane-verdict .result))
+    (sym (after-admitted .admitted .ensures) ∙ not-false _ (c .if1 .left)) in
+    let first = sym adm ∙ after-lane-verdict .lane-verdict .ensures .0 in
+    start .pre .0 .1 (kept5-more (start .args .sizes) (start .args .words) t (laneRules t) first .sized)
 
 same-length-6 : tie.Need-same-length-6
 same-length-6 c = search needs
@@ -57,7 +84,25 @@ same-length-10 c = search needs
 
 returns-2 : tie.Need-returns-2
 unfolding rulesTo5 laneRules edgesEven
-returns-2 c = let s = (c .before .before .before .before .before .before .before .before .before .before .before .before .before .before .before .before .before .before .before .before .before .before .before .before .before .before .before .before .before .before .before .before .before) in let t = (allTables (s .args .text .now) (s .args .roads .now) (s .args .sections .now) (s .args .junctions .now) (s .args .connections .now) (s .args .pairs .now) (s .args .lanes .now) (s .args .edges .now)) in let adm = is-none (refusalOf (c .before .before .before .before .before .before .before .before .before .before .before .before .before .before .lane-verdict .result)) (sym (c .before .before .before .admitted .ensures) ∙ not-false _ (c .before .before .if1 .left)) in let first = sym adm ∙ c .before .before .before .before .before .before .before .before .before .before .before .before .before .before .lane-verdict .ensures .0 in (then-first (rulesTo5 (s .args .sizes) (s .args .words) t ++ laneRules t) (rule 10 (edgesFit t) ∷ []) first (edge-10 (s .args .lanes .now) (s .args .edges .now) (c .before .edges-fit .result) (c .before .edges-fit .ensures) (not-true _ (c .if2 .taken))), refused 10)
+returns-2 c =
+    let after-edges-fit : tie.After-edges-fit = search in
+    let else1 : tie.Else1 = search in
+    let after-admitted : tie.After-admitted = search in
+    let after-lane-verdict : tie.After-lane-verdict = search in
+    let after-slice-known = after-lane-verdict .before .before .before .before .before .before .before .before .before .before in
+    let start = after-slice-known .before .before .before .before .before .before .before .before .before in
+    let lanes = start .args .lanes .now in let edges = start .args .edges .now in
+    let t = (allTables (start .args .text .now) (start .args .roads .now) (start .args .sections .now)
+    (start .args .junctions .now) (start .args .connections .now) (start .args .pairs .now) lanes edges) in
+    let adm = is-none (refusalOf (after-lane-verdict .lane-verdict .result))
+    (sym (after-admitted .admitted .ensures) ∙ not-false _ (else1 .if1 .left)) in
+    let first = sym adm ∙ after-lane-verdict .lane-verdict .ensures .0 in (
+      then-first (rulesTo5 (start .args .sizes) (start .args .words) t ++ laneRules t)
+          (rule 10 (edgesFit t) ∷ []) first
+          (edge-10 lanes edges (after-edges-fit .edges-fit .result) (after-edges-fit .edges-fit .ensures)
+          (not-true _ (c .if2 .taken))),
+      refused 10,
+    )
 
 same-length-11 : tie.Need-same-length-11
 same-length-11 c = search needs
@@ -76,7 +121,25 @@ same-length-15 c = search needs
 
 returns-3 : tie.Need-returns-3
 unfolding rulesTo5 laneRules edgesEven
-returns-3 c = let s = (c .before .before .before .before .before .before .before .before .before .before .before .before .before .before .before .before .before .before .before .before .before .before .before .before .before .before .before .before .before .before .before .before .before) in let t = (allTables (s .args .text .now) (s .args .roads .now) (s .args .sections .now) (s .args .junctions .now) (s .args .connections .now) (s .args .pairs .now) (s .args .lanes .now) (s .args .edges .now)) in let adm = is-none (refusalOf (c .before .before .before .before .before .before .before .before .before .before .before .before .before .before .lane-verdict .result)) (sym (c .before .before .before .admitted .ensures) ∙ not-false _ (c .before .before .if1 .left)) in let first = sym adm ∙ c .before .before .before .before .before .before .before .before .before .before .before .before .before .before .lane-verdict .ensures .0 in (then-first (rulesTo5 (s .args .sizes) (s .args .words) t ++ laneRules t) (rule 10 (edgesFit t) ∷ []) first (edge-0 (s .args .lanes .now) (s .args .edges .now) (c .before .edges-fit .result) (c .before .edges-fit .ensures) (not-false _ (c .if2 .left))), λ e. c .before .before .before .before .before .before .before .before .before .before .before .before .before .before .lane-verdict .ensures .1 adm)
+returns-3 c =
+    let after-edges-fit : tie.After-edges-fit = search in
+    let else1 : tie.Else1 = search in
+    let after-admitted : tie.After-admitted = search in
+    let after-lane-verdict : tie.After-lane-verdict = search in
+    let after-slice-known = after-lane-verdict .before .before .before .before .before .before .before .before .before .before in
+    let start = after-slice-known .before .before .before .before .before .before .before .before .before in
+    let lanes = start .args .lanes .now in let edges = start .args .edges .now in
+    let t = (allTables (start .args .text .now) (start .args .roads .now) (start .args .sections .now)
+    (start .args .junctions .now) (start .args .connections .now) (start .args .pairs .now) lanes edges) in
+    let adm = is-none (refusalOf (after-lane-verdict .lane-verdict .result))
+    (sym (after-admitted .admitted .ensures) ∙ not-false _ (else1 .if1 .left)) in
+    let first = sym adm ∙ after-lane-verdict .lane-verdict .ensures .0 in (
+      then-first (rulesTo5 (start .args .sizes) (start .args .words) t ++ laneRules t)
+          (rule 10 (edgesFit t) ∷ []) first
+          (edge-0 lanes edges (after-edges-fit .edges-fit .result) (after-edges-fit .edges-fit .ensures)
+          (not-false _ (c .if2 .left))),
+      λ e. after-lane-verdict .lane-verdict .ensures .1 adm,
+    )
 
 pub table-verdict-spec : {M : Type 1} → statement M
 table-verdict-spec =

@@ -21,43 +21,98 @@ cast-word : tie.Need-cast-word Inv-loop μ-loop
 cast-word c = omega arith
 
 word-requires : tie.Need-word-requires Inv-loop μ-loop
-word-requires c κs = omega (arith, c .before .before .before .pre .0 .1)
+word-requires c κs =
+    let start : tie.Start Inv-loop μ-loop = search in
+    omega (arith, start .pre .0 .1)
 
 loop-holds : tie.Need-loop-holds Inv-loop μ-loop
-loop-holds c = let at = c .word .ensures .0 in
-    let h : (c .before .before .before .before .args .id % 16384) < length (c .before .before .before .before .args .heads .now) = omega (arith, c .before .before .before .before .pre .0 .1) in
-    rw at (seek-begin (idHash (c .before .before .before .before .args .lanes .now)) (isId (c .before .before .before .before .args .lanes .now) (c .before .before .before .before .args .id)) (c .before .before .before .before .args .id % 16384) (c .before .before .before .before .args .n) (c .before .before .before .before .args .heads .now) (c .before .before .before .before .args .next .now) (c .before .before .before .before .pre .1) (only-id (c .before .before .before .before .args .lanes .now) (c .before .before .before .before .args .id)) h)
+loop-holds c =
+    let start : tie.Start Inv-loop μ-loop = search in
+    let id = start .args .id in let heads = start .args .heads .now in let lanes = start .args .lanes .now in
+    let at = c .word .ensures .0 in
+    let h : (id % 16384) < length heads = omega (arith, start .pre .0 .1) in
+    rw at (seek-begin (idHash lanes) (isId lanes id) (id % 16384) (start .args .n) heads
+    (start .args .next .now) (start .pre .1) (only-id lanes id) h)
 
 sub-r : tie.Need-sub-r Inv-loop μ-loop
 sub-r c = omega arith
 
 mul-if1 : tie.Need-mul-if1 Inv-loop μ-loop
-mul-if1 c = omega (arith, row-in (c .before .before .before .before .before .before .args .n) 10 9 (c .before .loop .at - 1) (length (c .before .before .before .before .before .before .args .lanes .now)) (omega (arith, c .before .loop .inv .below, c .loop-test .taken)) (c .before .before .before .before .before .before .pre .0 .0) (omega arith))
+mul-if1 c =
+    let at-loop : tie.At-loop Inv-loop μ-loop = search in
+    let start : tie.Start Inv-loop μ-loop = search in
+    omega (
+      arith,
+      row-in (start .args .n) 10 9 (at-loop .loop .at - 1) (length (start .args .lanes .now))
+          (omega (arith, at-loop .loop .inv .below, c .loop-test .taken)) (start .pre .0 .0) (omega arith),
+    )
 
 mul-if1-2 : tie.Need-mul-if1-2 Inv-loop μ-loop
 mul-if1-2 c = search needs
 
 shared-slice-read-if1 : tie.Need-shared-slice-read-if1 Inv-loop μ-loop
-shared-slice-read-if1 c = omega (arith, row-in (c .before .before .before .before .before .before .before .args .n) 10 9 (c .before .before .loop .at - 1) (length (c .before .before .before .before .before .before .before .args .lanes .now)) (omega (arith, c .before .before .loop .inv .below, c .before .loop-test .taken)) (c .before .before .before .before .before .before .before .pre .0 .0) (omega arith))
+shared-slice-read-if1 c =
+    let in-loop : tie.In-loop Inv-loop μ-loop = search in
+    let at-loop : tie.At-loop Inv-loop μ-loop = search in
+    let start : tie.Start Inv-loop μ-loop = search in
+    omega (
+      arith,
+      row-in (start .args .n) 10 9 (at-loop .loop .at - 1) (length (start .args .lanes .now))
+          (omega (arith, at-loop .loop .inv .below, in-loop .loop-test .taken)) (start .pre .0 .0) (omega arith),
+    )
 
 returns : tie.Need-returns Inv-loop μ-loop
 unfolding isId
-returns c = let e : (isId (c .before .before .before .before .before .before .before .before .args .lanes .now) (c .before .before .before .before .before .before .before .before .args .id)) (c .before .before .before .loop .at - 1) ≡ true = eq-eqb _ _ (c .if1 .taken) in
-    seek-hit (idHash (c .before .before .before .before .before .before .before .before .args .lanes .now)) (isId (c .before .before .before .before .before .before .before .before .args .lanes .now) (c .before .before .before .before .before .before .before .before .args .id)) (c .before .before .before .before .before .before .before .before .args .id % 16384) (c .before .before .before .before .before .before .before .before .args .n) (c .before .before .before .before .before .before .before .before .args .heads .now) (c .before .before .before .before .before .before .before .before .args .next .now) (c .before .before .before .before .before .before .before .before .pre .1) (only-id (c .before .before .before .before .before .before .before .before .args .lanes .now) (c .before .before .before .before .before .before .before .before .args .id)) (c .before .before .before .loop .at) (c .before .before .before .loop .inv) (c .before .before .loop-test .taken) e
+returns c =
+    let in-loop : tie.In-loop Inv-loop μ-loop = search in
+    let at-loop : tie.At-loop Inv-loop μ-loop = search in
+    let start : tie.Start Inv-loop μ-loop = search in
+    let lanes = start .args .lanes .now in let id = start .args .id in
+    let e : (isId lanes id) (at-loop .loop .at - 1) ≡ true = eq-eqb _ _ (c .if1 .taken) in
+    seek-hit (idHash lanes) (isId lanes id) (id % 16384) (start .args .n) (start .args .heads .now)
+    (start .args .next .now) (start .pre .1) (only-id lanes id) (at-loop .loop .at) (at-loop .loop .inv)
+    (in-loop .loop-test .taken) e
 
 word-requires-2 : tie.Need-word-requires-2 Inv-loop μ-loop
-word-requires-2 c κs = omega (arith, c .before .before .before .loop .inv .below, c .before .before .before .before .before .before .before .before .pre .0 .2, c .before .before .loop-test .taken)
+word-requires-2 c κs =
+    let in-loop : tie.In-loop Inv-loop μ-loop = search in
+    let at-loop : tie.At-loop Inv-loop μ-loop = search in
+    let start : tie.Start Inv-loop μ-loop = search in
+    omega (arith, at-loop .loop .inv .below, start .pre .0 .2, in-loop .loop-test .taken)
 
 loop-less : tie.Need-loop-less Inv-loop μ-loop
-loop-less c = rw (c .word2 .ensures .0) (seek-less (idHash (c .before .before .before .before .before .before .before .before .before .args .lanes .now)) (isId (c .before .before .before .before .before .before .before .before .before .args .lanes .now) (c .before .before .before .before .before .before .before .before .before .args .id)) (c .before .before .before .before .before .before .before .before .before .args .id % 16384) (c .before .before .before .before .before .before .before .before .before .args .n) (c .before .before .before .before .before .before .before .before .before .args .heads .now) (c .before .before .before .before .before .before .before .before .before .args .next .now) (c .before .before .before .before .before .before .before .before .before .pre .1) (only-id (c .before .before .before .before .before .before .before .before .before .args .lanes .now) (c .before .before .before .before .before .before .before .before .before .args .id)) (c .before .before .before .before .loop .at) (c .before .before .before .before .loop .inv) (c .before .before .before .loop-test .taken))
+loop-less c =
+    let in-loop : tie.In-loop Inv-loop μ-loop = search in
+    let at-loop : tie.At-loop Inv-loop μ-loop = search in
+    let start : tie.Start Inv-loop μ-loop = search in
+    let lanes = start .args .lanes .now in let id = start .args .id in
+    rw (c .word2 .ensures .0)
+    (seek-less (idHash lanes) (isId lanes id) (id % 16384) (start .args .n) (start .args .heads .now)
+    (start .args .next .now) (start .pre .1) (only-id lanes id) (at-loop .loop .at) (at-loop .loop .inv)
+    (in-loop .loop-test .taken))
 
 loop-again : tie.Need-loop-again Inv-loop μ-loop
 unfolding isId
-loop-again c = let e : (isId (c .before .before .before .before .before .before .before .before .before .args .lanes .now) (c .before .before .before .before .before .before .before .before .before .args .id)) (c .before .before .before .before .loop .at - 1) ≡ false = ne-eqb _ _ (c .before .if1 .left) in
-    rw (c .word2 .ensures .0) (seek-on (idHash (c .before .before .before .before .before .before .before .before .before .args .lanes .now)) (isId (c .before .before .before .before .before .before .before .before .before .args .lanes .now) (c .before .before .before .before .before .before .before .before .before .args .id)) (c .before .before .before .before .before .before .before .before .before .args .id % 16384) (c .before .before .before .before .before .before .before .before .before .args .n) (c .before .before .before .before .before .before .before .before .before .args .heads .now) (c .before .before .before .before .before .before .before .before .before .args .next .now) (c .before .before .before .before .before .before .before .before .before .pre .1) (only-id (c .before .before .before .before .before .before .before .before .before .args .lanes .now) (c .before .before .before .before .before .before .before .before .before .args .id)) (c .before .before .before .before .loop .at) (c .before .before .before .before .loop .inv) (c .before .before .before .loop-test .taken) e)
+loop-again c =
+    let else1 : tie.Else1 Inv-loop μ-loop = search in
+    let in-loop : tie.In-loop Inv-loop μ-loop = search in
+    let at-loop : tie.At-loop Inv-loop μ-loop = search in
+    let start : tie.Start Inv-loop μ-loop = search in
+    let lanes = start .args .lanes .now in let id = start .args .id in
+    let e : (isId lanes id) (at-loop .loop .at - 1) ≡ false = ne-eqb _ _ (else1 .if1 .left) in
+    rw (c .word2 .ensures .0)
+    (seek-on (idHash lanes) (isId lanes id) (id % 16384) (start .args .n) (start .args .heads .now)
+    (start .args .next .now) (start .pre .1) (only-id lanes id) (at-loop .loop .at) (at-loop .loop .inv)
+    (in-loop .loop-test .taken) e)
 
 returns-2 : tie.Need-returns-2 Inv-loop μ-loop
-returns-2 c = seek-none (idHash (c .before .before .before .before .before .before .args .lanes .now)) (isId (c .before .before .before .before .before .before .args .lanes .now) (c .before .before .before .before .before .before .args .id)) (c .before .before .before .before .before .before .args .id % 16384) (c .before .before .before .before .before .before .args .n) (c .before .before .before .before .before .before .args .heads .now) (c .before .before .before .before .before .before .args .next .now) (c .before .before .before .before .before .before .pre .1) (only-id (c .before .before .before .before .before .before .args .lanes .now) (c .before .before .before .before .before .before .args .id)) (c .before .loop .at) (c .before .loop .inv) (c .loop-test .left)
+returns-2 c =
+    let at-loop : tie.At-loop Inv-loop μ-loop = search in
+    let start : tie.Start Inv-loop μ-loop = search in
+    let lanes = start .args .lanes .now in let id = start .args .id in
+    seek-none (idHash lanes) (isId lanes id) (id % 16384) (start .args .n) (start .args .heads .now)
+    (start .args .next .now) (start .pre .1) (only-id lanes id) (at-loop .loop .at) (at-loop .loop .inv)
+    (c .loop-test .left)
 
 pub find-id-spec : {M : Type 1} → statement M
 find-id-spec =

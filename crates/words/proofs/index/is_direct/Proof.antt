@@ -32,11 +32,21 @@ mul-named : tie.Need-mul-named
 mul-named c = search needs
 
 named-requires : tie.Need-named-requires
-named-requires c κs = (omega arith, c .before .before .before .before .pre .2, c .before .before .before .before .pre .3)
+named-requires c κs =
+    let start : tie.Start = search in
+    (omega arith, start .pre .2, start .pre .3)
 
 returns-2 : tie.Need-returns-2
 unfolding isDirectOf
-returns-2 c = c .named .ensures ∙ ap (λ (k : ℕ). sameIn (c .before .before .before .before .before .args .text .now) (span (getD (c .before .before .before .before .before .args .junctions .now) k 0) (getD (c .before .before .before .before .before .args .junctions .now) (k + 1) 0)) (span (c .before .before .before .before .before .args .start) (c .before .before .before .before .before .args .size))) (sym (add-zero (c .before .before .before .before .before .args .q * 5))) ∙ sym (and-on _ _ (eq-eqb _ _ (c .before .if1 .left)))
+returns-2 c =
+    let else1 : tie.Else1 = search in
+    let start : tie.Start = search in
+    let junctions = start .args .junctions .now in
+    c .named .ensures
+    ∙ ap (λ (k : ℕ).
+    sameIn (start .args .text .now) (span (getD junctions k 0) (getD junctions (k + 1) 0))
+    (span (start .args .start) (start .args .size))) (sym (add-zero (start .args .q * 5)))
+    ∙ sym (and-on _ _ (eq-eqb _ _ (else1 .if1 .left)))
 
 pub is-direct-spec : {M : Type 1} → statement M
 is-direct-spec =

@@ -1,79 +1,150 @@
+-- `link_names` puts each row in front of its bucket's chain. Before turn `i` the chains are those of the first
+-- `i` rows, and `twice` says whether
+-- two of them bear one name.
 use borrow.Author.Needs.{needs}
-use lib.ListN.{length, getD, set}
+use lib.ListN.{length}
 use native.Mathlib.Omega.{arith}
-use mathlib.Core.List.{List}
-use mathlib.Core.Path.{_≡_, refl, sym, ap, ap₂, _∙_, subst, subst₂}
-use Prim.Native.Nat.{ℕ, _+_, _-_, _≤_}
+use mathlib.Core.Bool.{Bool}
+use mathlib.Core.Path.{_≡_, refl, sym, ap, ap₂, _∙_}
+use Prim.Native.Nat.{ℕ, _+_, _*_, _-_, _≤_, _<_}
 use Rattle.words.specs.Chain.{Chained}
 use Rattle.words.specs.Keys.{bears, hashName, nameBefore, nameHash}
 use Rattle.words.specs.Rows.{any, lastOf, nameAt, span}
-use Rattle.words.proofs.Chains.{chained-more, chained-none}
+use Rattle.words.proofs.Chains.{chained-none, link-turn}
 use Rattle.words.proofs.KeyLaws.{met-more, row-in, rows-le}
 use Rattle.words.proofs.Laws.{any-none}
 use Rattle.words.proofs.index.link_names.Statement.{statement}
 use Rattle.words.proofs.index.link_names.Tie as tie
 
 abbrev Inv-loop : tie.InvT-loop
-Inv-loop text ws w k n heads₀ next₀ twice₀ i₀ heads next twice i = (i ≤ n) × (twice ≡ any i (nameBefore (text) (w) (k) (ws))) × (length heads ≡ 16384) × (length next ≡ 16384) × Chained (nameHash (text) (w) (k) (ws)) i heads next
+Inv-loop text ws w k n heads₀ next₀ twice₀ i₀ heads next twice i =
+    (i ≤ n)
+    × (twice ≡ any i (nameBefore text w k ws))
+    × (length heads ≡ 16384)
+    × (length next ≡ 16384)
+    × Chained (nameHash text w k ws) i heads next
 
 abbrev μ-loop : tie.MeasureT-loop
 μ-loop text ws w k n heads₀ next₀ twice₀ i₀ heads next twice i = n - i
 
+-- ---- the places
+abbrev Start : Type 0
+Start = tie.Start Inv-loop μ-loop
+
+abbrev Head : Type 0
+Head = tie.At-loop Inv-loop μ-loop
+
+abbrev Turn : Type 0
+Turn = tie.In-loop Inv-loop μ-loop
+
+-- ---- what a turn is about: row i's name, its bucket, and who bears a name
+module _ (start : Start) where
+  abbrev bearers : ℕ → ℕ → ℕ → Bool
+  bearers s l = bears (start .args .text .now) (start .args .w) (start .args .k) (start .args .ws .now) (span s l)
+
+  -- row i has both words of its name
+  row-fits : (i : ℕ) → i < start .args .n
+      → i * (start .args .w) + (start .args .k + 1) < length (start .args .ws .now)
+  row-fits i h = row-in _ _ _ _ _ h (start .pre .0 .2) (start .pre .0 .1)
+
 loop-holds : tie.Need-loop-holds Inv-loop μ-loop
-loop-holds c = (omega arith, sym (any-none _), c .before .before .before .before .pre .0 .4, c .before .before .before .before .pre .0 .5, chained-none (nameHash (c .before .before .before .before .args .text .now) (c .before .before .before .before .args .w) (c .before .before .before .before .args .k) (c .before .before .before .before .args .ws .now)) (c .before .before .before .before .args .heads .now) (c .before .before .before .before .args .next .now) (c .before .before .before .before .pre .1))
+loop-holds c =
+    let start : Start = search in
+    (omega arith, sym (any-none _), start .pre .0 .4, start .pre .0 .5, chained-none _ _ _ (start .pre .1))
 
 mul-word : tie.Need-mul-word Inv-loop μ-loop
-mul-word c = omega (arith, row-in (c .before .before .before .before .before .before .args .n) (c .before .before .before .before .before .before .args .w) (c .before .before .before .before .before .before .args .k + 1) (c .before .loop .i) (length (c .before .before .before .before .before .before .args .ws .now)) (c .loop-test .taken) (c .before .before .before .before .before .before .pre .0 .2) (c .before .before .before .before .before .before .pre .0 .1))
+mul-word c = let turn : Turn = search in omega (arith, row-fits (search) _ (turn .loop-test .taken))
 
 add-word : tie.Need-add-word Inv-loop μ-loop
-add-word c = omega (arith, row-in (c .before .before .before .before .before .before .args .n) (c .before .before .before .before .before .before .args .w) (c .before .before .before .before .before .before .args .k + 1) (c .before .loop .i) (length (c .before .before .before .before .before .before .args .ws .now)) (c .loop-test .taken) (c .before .before .before .before .before .before .pre .0 .2) (c .before .before .before .before .before .before .pre .0 .1))
+add-word c = let turn : Turn = search in omega (arith, row-fits (search) _ (turn .loop-test .taken))
 
 word-requires : tie.Need-word-requires Inv-loop μ-loop
-word-requires c κs = omega (arith, row-in (c .before .before .before .before .before .before .args .n) (c .before .before .before .before .before .before .args .w) (c .before .before .before .before .before .before .args .k + 1) (c .before .loop .i) (length (c .before .before .before .before .before .before .args .ws .now)) (c .loop-test .taken) (c .before .before .before .before .before .before .pre .0 .2) (c .before .before .before .before .before .before .pre .0 .1))
+word-requires c κs = let turn : Turn = search in omega (arith, row-fits (search) _ (turn .loop-test .taken))
 
 mul-word-2 : tie.Need-mul-word-2 Inv-loop μ-loop
-mul-word-2 c = omega (arith, row-in (c .before .before .before .before .before .before .before .args .n) (c .before .before .before .before .before .before .before .args .w) (c .before .before .before .before .before .before .before .args .k + 1) (c .before .before .loop .i) (length (c .before .before .before .before .before .before .before .args .ws .now)) (c .before .loop-test .taken) (c .before .before .before .before .before .before .before .pre .0 .2) (c .before .before .before .before .before .before .before .pre .0 .1))
+mul-word-2 c = let turn : Turn = search in omega (arith, row-fits (search) _ (turn .loop-test .taken))
 
 add-word-2 : tie.Need-add-word-2 Inv-loop μ-loop
-add-word-2 c = omega (arith, row-in (c .before .before .before .before .before .before .before .args .n) (c .before .before .before .before .before .before .before .args .w) (c .before .before .before .before .before .before .before .args .k + 1) (c .before .before .loop .i) (length (c .before .before .before .before .before .before .before .args .ws .now)) (c .before .loop-test .taken) (c .before .before .before .before .before .before .before .pre .0 .2) (c .before .before .before .before .before .before .before .pre .0 .1))
+add-word-2 c = let turn : Turn = search in omega (arith, row-fits (search) _ (turn .loop-test .taken))
 
 add-word-3 : tie.Need-add-word-3 Inv-loop μ-loop
-add-word-3 c = omega (arith, row-in (c .before .before .before .before .before .before .before .args .n) (c .before .before .before .before .before .before .before .args .w) (c .before .before .before .before .before .before .before .args .k + 1) (c .before .before .loop .i) (length (c .before .before .before .before .before .before .before .args .ws .now)) (c .before .loop-test .taken) (c .before .before .before .before .before .before .before .pre .0 .2) (c .before .before .before .before .before .before .before .pre .0 .1))
+add-word-3 c = let turn : Turn = search in omega (arith, row-fits (search) _ (turn .loop-test .taken))
 
 word-requires-2 : tie.Need-word-requires-2 Inv-loop μ-loop
-word-requires-2 c κs = omega (arith, row-in (c .before .before .before .before .before .before .before .args .n) (c .before .before .before .before .before .before .before .args .w) (c .before .before .before .before .before .before .before .args .k + 1) (c .before .before .loop .i) (length (c .before .before .before .before .before .before .before .args .ws .now)) (c .before .loop-test .taken) (c .before .before .before .before .before .before .before .pre .0 .2) (c .before .before .before .before .before .before .before .pre .0 .1))
+word-requires-2 c κs = let turn : Turn = search in omega (arith, row-fits (search) _ (turn .loop-test .taken))
 
 find-name-requires : tie.Need-find-name-requires Inv-loop μ-loop
-find-name-requires c κs = ((c .before .before .before .before .before .before .before .before .before .before .pre .0 .0, c .before .before .before .before .before .before .before .before .before .before .pre .0 .1, rows-le (c .before .before .before .before .before .loop .i) (c .before .before .before .before .before .before .before .before .before .before .args .n) (c .before .before .before .before .before .before .before .before .before .before .args .w) (length (c .before .before .before .before .before .before .before .before .before .before .args .ws .now)) (c .before .before .before .before .before .loop .inv .0) (c .before .before .before .before .before .before .before .before .before .before .pre .0 .2), omega (arith, c .before .before .before .before .before .before .before .before .before .before .pre .0 .3, c .before .before .before .before .before .loop .inv .0), c .before .before .before .before .before .loop .inv .2, omega (arith, c .before .before .before .before .before .before .before .before .before .before .pre .0 .3, c .before .before .before .before .before .loop .inv .3, c .before .before .before .before .before .loop .inv .0), c .before .before .before .word .ensures .1, c .before .before .word2 .ensures .1), c .before .before .before .before .before .loop .inv .4)
+find-name-requires c κs =
+    let second : tie.After-word2 Inv-loop μ-loop = search in
+    let first : tie.After-word Inv-loop μ-loop = search in
+    let head : Head = search in
+    let start : Start = search in
+    let pre = start .pre .0 in
+    let inv = head .loop .inv in (
+      (
+        pre .0,
+        pre .1,
+        rows-le _ _ _ _ (inv .0) (pre .2),
+        omega (arith, pre .3, inv .0),
+        inv .2,
+        omega (arith, pre .3, inv .3, inv .0),
+        first .word .ensures .1,
+        second .word2 .ensures .1,
+      ),
+      inv .4,
+    )
 
 met-requires : tie.Need-met-requires Inv-loop μ-loop
 met-requires c κs = search needs
 
 bucket-requires : tie.Need-bucket-requires Inv-loop μ-loop
-bucket-requires c κs = (c .before .before .before .before .before .word .ensures .1, c .before .before .before .before .word2 .ensures .1)
+bucket-requires c κs =
+    let second : tie.After-word2 Inv-loop μ-loop = search in
+    let first : tie.After-word Inv-loop μ-loop = search in
+    (first .word .ensures .1, second .word2 .ensures .1)
 
 link-requires : tie.Need-link-requires Inv-loop μ-loop
-link-requires c κs = (omega (arith, c .before .before .bucket .ensures .1, c .before .before .before .before .before .before .before .before .before .before .loop .inv .2), omega (arith, c .before .before .before .before .before .before .before .before .before .before .before .before .before .before .before .pre .0 .3, c .before .before .before .before .before .before .before .before .before .before .loop .inv .3, c .before .before .before .before .before .before .before .before .before .loop-test .taken), omega (arith, c .before .before .before .before .before .before .before .before .before .before .before .before .before .before .before .pre .0 .3, c .before .before .before .before .before .before .before .before .before .loop-test .taken))
+link-requires c κs =
+    let bucket : tie.After-bucket Inv-loop μ-loop = search in
+    let turn : Turn = search in
+    let head : Head = search in
+    let start : Start = search in
+    let inv = head .loop .inv in (
+      omega (arith, bucket .bucket .ensures .1, inv .2),
+      omega (arith, start .pre .0 .3, inv .3, turn .loop-test .taken),
+      omega (arith, start .pre .0 .3, turn .loop-test .taken),
+    )
 
 add-i : tie.Need-add-i Inv-loop μ-loop
-add-i c = omega (arith, c .before .before .before .before .before .before .before .before .before .before .before .before .before .before .loop-test .taken)
+add-i c = let turn : Turn = search in omega (arith, turn .loop-test .taken)
 
 loop-less : tie.Need-loop-less Inv-loop μ-loop
-loop-less c = omega (arith, c .before .before .before .before .before .before .before .before .before .before .before .before .before .before .loop-test .taken)
+loop-less c = let turn : Turn = search in omega (arith, turn .loop-test .taken)
 
 loop-again : tie.Need-loop-again Inv-loop μ-loop
 unfolding nameHash nameBefore
-loop-again c = let l = c .before .before .before .before .before .before .before .before .before .before .before .before .before .before .before .loop in
-    let h = c .before .before .before .before .before .before .before .bucket .ensures .0 ∙ ap₂ (λ (s n : ℕ). hashName (c .before .before .before .before .before .before .before .before .before .before .before .before .before .before .before .before .before .before .before .before .args .text .now) (span s n)) (c .before .before .before .before .before .before .before .before .before .before .before .before .before .word .ensures .0) (c .before .before .before .before .before .before .before .before .before .before .before .before .word2 .ensures .0) in
-    let e = c .before .before .before .before .link .ensures in
-    let heads-is : c .before .before .before .before .link .last .0 ≡ set (l .heads) ((nameHash (c .before .before .before .before .before .before .before .before .before .before .before .before .before .before .before .before .before .before .before .before .args .text .now) (c .before .before .before .before .before .before .before .before .before .before .before .before .before .before .before .before .before .before .before .before .args .w) (c .before .before .before .before .before .before .before .before .before .before .before .before .before .before .before .before .before .before .before .before .args .k) (c .before .before .before .before .before .before .before .before .before .before .before .before .before .before .before .before .before .before .before .before .args .ws .now)) (l .i)) (l .i + 1) = e .0 ∙ ap (λ (k : ℕ). set (l .heads) k (l .i + 1)) h in
-    let next-is : c .before .before .before .before .link .last .1 .0 ≡ set (l .next) (l .i) (getD (l .heads) ((nameHash (c .before .before .before .before .before .before .before .before .before .before .before .before .before .before .before .before .before .before .before .before .args .text .now) (c .before .before .before .before .before .before .before .before .before .before .before .before .before .before .before .before .before .before .before .before .args .w) (c .before .before .before .before .before .before .before .before .before .before .before .before .before .before .before .before .before .before .before .before .args .k) (c .before .before .before .before .before .before .before .before .before .before .before .before .before .before .before .before .before .before .before .before .args .ws .now)) (l .i)) 0) = e .1 ∙ ap (λ (k : ℕ). set (l .next) (l .i) (getD (l .heads) k 0)) h in (
-      omega (arith, c .before .before .before .before .before .before .before .before .before .before .before .before .before .before .loop-test .taken),
-      met-more (l .i) (nameBefore (c .before .before .before .before .before .before .before .before .before .before .before .before .before .before .before .before .before .before .before .before .args .text .now) (c .before .before .before .before .before .before .before .before .before .before .before .before .before .before .before .before .before .before .before .before .args .w) (c .before .before .before .before .before .before .before .before .before .before .before .before .before .before .before .before .before .before .before .before .args .k) (c .before .before .before .before .before .before .before .before .before .before .before .before .before .before .before .before .before .before .before .before .args .ws .now)) (bears (c .before .before .before .before .before .before .before .before .before .before .before .before .before .before .before .before .before .before .before .before .args .text .now) (c .before .before .before .before .before .before .before .before .before .before .before .before .before .before .before .before .before .before .before .before .args .w) (c .before .before .before .before .before .before .before .before .before .before .before .before .before .before .before .before .before .before .before .before .args .k) (c .before .before .before .before .before .before .before .before .before .before .before .before .before .before .before .before .before .before .before .before .args .ws .now) (nameAt (c .before .before .before .before .before .before .before .before .before .before .before .before .before .before .before .before .before .before .before .before .args .w) (c .before .before .before .before .before .before .before .before .before .before .before .before .before .before .before .before .before .before .before .before .args .k) (c .before .before .before .before .before .before .before .before .before .before .before .before .before .before .before .before .before .before .before .before .args .ws .now) (c .before .before .before .before .before .before .before .before .before .before .before .before .before .before .before .loop .i))) (c .before .before .before .before .before .before .before .before .met .ensures) (l .inv .1) (c .before .before .before .before .before .before .before .before .before .find-name .ensures ∙ ap₂ (λ (s n : ℕ). lastOf (c .before .before .before .before .before .before .before .before .before .before .before .before .before .before .before .loop .i) (bears (c .before .before .before .before .before .before .before .before .before .before .before .before .before .before .before .before .before .before .before .before .args .text .now) (c .before .before .before .before .before .before .before .before .before .before .before .before .before .before .before .before .before .before .before .before .args .w) (c .before .before .before .before .before .before .before .before .before .before .before .before .before .before .before .before .before .before .before .before .args .k) (c .before .before .before .before .before .before .before .before .before .before .before .before .before .before .before .before .before .before .before .before .args .ws .now) (span s n))) (c .before .before .before .before .before .before .before .before .before .before .before .before .before .word .ensures .0) (c .before .before .before .before .before .before .before .before .before .before .before .before .word2 .ensures .0)) refl,
-      c .before .before .before .before .link .kept .0 ∙ l .inv .2,
-      c .before .before .before .before .link .kept .1 .0 ∙ l .inv .3,
-      subst₂ (λ (x y : List ℕ). Chained (nameHash (c .before .before .before .before .before .before .before .before .before .before .before .before .before .before .before .before .before .before .before .before .args .text .now) (c .before .before .before .before .before .before .before .before .before .before .before .before .before .before .before .before .before .before .before .before .args .w) (c .before .before .before .before .before .before .before .before .before .before .before .before .before .before .before .before .before .before .before .before .args .k) (c .before .before .before .before .before .before .before .before .before .before .before .before .before .before .before .before .before .before .before .before .args .ws .now)) (l .i + 1) x y) (sym heads-is) (sym next-is)
-          (chained-more (nameHash (c .before .before .before .before .before .before .before .before .before .before .before .before .before .before .before .before .before .before .before .before .args .text .now) (c .before .before .before .before .before .before .before .before .before .before .before .before .before .before .before .before .before .before .before .before .args .w) (c .before .before .before .before .before .before .before .before .before .before .before .before .before .before .before .before .before .before .before .before .args .k) (c .before .before .before .before .before .before .before .before .before .before .before .before .before .before .before .before .before .before .before .before .args .ws .now)) (l .i) (l .heads) (l .next) (l .inv .4) (omega (arith, h, c .before .before .before .before .before .before .before .bucket .ensures .1, l .inv .2)) (omega (arith, c .before .before .before .before .before .before .before .before .before .before .before .before .before .before .before .before .before .before .before .before .pre .0 .3, l .inv .3, c .before .before .before .before .before .before .before .before .before .before .before .before .before .before .loop-test .taken))),
+loop-again c =
+    let linked : tie.After-link Inv-loop μ-loop = search in
+    let bucket : tie.After-bucket Inv-loop μ-loop = search in
+    let met : tie.After-met Inv-loop μ-loop = search in
+    let found : tie.After-find-name Inv-loop μ-loop = search in
+    let second : tie.After-word2 Inv-loop μ-loop = search in
+    let first : tie.After-word Inv-loop μ-loop = search in
+    let turn : Turn = search in
+    let head : Head = search in
+    let start : Start = search in
+    let inv = head .loop .inv in
+    let i = head .loop .i in
+    let words : (f : ℕ → ℕ → ℕ) → _ = λ f. ap₂ f (first .word .ensures .0) (second .word2 .ensures .0) in
+    let bucket-is = bucket .bucket .ensures .0 ∙ words (λ s l. hashName (start .args .text .now) (span s l)) in
+    let last-is = found .find-name .ensures ∙ words (λ s l. lastOf i (bearers start s l)) in (
+      omega (arith, turn .loop-test .taken),
+      met-more i _ _ (met .met .ensures) (inv .1) last-is refl,
+      linked .link .kept .0 ∙ inv .2,
+      linked .link .kept .1 .0 ∙ inv .3,
+      link-turn _ i _ _ (inv .4) bucket-is (omega (arith, bucket .bucket .ensures .1, inv .2))
+          (omega (arith, start .pre .0 .3, inv .3, turn .loop-test .taken))
+          (linked .link .ensures .0) (linked .link .ensures .1),
     )
 
 same-length : tie.Need-same-length Inv-loop μ-loop
@@ -83,9 +154,12 @@ same-length-2 : tie.Need-same-length-2 Inv-loop μ-loop
 same-length-2 c = omega arith
 
 returns : tie.Need-returns Inv-loop μ-loop
-returns c = let l = c .before .loop in
-    let past : l .i ≡ c .before .before .before .before .before .before .args .n = omega arith in
-    (l .inv .1 ∙ ap (λ (k : ℕ). any k (nameBefore (c .before .before .before .before .before .before .args .text .now) (c .before .before .before .before .before .before .args .w) (c .before .before .before .before .before .before .args .k) (c .before .before .before .before .before .before .args .ws .now))) past, subst (λ (k : ℕ). Chained (nameHash (c .before .before .before .before .before .before .args .text .now) (c .before .before .before .before .before .before .args .w) (c .before .before .before .before .before .before .args .k) (c .before .before .before .before .before .before .args .ws .now)) k (l .heads) (l .next)) past (l .inv .4))
+returns c =
+    let head : Head = search in
+    let start : Start = search in
+    let inv = head .loop .inv in
+    let past : head .loop .i ≡ start .args .n = omega arith in
+    (rw past at (inv .1), rw past at (inv .4))
 
 pub link-names-spec : {M : Type 1} → statement M
 link-names-spec =

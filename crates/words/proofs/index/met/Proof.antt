@@ -9,7 +9,9 @@ returns : tie.Need-returns
 returns c = search needs
 
 returns-2 : tie.Need-returns-2
-returns-2 c = ap (λ b. b || not (eqb (c .before .args .found) 0)) (sym (c .if1 .left))
+returns-2 c =
+    let start : tie.Start = search in
+    ap (λ b. b || not (eqb (start .args .found) 0)) (sym (c .if1 .left))
 
 pub met-spec : {M : Type 1} → statement M
 met-spec = tie.close (tie.spec returns returns-2)

@@ -12,7 +12,9 @@ hash-requires c κs = search needs
 
 returns : tie.Need-returns
 unfolding hashName
-returns c = (c .hash .ensures .0 ∙ ap (hashFrom 7) (c .before .name .ensures), c .hash .ensures .1)
+returns c =
+    let after-name : tie.After-name = search in
+    (c .hash .ensures .0 ∙ ap (hashFrom 7) (after-name .name .ensures), c .hash .ensures .1)
 
 pub bucket-spec : {M : Type 1} → statement M
 bucket-spec = tie.close (tie.spec name-requires hash-requires returns)

@@ -23,10 +23,14 @@ shared-slice-read-h : tie.Need-shared-slice-read-h Inv-loop μ-loop
 shared-slice-read-h c = omega arith
 
 cast-h : tie.Need-cast-h Inv-loop μ-loop
-cast-h c = omega (arith, c .shared-slice-known .given (c .before .before .loop .i))
+cast-h c =
+    let at-loop : tie.At-loop Inv-loop μ-loop = search in
+    omega (arith, c .shared-slice-known .given (at-loop .loop .i))
 
 add-h : tie.Need-add-h Inv-loop μ-loop
-add-h c = omega (arith, c .shared-slice-known .given (c .before .before .loop .i))
+add-h c =
+    let at-loop : tie.At-loop Inv-loop μ-loop = search in
+    omega (arith, c .shared-slice-known .given (at-loop .loop .i))
 
 add-i : tie.Need-add-i Inv-loop μ-loop
 add-i c = omega arith
@@ -35,14 +39,21 @@ loop-less : tie.Need-loop-less Inv-loop μ-loop
 loop-less c = omega arith
 
 loop-again : tie.Need-loop-again Inv-loop μ-loop
-loop-again c = let l = c .before .before .loop in
-    let h : l .i < length (c .before .before .before .args .bytes .now) = omega arith in
-    (omega arith, omega arith, hash-turn (c .before .before .before .args .bytes .now) (l .i) (l .h) h ∙ l .inv .2)
+loop-again c =
+    let at-loop : tie.At-loop Inv-loop μ-loop = search in
+    let start : tie.Start Inv-loop μ-loop = search in
+    let bytes = start .args .bytes .now in
+    let l = at-loop .loop in
+    let h : l .i < length bytes = omega arith in
+    (omega arith, omega arith, hash-turn bytes (l .i) (l .h) h ∙ l .inv .2)
 
 returns : tie.Need-returns Inv-loop μ-loop
-returns c = let l = c .before .loop in
-    let past : length (c .before .before .args .bytes .now) ≤ l .i = omega arith in
-    (hash-end (c .before .before .args .bytes .now) (l .i) (l .h) past ∙ l .inv .2, l .inv .1)
+returns c =
+    let at-loop : tie.At-loop Inv-loop μ-loop = search in
+    let start : tie.Start Inv-loop μ-loop = search in
+    let bytes = start .args .bytes .now in
+    let l = at-loop .loop in
+    let past : length bytes ≤ l .i = omega arith in (hash-end bytes (l .i) (l .h) past ∙ l .inv .2, l .inv .1)
 
 pub hash-spec : {M : Type 1} → statement M
 hash-spec =

@@ -17,16 +17,28 @@ least-requires-2 : tie.Need-least-requires-2
 least-requires-2 c κs = search needs
 
 sub-result : tie.Need-sub-result
-sub-result c = omega (arith, c .before .least .ensures, c .least2 .ensures)
+sub-result c =
+    let after-least : tie.After-least = search in
+    omega (arith, after-least .least .ensures, c .least2 .ensures)
 
 part-result-start : tie.Need-part-result-start
-part-result-start c = omega (arith, c .before .least .ensures, c .least2 .ensures)
+part-result-start c =
+    let after-least : tie.After-least = search in
+    omega (arith, after-least .least .ensures, c .least2 .ensures)
 
 part-result-end : tie.Need-part-result-end
-part-result-end c = omega (arith, c .before .least .ensures, c .least2 .ensures)
+part-result-end c =
+    let after-least : tie.After-least = search in
+    omega (arith, after-least .least .ensures, c .least2 .ensures)
 
 returns : tie.Need-returns
-returns c = ap₂ (λ (i j : ℕ). take (j - i) (drop i (c .before .before .before .before .args .text .now))) (c .before .before .least .ensures) (c .before .least2 .ensures) ∙ name-any (c .before .before .before .before .args .text .now) (c .before .before .before .before .args .start) (c .before .before .before .before .args .size)
+returns c =
+    let after-least2 : tie.After-least2 = search in
+    let after-least : tie.After-least = search in
+    let start : tie.Start = search in
+    let text = start .args .text .now in
+    ap₂ (λ (i j : ℕ). take (j - i) (drop i text)) (after-least .least .ensures) (after-least2 .least2 .ensures)
+    ∙ name-any text (start .args .start) (start .args .size)
 
 pub name-spec : {M : Type 1} → statement M
 name-spec =

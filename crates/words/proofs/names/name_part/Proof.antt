@@ -16,7 +16,10 @@ part-result-end : tie.Need-part-result-end
 part-result-end c = search needs
 
 returns : tie.Need-returns
-returns c = let s = (c .before .before) in name-inside (s .args .text .now) (s .args .start) (s .args .size) (c .before .if1 .taken)
+returns c =
+    let then1 : tie.Then1 = search in
+    let start : tie.Start = search in
+    name-inside (start .args .text .now) (start .args .start) (start .args .size) (then1 .if1 .taken)
 
 sub-result-2 : tie.Need-sub-result-2
 sub-result-2 c = search needs
@@ -28,7 +31,10 @@ part-result-end-2 : tie.Need-part-result-end-2
 part-result-end-2 c = search needs
 
 returns-2 : tie.Need-returns-2
-returns-2 c = let s = (c .before .before) in name-outside (s .args .text .now) (s .args .start) (s .args .size) (c .before .if1 .left)
+returns-2 c =
+    let else1 : tie.Else1 = search in
+    let start : tie.Start = search in
+    name-outside (start .args .text .now) (start .args .start) (start .args .size) (else1 .if1 .left)
 
 pub name-part-spec : {M : Type 1} → statement M
 name-part-spec =

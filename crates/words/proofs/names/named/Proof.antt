@@ -16,7 +16,9 @@ word-requires-2 : tie.Need-word-requires-2
 word-requires-2 c κs = search needs
 
 name-requires : tie.Need-name-requires
-name-requires c κs = (c .before .word .ensures .1, c .word2 .ensures .1)
+name-requires c κs =
+    let after-word : tie.After-word = search in
+    (after-word .word .ensures .1, c .word2 .ensures .1)
 
 name-requires-2 : tie.Need-name-requires-2
 name-requires-2 c κs = search needs
@@ -26,7 +28,16 @@ same-bytes-requires c κs = search needs
 
 returns : tie.Need-returns
 unfolding sameIn
-returns c = c .same-bytes .ensures ∙ ap₂ equalBytes (c .before .before .name .ensures ∙ ap₂ (λ (s n : ℕ). bytesOf (c .before .before .before .before .before .before .before .args .text .now) (span s n)) (c .before .before .before .before .word .ensures .0) (c .before .before .before .word2 .ensures .0)) (c .before .name2 .ensures)
+returns c =
+    let after-name2 : tie.After-name2 = search in
+    let after-name : tie.After-name = search in
+    let after-word2 : tie.After-word2 = search in
+    let after-word : tie.After-word = search in
+    let start : tie.Start = search in
+    c .same-bytes .ensures
+    ∙ ap₂ equalBytes (after-name .name .ensures
+    ∙ ap₂ (λ (s n : ℕ). bytesOf (start .args .text .now) (span s n)) (after-word .word .ensures .0)
+    (after-word2 .word2 .ensures .0)) (after-name2 .name2 .ensures)
 
 pub named-spec : {M : Type 1} → statement M
 named-spec =

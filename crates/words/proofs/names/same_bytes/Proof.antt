@@ -16,7 +16,9 @@ abbrev μ-loop : tie.MeasureT-loop
 μ-loop a b i₀ i = length a - i
 
 returns : tie.Need-returns Inv-loop μ-loop
-returns c = sym (equal-off (c .before .args .a .now) (c .before .args .b .now) (λ e. c .if1 .taken (ap length e)))
+returns c =
+    let start : tie.Start Inv-loop μ-loop = search in
+    sym (equal-off (start .args .a .now) (start .args .b .now) (λ e. c .if1 .taken (ap length e)))
 
 loop-holds : tie.Need-loop-holds Inv-loop μ-loop
 loop-holds c = (omega arith, below-none _)
@@ -28,7 +30,11 @@ shared-slice-read-if2-2 : tie.Need-shared-slice-read-if2-2 Inv-loop μ-loop
 shared-slice-read-if2-2 c = omega arith
 
 returns-2 : tie.Need-returns-2 Inv-loop μ-loop
-returns-2 c = sym (equal-off (c .before .before .before .before .before .before .args .a .now) (c .before .before .before .before .before .before .args .b .now) (λ e. c .if2 .taken (ap (λ (l : List ℕ). getD l (c .before .before .before .before .loop .i) 0) e)))
+returns-2 c =
+    let at-loop : tie.At-loop Inv-loop μ-loop = search in
+    let start : tie.Start Inv-loop μ-loop = search in
+    sym (equal-off (start .args .a .now) (start .args .b .now)
+    (λ e. c .if2 .taken (ap (λ (l : List ℕ). getD l (at-loop .loop .i) 0) e)))
 
 add-i : tie.Need-add-i Inv-loop μ-loop
 add-i c = omega arith
@@ -37,12 +43,19 @@ loop-less : tie.Need-loop-less Inv-loop μ-loop
 loop-less c = omega arith
 
 loop-again : tie.Need-loop-again Inv-loop μ-loop
-loop-again c = (omega arith, below-more _ _ (c .before .before .before .before .loop .inv .1) (c .if2 .left))
+loop-again c =
+    let at-loop : tie.At-loop Inv-loop μ-loop = search in
+    (omega arith, below-more _ _ (at-loop .loop .inv .1) (c .if2 .left))
 
 returns-3 : tie.Need-returns-3 Inv-loop μ-loop
-returns-3 c = let l = c .before .loop in
-    let past : l .i ≡ length (c .before .before .before .args .a .now) = omega arith in
-    sym (equal-on (c .before .before .before .args .a .now) (c .before .before .before .args .b .now) (ext-getD 0 (c .before .before .before .args .a .now) (c .before .before .before .args .b .now) (c .before .before .if1 .left) (λ k h. l .inv .1 k (omega arith))))
+returns-3 c =
+    let at-loop : tie.At-loop Inv-loop μ-loop = search in
+    let else1 : tie.Else1 Inv-loop μ-loop = search in
+    let start : tie.Start Inv-loop μ-loop = search in
+    let a = start .args .a .now in let b = start .args .b .now in
+    let l = at-loop .loop in
+    let past : l .i ≡ length a = omega arith in
+    sym (equal-on a b (ext-getD 0 a b (else1 .if1 .left) (λ k h. l .inv .1 k (omega arith))))
 
 pub same-bytes-spec : {M : Type 1} → statement M
 same-bytes-spec =

@@ -7,7 +7,10 @@ use Rattle.words.proofs.numbers.negate.Statement.{statement}
 use Rattle.words.proofs.numbers.negate.Tie as tie
 
 returns : tie.Need-returns
-returns c = let b : c .before .args .n < 4294967296 = search needs in omega (arith, eqb-true, negated-word (c .before .args .n) b)
+returns c =
+    let start : tie.Start = search in
+    let b : start .args .n < 4294967296 = search needs in
+    omega (arith, eqb-true, negated-word (start .args .n) b)
 
 sub-result : tie.Need-sub-result
 sub-result c = search needs
@@ -16,7 +19,10 @@ add-result : tie.Need-add-result
 add-result c = search needs
 
 returns-2 : tie.Need-returns-2
-returns-2 c = let b : c .before .args .n < 4294967296 = search needs in omega (arith, eqb-false, negated-word (c .before .args .n) b)
+returns-2 c =
+    let start : tie.Start = search in
+    let b : start .args .n < 4294967296 = search needs in
+    omega (arith, eqb-false, negated-word (start .args .n) b)
 
 pub negate-spec : {M : Type 1} → statement M
 negate-spec = tie.close (tie.spec returns sub-result add-result returns-2)

@@ -11,7 +11,10 @@ same-length : tie.Need-same-length
 same-length c = search needs
 
 returns : tie.Need-returns
-returns c = c .before .before .put .ensures ∙ put-all (c .before .before .before .before .before .before .args .table .now) (c .before .before .before .before .before .before .args .out .now)
+returns c =
+    let after-put : tie.After-put = search in
+    let start : tie.Start = search in
+    after-put .put .ensures ∙ put-all (start .args .table .now) (start .args .out .now)
 
 pub copy-spec : {M : Type 1} → statement M
 copy-spec = tie.close (tie.spec put-requires same-length returns)

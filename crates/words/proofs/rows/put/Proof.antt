@@ -42,10 +42,20 @@ loop-less c = omega arith
 
 loop-again : tie.Need-loop-again Inv-loop μ-loop
 loop-again c =
-    let s = c .before .before .before .args in
-    let l = c .before .before .loop in
-    let fit : s .at + l .k < length (s .out .now) = omega arith in
-    (rw (l .inv .0, add-one, paste-suc (s .out .now) (s .at) (s .row .now) (l .k) 0 fit (c .before .loop-test .taken)), omega arith, simp length-set (l .inv .2))
+    let in-loop : tie.In-loop Inv-loop μ-loop = search in
+    let at-loop : tie.At-loop Inv-loop μ-loop = search in
+    let start : tie.Start Inv-loop μ-loop = search in
+    let s = start .args in
+    let l = at-loop .loop in
+    let fit : s .at + l .k < length (s .out .now) = omega arith in (
+      rw (
+        l .inv .0,
+        add-one,
+        paste-suc (s .out .now) (s .at) (s .row .now) (l .k) 0 fit (in-loop .loop-test .taken),
+      ),
+      omega arith,
+      simp length-set (l .inv .2),
+    )
 
 same-length : tie.Need-same-length Inv-loop μ-loop
 same-length c = search needs
@@ -53,9 +63,10 @@ same-length c = search needs
 returns : tie.Need-returns Inv-loop μ-loop
 unfolding spliced
 returns c =
-    let l = c .before .loop in
-    let past : l .k ≡ length (c .before .before .args .row .now) = omega arith in
-    rw (l .inv .0, past, take-length)
+    let at-loop : tie.At-loop Inv-loop μ-loop = search in
+    let start : tie.Start Inv-loop μ-loop = search in
+    let l = at-loop .loop in
+    let past : l .k ≡ length (start .args .row .now) = omega arith in rw (l .inv .0, past, take-length)
 
 pub put-spec : {M : Type 1} → statement M
 put-spec =

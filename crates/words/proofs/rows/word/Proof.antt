@@ -11,10 +11,14 @@ shared-slice-read-result : tie.Need-shared-slice-read-result
 shared-slice-read-result c = search needs
 
 cast-result : tie.Need-cast-result
-cast-result c = omega (arith, c .shared-slice-known .given (c .before .args .at))
+cast-result c =
+    let start : tie.Start = search in
+    omega (arith, c .shared-slice-known .given (start .args .at))
 
 returns : tie.Need-returns
-returns c = (refl, c .shared-slice-known .given (c .before .args .at) .fits)
+returns c =
+    let start : tie.Start = search in
+    (refl, c .shared-slice-known .given (start .args .at) .fits)
 
 pub word-spec : {M : Type 1} → statement M
 word-spec = tie.close (tie.spec mul-result shared-slice-read-result cast-result returns)
