@@ -11,11 +11,11 @@ use Rattle.geometry.specs.Segment.{distanceOf, minusOf, plusOf, timesOf, dotOf,
 use Rattle.geometry.specs.Segment.{placesApart, placesOf, apartOf}
 use Rattle.geometry.specs.Gap.{minOf, leastFrom, gapOf}
 use Rattle.model.proofs.CardMaps.{apart, bits, noLanes, straight, tablesFor, twoPairs, twoWay}
-use Rattle.model.specs.Calls.{gapCall, gapContent, gapRefusal, gapRules, gapWords, laneRules, listContent}
+use Rattle.model.specs.Calls.{gapCall, gapContent, gapRules, gapWords, laneRules, listContent}
 use Rattle.model.specs.Calls.{listLengths, markRules, putLists, putRepaired, putReversed, repairCall}
-use Rattle.model.specs.Calls.{repairContent, repairCounts, repairLengths, repairRefusal, repairRules}
+use Rattle.model.specs.Calls.{repairContent, repairCounts, repairLengths, repairRules}
 use Rattle.model.specs.Calls.{reversalCall, reversalContent, reversalCounts, reversalLengths, reversalRefusal}
-use Rattle.model.specs.Calls.{reversalRules, rulesTo5, successionCall, successionRefusal, successionRules}
+use Rattle.model.specs.Calls.{reversalRules, rulesTo5, successionCall, successionRules}
 use Rattle.model.specs.Calls.{tableRules, warningRow, wrote}
 use Rattle.model.specs.Claim.{repairedTables}
 use Rattle.model.specs.Gaps.{gapBetween, gapRow, linkGaps}
@@ -26,7 +26,7 @@ use Rattle.model.specs.Reversal.{leadsTo, mirror, mirrored, negated, reverseCon
 use Rattle.model.specs.Reversal.{reverseJunction, reverseLane, reverseLink, reverseMap, reversePair}
 use Rattle.model.specs.Reversal.{reverseRoad, reverseTarget, reverseWarning, roadward}
 use Rattle.model.specs.Rows.{table, written}
-use Rattle.model.specs.Rules.{borne, connectionPartsFit, connectionWorded, edgesEven, edgesSized, idsOnce}
+use Rattle.model.specs.Rules.{borne, connectionPartsFit, connectionWorded, edgesEven, edgesSized, firstBroken, idsOnce}
 use Rattle.model.specs.Rules.{junctionWorded, laneFine, laneWorded, lanesSized, lanesWorded, linkWorded}
 use Rattle.model.specs.Rules.{listedIn, listsFit, listsSized, mapSized, mapWorded, marksFit, namesDirectTwice}
 use Rattle.model.specs.Rules.{namesOnce, namesTwice, numbersFine, oneEndedIn, pairFine, pairPartsFit}
@@ -52,10 +52,10 @@ rooted n = toBits binary32 (rootOf (bits n))
 abbrev at : ℕ → ℕ → Point
 at x y = record { x = bits x; y = bits y; z = bits 0 }
 
--- repair accepts the tables, given room; so does succession what repair leaves; and these are the lists
+-- no rule refuses the tables repair, nor what it leaves succession; and these are the lists
 pub record Gives (t : Tables) (successorOffsets successorIds predecessorOffsets predecessorIds : List ℕ) : Type 0 where
-  pub repaired : repairRefusal t (repairLengths (repairContent t)) ≡ none
-  pub accepted : successionRefusal (repairedTables t) (listLengths (listContent (repairedTables t))) ≡ none
+  pub repaired : firstBroken (repairRules t) ≡ none
+  pub accepted : firstBroken (successionRules (repairedTables t)) ≡ none
   pub gives : listContent (repairedTables t)
       ≡ record {
         successorOffsets = successorOffsets;
@@ -89,8 +89,8 @@ pub bench-cards :
     × (Gives (tablesFor (twoWay Both)) (0 ∷ 1 ∷ 2 ∷ []) (2 ∷ 1 ∷ []) (0 ∷ 1 ∷ 2 ∷ []) (2 ∷ 1 ∷ [])
     × Gives (tablesFor (twoWay Backward)) (0 ∷ 0 ∷ 0 ∷ []) [] (0 ∷ 0 ∷ 0 ∷ []) [])
 unfolding repairedTables rulesTo5 laneRules repairLengths repairCounts putRepaired warningRow repairContent
-    repairRules repairRefusal repairCall listLengths putLists listContent successionRules successionRefusal
-    successionCall gapWords gapContent gapRules gapRefusal gapCall reversalLengths reversalCounts putReversed
+    repairRules repairCall listLengths putLists listContent successionRules
+    successionCall gapWords gapContent gapRules gapCall reversalLengths reversalCounts putReversed
     reversalContent tableRules markRules reversalRules reversalRefusal reversalCall gapBetween gapRow linkGaps
     linked putTarget vacantEnd swapped backAt roadOf meets inVirtual withoutAlong backEnd missingEnd missingLink
     meetingEnd runsBack backOf reversed repairRoads repairJunction startRoads repair warnOne warnings negated

@@ -10,14 +10,14 @@ use lib.ListN.{length, take, getD, length-append, length-map}
 use lib.Seq.{drop-at, take-append-seam}
 use borrow.Author.Tests.{eqb-true}
 use Rattle.model.specs.Calls.{Answer, ListOutputs, laneRules, listContent, listLengths, longEnough, putLists}
-use Rattle.model.specs.Calls.{refused, rulesTo5, settled, successionCall, successionRefusal, successionRules}
+use Rattle.model.specs.Calls.{refused, rulesTo5, settled, successionCall, successionRules}
 use Rattle.model.specs.Calls.{wrote}
 use Rattle.model.specs.Claim.{Mutual, identityAt, isTwoWay, listAt, listRows}
 use Rattle.model.specs.Lists.{count, member}
 use Rattle.model.specs.Lookup.{listsAfter, listsIn, offsetsFrom, packed}
 use Rattle.model.specs.Records.{Lane}
 use Rattle.model.specs.Rows.{part, table, word}
-use Rattle.model.specs.Rules.{identitiesOnce, idsOnce, same}
+use Rattle.model.specs.Rules.{Rule, firstBroken, identitiesOnce, idsOnce, same}
 use Rattle.model.specs.Succession.{isBoth, predecessorLists, predecessors, successorLists, successors}
 use Rattle.model.specs.Tables.{Tables, directionOf, laneIn, lanesIn, lanesOf, mapOf}
 use Rattle.laws.proofs.Lay.{length-table, take-written}
@@ -123,18 +123,19 @@ module _ (t : Tables) where
         (length (listContent t .predecessorIds)) refl i;
   }
 
-  ids-once : (lengths : List ℕ) → successionRefusal t lengths ≡ none → identitiesOnce t ≡ true
-  unfolding successionRefusal successionRules rulesTo5 laneRules
-  ids-once lengths q =
-      all-pass (successionRules t)
-      (unbroken-append (successionRules t) (longEnough (listLengths (listContent t)) lengths) q .0)
-      .1 .1 .1 .1 .1 .0
+  -- every rule of succession, and 9
+  abbrev rulesWith9 : ListOutputs → List Rule
+  rulesWith9 o = successionRules t ++ longEnough (listLengths (listContent t)) (listLengths o)
+
+  ids-once : (o : ListOutputs) → firstBroken (rulesWith9 o) ≡ none → identitiesOnce t ≡ true
+  unfolding successionRules rulesTo5 laneRules
+  ids-once o q = all-pass (successionRules t) (unbroken-append (successionRules t) (longEnough (listLengths (listContent t)) (listLengths o)) q .0) .1 .1 .1 .1 .1 .0
 
   -- every succession that is accepted
   pub mutual-lists : (o : ListOutputs) (counts : List ℕ) → successionCall t o .answer ≡ wrote counts
       → Mutual (t .lanes) (listRows counts (successionCall t o .outs))
   unfolding successionCall
-  mutual-lists o counts a = go (successionRefusal t (listLengths o)) refl a
+  mutual-lists o counts a = go (firstBroken (rulesWith9 o)) refl a
     where
       unwrap : Answer → List ℕ
       unwrap (refused k) = []
@@ -144,7 +145,7 @@ module _ (t : Tables) where
       isWrote (refused k) = false
       isWrote (wrote ns) = true
 
-      go : (r : Option ℕ) → successionRefusal t (listLengths o) ≡ r
+      go : (r : Option ℕ) → firstBroken (rulesWith9 o) ≡ r
           → settled r (listLengths (listContent t)) (putLists (listContent t) o) o .answer ≡ wrote counts
           → Mutual (t .lanes)
           (listRows counts (settled r (listLengths (listContent t)) (putLists (listContent t) o) o .outs))
@@ -152,4 +153,4 @@ module _ (t : Tables) where
       go none q a =
           subst (Mutual (t .lanes))
           (sym (ap (λ ns. listRows ns (putLists (listContent t) o)) (sym (ap unwrap a)) ∙ rows-content o))
-          (mutual-content (ids-once (listLengths o) q))
+          (mutual-content (ids-once o q))

@@ -7,10 +7,10 @@ use Prim.Native.Nat.{ℕ, suc, _*_, _/_}
 use native.Mathlib.Omega.{arith}
 use lib.Dec.{eqb}
 use lib.ListN.{length, take, getD, length-map}
-use Rattle.model.specs.Calls.{Answer, ListOutputs, Outcome, RepairOutputs, gapCall, gapContent, gapRefusal}
+use Rattle.model.specs.Calls.{Answer, ListOutputs, Outcome, RepairOutputs, gapCall, gapContent}
 use Rattle.model.specs.Calls.{gapRules, gapWords, laneRules, listContent, listLengths, putLists, putRepaired}
 use Rattle.model.specs.Calls.{refused, repairCall, repairContent, repairCounts, repairLengths, repairRefusal}
-use Rattle.model.specs.Calls.{repairRules, rowNamed, rulesTo5, settled, successionCall, successionRefusal}
+use Rattle.model.specs.Calls.{repairRules, rowNamed, rulesTo5, settled, successionCall}
 use Rattle.model.specs.Calls.{successionRules, warningRow, wrote}
 use Rattle.model.specs.Claim.{repairedTables}
 use Rattle.model.specs.Gaps.{linkGaps}
@@ -335,7 +335,7 @@ module _ (text : List ℕ) (m : Map) (xs : List EdgedLane) (h : Sound text m xs)
           }
 
   pub successionCall-reversed : (o : ListOutputs) → successionCall W′ o ≡ successionCall W o
-  unfolding successionCall successionRefusal
+  unfolding successionCall
   successionCall-reversed o =
       λ i.
       settled (firstBroken (successionRules-even W′ W even-W (passed text (repair (sameIn text) m′) xs′ k′)
@@ -383,7 +383,7 @@ module _ (text : List ℕ) (m : Map) (xs : List EdgedLane) (h : Sound text m xs)
       (sym (is-edged text (repair (sameIn text) m) xs k))
 
   pub gapCall-reversed : (offsets ids o : List ℕ) → gapCall W′ offsets ids o ≡ gapCall W offsets ids o
-  unfolding gapCall gapRefusal
+  unfolding gapCall
   gapCall-reversed offsets ids o =
       λ i.
       settled (firstBroken (gapRules-even W′ W even-W (passed text (repair (sameIn text) m′) xs′ k′)
@@ -423,7 +423,7 @@ module _ (text : List ℕ) (m : Map) (xs : List EdgedLane) (h : Sound text m xs)
 
     -- all three calls
     pub found-reversed : found q T′ ≡ found q T
-    unfolding found foundBy repairCall
+    unfolding found foundBy repairCall repairRefusal
     found-reversed =
         ap (foundBy T′) (repairRefusal-reversed (repairLengths (q .forRepair)))
         ∙ go (repairRefusal T (repairLengths (q .forRepair)))

@@ -32,7 +32,7 @@ use Rattle.laws.proofs.WordsReversed.{sound-model, wordsOf}
 pub accepted-is : (t : Tables) (marks : List ℕ) (outs : ReversalOutputs)
     → isAccepted (reversalCall t marks outs .answer)
     ≡ not (isSome (reversalRefusal t marks (reversalLengths outs)))
-unfolding reversalCall
+unfolding reversalCall reversalRefusal
 accepted-is t marks outs = go (reversalRefusal t marks (reversalLengths outs))
   where
     go : (o : Option ℕ)

@@ -1,11 +1,8 @@
 -- A call looks at no table but those that it reads: with no lanes or edges lent at all, repair comes to the
 -- same, and with no edges succession does.
 use mathlib.Core.Path.{_≡_, refl}
-use mathlib.Core.List.{List}
-use Prim.Native.Nat.{ℕ}
 use Rattle.model.specs.Calls.{ListOutputs, RepairOutputs, laneRules, listContent, repairCall, repairContent}
-use Rattle.model.specs.Calls.{repairRefusal, repairRules, rulesTo5, successionCall, successionRefusal}
-use Rattle.model.specs.Calls.{successionRules, warningRow}
+use Rattle.model.specs.Calls.{repairRules, rulesTo5, successionCall, successionRules, warningRow}
 use Rattle.model.specs.Repair.{repair, startRoads, warnings}
 use Rattle.model.specs.Rules.{lanesSized, lanesWorded, mapSized, mapWorded}
 use Rattle.model.specs.Tables.{Tables, laneTables, mapOf, mapTables}
@@ -17,18 +14,10 @@ module _ (t : Tables) where
   unfolding repairContent repair startRoads warnings warningRow mapOf
   repairContent-reads = refl
 
-  pub repairRefusal-reads : (lengths : List ℕ)
-      → repairRefusal t lengths
-      ≡ repairRefusal (mapTables (t .text) (t .roads) (t .sections) (t .junctions) (t .connections) (t .pairs))
-      lengths
-  unfolding repairRefusal repairRules rulesTo5 mapSized mapWorded repairContent repair startRoads warnings
-      warningRow mapOf
-  repairRefusal-reads lengths = refl
-
   pub repairCall-reads : (o : RepairOutputs)
       → repairCall t o
       ≡ repairCall (mapTables (t .text) (t .roads) (t .sections) (t .junctions) (t .connections) (t .pairs)) o
-  unfolding repairCall repairRefusal repairRules rulesTo5 mapSized mapWorded repairContent repair startRoads
+  unfolding repairCall repairRules rulesTo5 mapSized mapWorded repairContent repair startRoads
       warnings warningRow mapOf
   repairCall-reads o = refl
 
@@ -39,19 +28,10 @@ module _ (t : Tables) where
   unfolding listContent mapOf
   listContent-reads = refl
 
-  pub successionRefusal-reads : (lengths : List ℕ)
-      → successionRefusal t lengths
-      ≡ successionRefusal
-      (laneTables (t .text) (t .roads) (t .sections) (t .junctions) (t .connections) (t .pairs) (t .lanes))
-      lengths
-  unfolding successionRefusal successionRules rulesTo5 laneRules mapSized mapWorded lanesSized lanesWorded
-      listContent mapOf
-  successionRefusal-reads lengths = refl
-
   pub successionCall-reads : (o : ListOutputs)
       → successionCall t o
       ≡ successionCall
       (laneTables (t .text) (t .roads) (t .sections) (t .junctions) (t .connections) (t .pairs) (t .lanes)) o
-  unfolding successionCall successionRefusal successionRules rulesTo5 laneRules mapSized mapWorded lanesSized
+  unfolding successionCall successionRules rulesTo5 laneRules mapSized mapWorded lanesSized
       lanesWorded listContent mapOf
   successionCall-reads o = refl

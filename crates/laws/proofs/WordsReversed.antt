@@ -446,7 +446,7 @@ module _ (text : List ℕ) (y : Model) (six : Each Six (y .edged)) (o : Reversal
 pub accepted-leaves : (text : List ℕ) (x : Model) → SoundModel text x → (c : Call)
     → reversalRefusal (wordsOf text x) (c .marks) (reversalLengths (c .outs)) ≡ none
     → after (wordsOf text x) c ≡ reversedOnceBy (c .marks) (wordsOf text x)
-unfolding after reversalCall reversedOnceBy
+unfolding after reversalCall reversalRefusal reversedOnceBy
 accepted-leaves text x h c q =
     ap (λ r.
     next (wordsOf text x) (settled r (reversalCounts (reversalContent (wordsOf text x) (c .marks)))
@@ -472,7 +472,7 @@ accepted-leaves text x h c q =
 
 pub refused-leaves : (t : Tables) (c : Call) (k : ℕ)
     → reversalRefusal t (c .marks) (reversalLengths (c .outs)) ≡ some k → after t c ≡ t
-unfolding after reversalCall
+unfolding after reversalCall reversalRefusal
 refused-leaves t c k q =
     ap (λ r.
     next t (settled r (reversalCounts (reversalContent t (c .marks)))

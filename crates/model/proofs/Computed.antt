@@ -8,11 +8,11 @@ use Rattle.geometry.specs.Gap.{gapOf, leastFrom, minOf}
 use Rattle.geometry.specs.Root.{midpointAbove, midpointBelow, rootBits, rootOf}
 use Rattle.geometry.specs.Segment.{apartOf, clampOf, dotOf, freePlace, lengthOf, minusOf, placesApart, placesOf}
 use Rattle.geometry.specs.Segment.{plusOf, timesOf}
-use Rattle.model.specs.Calls.{gapCall, gapContent, gapRefusal, gapRules, gapWords, laneRules, listContent}
+use Rattle.model.specs.Calls.{gapCall, gapContent, gapRules, gapWords, laneRules, listContent}
 use Rattle.model.specs.Calls.{listLengths, markRules, putLists, putRepaired, putReversed, repairCall}
 use Rattle.model.specs.Calls.{repairContent, repairCounts, repairLengths, repairRefusal, repairRules}
 use Rattle.model.specs.Calls.{reversalCall, reversalContent, reversalCounts, reversalLengths}
-use Rattle.model.specs.Calls.{reversalRefusal, reversalRules, rulesTo5, successionCall, successionRefusal}
+use Rattle.model.specs.Calls.{reversalRefusal, reversalRules, rulesTo5, successionCall}
 use Rattle.model.specs.Calls.{successionRules, tableRules, warningRow}
 use Rattle.model.specs.Gaps.{GapRow, gapBetween, gapRow, linkGaps}
 use Rattle.model.specs.Records.{EdgedLane, Map, Span}
@@ -90,10 +90,10 @@ turnedEdged mk m x = reverseEdged alike mk (m .roads) x
 -- the numbers of all rules that are broken; a proof that unfolds it computes the four calls
 unfoldable pub broken : List Rule → List ℕ
 unfolding before gapRows turnedEdged warned
-    gapCall gapContent gapRefusal gapRules gapWords laneRules listContent listLengths markRules putLists
+    gapCall gapContent gapRules gapWords laneRules listContent listLengths markRules putLists
     putRepaired putReversed repairCall repairContent repairCounts repairLengths repairRefusal repairRules
     reversalCall reversalContent reversalCounts reversalLengths reversalRefusal reversalRules rulesTo5
-    successionCall successionRefusal successionRules tableRules warningRow
+    successionCall successionRules tableRules warningRow
     table written
     borne connectionPartsFit connectionWorded edgesEven edgesSized idsOnce junctionWorded laneFine laneWorded
     lanesSized lanesWorded linkWorded listedIn listsFit listsSized mapSized mapWorded marksFit namesDirectTwice

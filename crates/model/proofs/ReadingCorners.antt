@@ -12,9 +12,9 @@ use Rattle.model.specs.Reading.{RawTables, connectionWarnings, junctionW
 use Rattle.model.specs.Reading.{laneNumber, leadsInto, passedOver, readConnection, readJunction}
 use Rattle.model.specs.Reading.{readJunctions, readLane, readPair, readTarget, readWarnings}
 use Rattle.model.specs.ReadingCalls.{JunctionOutputs, junctionContent, junctionCounts, junctionLengths}
-use Rattle.model.specs.ReadingCalls.{oneTable, putJunctions, rawJunctionRules, rawLaneContent}
+use Rattle.model.specs.ReadingCalls.{putJunctions, rawJunctionRules, rawLaneContent}
 use Rattle.model.specs.ReadingCalls.{rawLaneRules, rawPartsFit, rawSized, rawTargetWorded}
-use Rattle.model.specs.ReadingCalls.{readJunctionsCall, readJunctionsRefusal, readLanesCall}
+use Rattle.model.specs.ReadingCalls.{readJunctionsCall, readLanesCall}
 use Rattle.model.specs.ReadingCalls.{readTargetsCall, targetContent, targetRules}
 use Rattle.model.specs.Reversal.{negated}
 use Rattle.model.specs.Rows.{table, written}
@@ -63,8 +63,8 @@ leading-zeros = (refl, refl, refl)
 unfoldable opened : ℕ
 unfolding laneNumber negated connectionWarnings junctionWarnings keptConnections leadsInto passedOver
     readConnection readJunction readJunctions readLane readPair readTarget readWarnings
-    junctionContent junctionCounts junctionLengths oneTable putJunctions rawJunctionRules rawLaneContent
-    rawLaneRules rawPartsFit rawSized rawTargetWorded readJunctionsCall readJunctionsRefusal readLanesCall
+    junctionContent junctionCounts junctionLengths putJunctions rawJunctionRules rawLaneContent
+    rawLaneRules rawPartsFit rawSized rawTargetWorded readJunctionsCall readLanesCall
     readTargetsCall targetContent targetRules
     table written sized allConnections allPairs connectionRow connectionWords junctionRow junctionWords pairRow
     pairWords bytesOf placed sameIn

@@ -31,6 +31,10 @@ pub record Outcome (O : Type 0) : Type 0 where
   pub answer : Answer
   pub outs : O
 
+-- that answer and those outputs
+abbrev pub outcome : {O : Type 0} → Answer → O → Outcome O
+outcome a o = record { answer = a; outs = o }
+
 -- "changes no lent word": a refusal leaves the outputs as they were
 abbrev pub settled : {O : Type 0} → Option ℕ → List ℕ → O → O → Outcome O
 settled (some k) counts new old = record { answer = refused k; outs = old }
@@ -48,6 +52,25 @@ laneRules t = rule 6 (identitiesOnce t) ∷ rule 7 (lanesListed t) ∷ rule 8 (k
 -- 9 an output shorter than its content, after all others
 abbrev pub longEnough : List ℕ → List ℕ → List Rule
 longEnough content outs = rule 9 (fits content outs) ∷ []
+
+-- how outputs are measured and written: their lengths in words, the rows that these are, content put into them
+pub record Writing (O : Type 0) : Type 0 where
+  pub lengths : O → List ℕ
+  pub rows : O → List ℕ
+  pub put : O → O → O
+
+-- one table, with rows of w words
+abbrev pub tableWriting : ℕ → Writing (List ℕ)
+tableWriting w = record { lengths = λ o. length o ∷ []; rows = λ o. length o / w ∷ []; put = written }
+
+-- A CALL'S WHOLE OUTCOME: refused by the first of its rules that is broken, 9 the last, or its content written
+abbrev pub called : {O : Type 0} → Writing O → List Rule → (content outs : O) → Outcome O
+called w rules c o =
+    settled (firstBroken (rules ++ longEnough (w .lengths c) (w .lengths o))) (w .rows c) (w .put c o) o
+
+-- content written, or 9: what is left of a call where no other rule is broken
+abbrev pub writtenOr9 : {O : Type 0} → Writing O → (content outs : O) → Outcome O
+writtenOr9 w c o = called w [] c o
 
 -- ---- Repair
 -- "Repair writes roads, junctions, connections, pairs and warnings"
@@ -85,6 +108,9 @@ putRepaired c o = record {
   warnings = written (c .warnings) (o .warnings);
 }
 
+abbrev pub repairWriting : Writing RepairOutputs
+repairWriting = record { lengths = repairLengths; rows = repairCounts; put = putRepaired }
+
 -- the row of the road of that name
 abbrev pub rowNamed : (Span → Span → Bool) → List Road → Span → ℕ
 rowNamed alike [] n = 0
@@ -118,8 +144,7 @@ repairRefusal t lengths = firstBroken (repairRules t ++ longEnough (repairLength
 
 -- REPAIR'S WHOLE OUTCOME
 unfoldable pub repairCall : Tables → RepairOutputs → Outcome RepairOutputs
-repairCall t o = settled (repairRefusal t (repairLengths o)) (repairCounts (repairContent t))
-    (putRepaired (repairContent t) o) o
+repairCall t o = called repairWriting (repairRules t) (repairContent t) o
 
 -- ---- Succession
 -- "for each of the two lists, offsets .. and the identities packed"
@@ -142,6 +167,10 @@ putLists c o = record {
   predecessorIds = written (c .predecessorIds) (o .predecessorIds);
 }
 
+-- offsets and identities are single words, so a row is a word
+abbrev pub listWriting : Writing ListOutputs
+listWriting = record { lengths = listLengths; rows = listLengths; put = putLists }
+
 -- what succession has to write
 unfoldable pub listContent : Tables → ListOutputs
 listContent t = record {
@@ -154,14 +183,9 @@ listContent t = record {
 unfoldable pub successionRules : Tables → List Rule
 successionRules t = rulesTo5 (mapSized 16384 t && lanesSized t) (mapWorded t && lanesWorded t) t ++ laneRules t
 
--- "Succession: 1, 2, 3, 4, 5; 6 .. 7 .. 8 .. 9"
-unfoldable pub successionRefusal : Tables → List ℕ → Option ℕ
-successionRefusal t lengths = firstBroken (successionRules t ++ longEnough (listLengths (listContent t)) lengths)
-
--- SUCCESSION'S WHOLE OUTCOME. Offsets and identities are single words, so the rows written are their lengths.
+-- SUCCESSION'S WHOLE OUTCOME: "1, 2, 3, 4, 5; 6 .. 7 .. 8 .. 9"
 unfoldable pub successionCall : Tables → ListOutputs → Outcome ListOutputs
-successionCall t o = settled (successionRefusal t (listLengths o)) (listLengths (listContent t))
-    (putLists (listContent t) o) o
+successionCall t o = called listWriting (successionRules t) (listContent t) o
 
 -- ---- Gap check
 -- how many words gap rows have
@@ -182,16 +206,9 @@ gapRules t offsets ids =
     (mapWorded t && lanesWorded t) t
     ++ laneRules t ++ (rule 10 (edgesFit t) ∷ rule 11 (listsFit t offsets ids) ∷ [])
 
--- "Gaps: 1 to 8; 10 .. 11 .. 9"
-unfoldable pub gapRefusal : Tables → (offsets ids : List ℕ) → ℕ → Option ℕ
-gapRefusal t offsets ids room =
-    firstBroken (gapRules t offsets ids ++ longEnough (length (gapContent t offsets ids) ∷ []) (room ∷ []))
-
--- THE GAP CHECK'S WHOLE OUTCOME
+-- THE GAP CHECK'S WHOLE OUTCOME: "1 to 8; 10 .. 11 .. 9"
 unfoldable pub gapCall : Tables → (offsets ids : List ℕ) → List ℕ → Outcome (List ℕ)
-gapCall t offsets ids o =
-    settled (gapRefusal t offsets ids (length o)) (length (gapContent t offsets ids) / gapWidth ∷ [])
-    (written (gapContent t offsets ids) o) o
+gapCall t offsets ids o = called (tableWriting gapWidth) (gapRules t offsets ids) (gapContent t offsets ids) o
 
 -- ---- Reversal
 -- "reversal writes roads, sections, connections, pairs, lanes and edges"
@@ -223,6 +240,9 @@ putReversed c o = record {
   lanes = written (c .lanes) (o .lanes);
   edges = written (c .edges) (o .edges);
 }
+
+abbrev pub reversalWriting : Writing ReversalOutputs
+reversalWriting = record { lengths = reversalLengths; rows = reversalCounts; put = putReversed }
 
 -- "One mark for each road": the roads that the marks name
 abbrev pub markedBy : Tables → List ℕ → Span → Bool
@@ -262,6 +282,4 @@ reversalRefusal t marks lengths =
 
 -- REVERSAL'S WHOLE OUTCOME
 unfoldable pub reversalCall : Tables → List ℕ → ReversalOutputs → Outcome ReversalOutputs
-reversalCall t marks o =
-    settled (reversalRefusal t marks (reversalLengths o)) (reversalCounts (reversalContent t marks))
-    (putReversed (reversalContent t marks) o) o
+reversalCall t marks o = called reversalWriting (reversalRules t marks) (reversalContent t marks) o

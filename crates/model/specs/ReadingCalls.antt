@@ -11,7 +11,7 @@ use Rattle.model.specs.Rows.{table, word, partsFit, written}
 use Rattle.model.specs.Tables.{flag, isAbsent, spanIn, junctionWidth, connectionWidth, pairWidth}
 use Rattle.model.specs.Tables.{targetWords, junctionWords, connectionWords, pairWords}
 use Rattle.model.specs.Rules.{Rule, rule, firstBroken, sized}
-use Rattle.model.specs.Calls.{Outcome, settled, longEnough, warningWidth}
+use Rattle.model.specs.Calls.{Outcome, Writing, tableWriting, called, longEnough, warningWidth}
 use Rattle.model.specs.Reading.{readTarget, readLane, RawTables, readJunctions, readWarnings, readWarningRow}
 
 -- ---- how many words a row has
@@ -64,13 +64,6 @@ unfoldable pub rawPartsFit : RawTables → Bool
 rawPartsFit t = partsFit 6 7 0 (length (t .connections) / rawConnectionWidth) (table rawJunctionWidth (t .junctions))
     && partsFit 12 13 0 (length (t .laneLinks) / rawLaneLinkWidth) (table rawConnectionWidth (t .connections))
 
--- the outcome of a call that writes one table of w words a row
-unfoldable pub oneTable : List Rule → ℕ → (content out : List ℕ) → Outcome (List ℕ)
-oneTable rules w content out =
-    settled (firstBroken (rules ++ longEnough (length content ∷ []) (length out ∷ [])))
-    (length content / w ∷ [])
-    (written content out) out
-
 -- ---- targets
 unfoldable pub targetRules : (text raw : List ℕ) → List Rule
 targetRules text raw =
@@ -82,7 +75,7 @@ targetContent text raw = gather (λ r. targetWords (readTarget text r)) (table r
 
 -- THE READING OF TARGETS, ITS WHOLE OUTCOME
 unfoldable pub readTargetsCall : (text raw out : List ℕ) → Outcome (List ℕ)
-readTargetsCall text raw out = oneTable (targetRules text raw) targetWidth (targetContent text raw) out
+readTargetsCall text raw out = called (tableWriting targetWidth) (targetRules text raw) (targetContent text raw) out
 
 -- ---- lanes
 unfoldable pub rawLaneRules : (text raw : List ℕ) → List Rule
@@ -94,7 +87,7 @@ rawLaneContent text raw = gather (readLane text) (table rawLaneWidth raw)
 
 -- THE READING OF LANES, ITS WHOLE OUTCOME
 unfoldable pub readLanesCall : (text raw out : List ℕ) → Outcome (List ℕ)
-readLanesCall text raw out = oneTable (rawLaneRules text raw) rawLaneWidth (rawLaneContent text raw) out
+readLanesCall text raw out = called (tableWriting rawLaneWidth) (rawLaneRules text raw) (rawLaneContent text raw) out
 
 -- ---- junctions
 pub record JunctionOutputs : Type 0 where
@@ -122,6 +115,9 @@ putJunctions c o = record {
   warnings = written (c .warnings) (o .warnings);
 }
 
+abbrev pub junctionWriting : Writing JunctionOutputs
+junctionWriting = record { lengths = junctionLengths; rows = junctionCounts; put = putJunctions }
+
 -- the words of the junctions read, parts recomputed, and the warnings
 unfoldable pub junctionContent : RawTables → JunctionOutputs
 junctionContent t = record {
@@ -139,13 +135,6 @@ rawJunctionRules t =
     (t .connections) && rowsNamed (t .text) rawLaneLinkWidth 2 (t .laneLinks))
     ∷ rule 5 (rawPartsFit t) ∷ []
 
--- "Reading: 1, 2, 5, 9"
-unfoldable pub readJunctionsRefusal : RawTables → List ℕ → Option ℕ
-readJunctionsRefusal t lengths =
-    firstBroken (rawJunctionRules t ++ longEnough (junctionLengths (junctionContent t)) lengths)
-
--- THE READING OF JUNCTIONS, ITS WHOLE OUTCOME
+-- THE READING OF JUNCTIONS, ITS WHOLE OUTCOME: "1, 2, 5, 9"
 unfoldable pub readJunctionsCall : RawTables → JunctionOutputs → Outcome JunctionOutputs
-readJunctionsCall t o =
-    settled (readJunctionsRefusal t (junctionLengths o)) (junctionCounts (junctionContent t))
-    (putJunctions (junctionContent t) o) o
+readJunctionsCall t o = called junctionWriting (rawJunctionRules t) (junctionContent t) o
