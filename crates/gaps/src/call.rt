@@ -16,7 +16,7 @@ ghost use lib.ListN.{length, getD};
 ghost use Rattle.model.specs.Tables.{allTables};
 ghost use Rattle.model.specs.Rules.{firstBroken};
 ghost use Rattle.model.specs.Calls.{gapRules, gapCall};
-ghost use Rattle.words.specs.Chain.{Chained};
+ghost use Rattle.words.specs.Chain.{Chained, Empty};
 ghost use Rattle.words.specs.Keys.{idHash};
 ghost use Rattle.tables.specs.Verdicts.{refusalOf};
 ghost use Rattle.gaps.specs.Links.{rowsBelow, listsRight};
@@ -96,7 +96,7 @@ fn gap_verdict(
     heads: &mut [u32],
     next: &mut [u32],
 ) -> Verdict
-    requires { ⌜ (length (now heads) ≡ 16384) × (length (now next) ≡ 16384) × ((b : ℕ) → b < length (now heads) → getD (now heads) b 0 ≡ 0) ⌝ }
+    requires { ⌜ Empty (now heads) (now next) ⌝ }
     ensures { λ q. ⌜ refusalOf q ≡ firstBroken (gapRules (allTables (now (text .entry)) (now (roads .entry)) (now (sections .entry)) (now (junctions .entry)) (now (connections .entry)) (now (pairs .entry)) (now (lanes .entry)) (now (edges .entry))) (now (offsets .entry)) (now (ids .entry))) ⌝ }
     ensures { λ q. ⌜ (refusalOf q ≡ none → Chained (idHash (now (lanes .entry))) (length (now (lanes .entry)) / 10) (now (heads .exit)) (now (next .exit))) ⌝ }
 {

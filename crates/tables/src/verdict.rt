@@ -12,10 +12,10 @@ ghost use mathlib.Core.List.{[], _∷_, _++_};
 ghost use Prim.Native.Nat.{ℕ, _+_, _*_, _/_, _≤_, _<_};
 ghost use lib.ListN.{length, getD};
 ghost use mathlib.Core.Option.{none};
-ghost use Rattle.model.specs.Tables.{mapTables, laneTables, allTables};
+ghost use Rattle.model.specs.Tables.{Tables, mapTables, laneTables, allTables};
 ghost use Rattle.model.specs.Rules.{firstBroken, rule, edgesFit};
 ghost use Rattle.model.specs.Calls.{rulesTo5, laneRules, repairRules, successionRules, reversalRules};
-ghost use Rattle.words.specs.Chain.{Chained};
+ghost use Rattle.words.specs.Chain.{Chained, Empty};
 ghost use Rattle.words.specs.Keys.{nameHash, laneHash};
 ghost use Rattle.rules.specs.ByRow.{Few, Linked};
 ghost use Rattle.tables.specs.Verdicts.{refusalOf, admits};
@@ -75,9 +75,13 @@ pub fn map_verdict(
     heads: &mut [u32],
     next: &mut [u32],
 ) -> Verdict
-    requires { ⌜ (sizes ≡ true → Few (now roads) (now sections) (now connections) (now pairs)) ⌝ }
-    requires { ⌜ (length (now heads) ≡ 16384) × (length (now next) ≡ 16384) × ((b : ℕ) → b < length (now heads) → getD (now heads) b 0 ≡ 0) ⌝ }
-    ensures { λ q. ⌜ (refusalOf q ≡ firstBroken (rulesTo5 sizes words (mapTables (now (text .entry)) (now (roads .entry)) (now (sections .entry)) (now (junctions .entry)) (now (connections .entry)) (now (pairs .entry))))) × (refusalOf q ≡ none → Chained (nameHash (now (text .entry)) 20 0 (now (roads .entry))) (length (now (roads .entry)) / 20) (now (heads .exit)) (now (next .exit))) ⌝ }
+    ghost { Tables }
+    requires { λ t. ⌜ mapTables (now text) (now roads) (now sections) (now junctions) (now connections) (now pairs) ≡ t ⌝ }
+    requires { λ _. ⌜ (sizes ≡ true → Few (now roads) (now sections) (now connections) (now pairs)) ⌝ }
+    requires { λ _. ⌜ Empty (now heads) (now next) ⌝ }
+    ensures { λ t q. ⌜ refusalOf q ≡ firstBroken (rulesTo5 sizes words t) ⌝ }
+    ensures { λ _ q. ⌜ (refusalOf q ≡ none → Chained (nameHash (now (text .entry)) 20 0 (now (roads .entry)))
+        (length (now (roads .entry)) / 20) (now (heads .exit)) (now (next .exit))) ⌝ }
 {
     if !sizes {
         return Verdict::BadSize;
@@ -109,8 +113,12 @@ pub fn repair_verdict(
     heads: &mut [u32],
     next: &mut [u32],
 ) -> Verdict
-    requires { ⌜ (length (now heads) ≡ 16384) × (length (now next) ≡ 16384) × ((b : ℕ) → b < length (now heads) → getD (now heads) b 0 ≡ 0) ⌝ }
-    ensures { λ q. ⌜ (refusalOf q ≡ firstBroken (repairRules (mapTables (now (text .entry)) (now (roads .entry)) (now (sections .entry)) (now (junctions .entry)) (now (connections .entry)) (now (pairs .entry))))) × (refusalOf q ≡ none → Chained (nameHash (now (text .entry)) 20 0 (now (roads .entry))) (length (now (roads .entry)) / 20) (now (heads .exit)) (now (next .exit))) ⌝ }
+    ghost { Tables }
+    requires { λ t. ⌜ mapTables (now text) (now roads) (now sections) (now junctions) (now connections) (now pairs) ≡ t ⌝ }
+    requires { λ _. ⌜ Empty (now heads) (now next) ⌝ }
+    ensures { λ t q. ⌜ refusalOf q ≡ firstBroken (repairRules t) ⌝ }
+    ensures { λ _ q. ⌜ (refusalOf q ≡ none → Chained (nameHash (now (text .entry)) 20 0 (now (roads .entry)))
+        (length (now (roads .entry)) / 20) (now (heads .exit)) (now (next .exit))) ⌝ }
 {
     let sizes = sizes::map_sized(text, roads, sections, junctions, connections, pairs, 8192);
     let words = worded::map_worded(text, roads, junctions, connections);
@@ -145,12 +153,16 @@ pub fn lane_verdict(
     kheads: &mut [u32],
     knext: &mut [u32],
 ) -> Verdict
-    requires { ⌜ (sizes ≡ true → Few (now roads) (now sections) (now connections) (now pairs)) × (sizes ≡ true → length (now lanes) / 10 ≤ 16384) ⌝ }
-    requires { ⌜ (length (now heads) ≡ 16384) × (length (now next) ≡ 16384) × ((b : ℕ) → b < length (now heads) → getD (now heads) b 0 ≡ 0) ⌝ }
-    requires { ⌜ length (now owner) ≡ 16384 ⌝ }
-    requires { ⌜ (length (now kheads) ≡ 16384) × (length (now knext) ≡ 16384) × ((b : ℕ) → b < length (now kheads) → getD (now kheads) b 0 ≡ 0) ⌝ }
-    ensures { λ q. ⌜ refusalOf q ≡ firstBroken (rulesTo5 sizes words (laneTables (now (text .entry)) (now (roads .entry)) (now (sections .entry)) (now (junctions .entry)) (now (connections .entry)) (now (pairs .entry)) (now (lanes .entry))) ++ laneRules (laneTables (now (text .entry)) (now (roads .entry)) (now (sections .entry)) (now (junctions .entry)) (now (connections .entry)) (now (pairs .entry)) (now (lanes .entry)))) ⌝ }
-    ensures { λ q. ⌜ (refusalOf q ≡ none → Linked (now (text .entry)) (now (roads .entry)) (now (lanes .entry)) (now (heads .exit)) (now (next .exit)) (now (owner .exit)) (now (kheads .exit)) (now (knext .exit))) ⌝ }
+    ghost { Tables }
+    requires { λ t. ⌜ laneTables (now text) (now roads) (now sections) (now junctions) (now connections) (now pairs) (now lanes) ≡ t ⌝ }
+    requires { λ _. ⌜ (sizes ≡ true → Few (now roads) (now sections) (now connections) (now pairs))
+        × (sizes ≡ true → length (now lanes) / 10 ≤ 16384) ⌝ }
+    requires { λ _. ⌜ Empty (now heads) (now next) ⌝ }
+    requires { λ _. ⌜ length (now owner) ≡ 16384 ⌝ }
+    requires { λ _. ⌜ Empty (now kheads) (now knext) ⌝ }
+    ensures { λ t q. ⌜ refusalOf q ≡ firstBroken (rulesTo5 sizes words t ++ laneRules t) ⌝ }
+    ensures { λ _ q. ⌜ (refusalOf q ≡ none → Linked (now (text .entry)) (now (roads .entry)) (now (lanes .entry))
+        (now (heads .exit)) (now (next .exit)) (now (owner .exit)) (now (kheads .exit)) (now (knext .exit))) ⌝ }
 {
     let first = map_verdict(
         sizes,
@@ -195,11 +207,14 @@ pub fn succession_verdict(
     kheads: &mut [u32],
     knext: &mut [u32],
 ) -> Verdict
-    requires { ⌜ (length (now heads) ≡ 16384) × (length (now next) ≡ 16384) × ((b : ℕ) → b < length (now heads) → getD (now heads) b 0 ≡ 0) ⌝ }
-    requires { ⌜ length (now owner) ≡ 16384 ⌝ }
-    requires { ⌜ (length (now kheads) ≡ 16384) × (length (now knext) ≡ 16384) × ((b : ℕ) → b < length (now kheads) → getD (now kheads) b 0 ≡ 0) ⌝ }
-    ensures { λ q. ⌜ refusalOf q ≡ firstBroken (successionRules (laneTables (now (text .entry)) (now (roads .entry)) (now (sections .entry)) (now (junctions .entry)) (now (connections .entry)) (now (pairs .entry)) (now (lanes .entry)))) ⌝ }
-    ensures { λ q. ⌜ (refusalOf q ≡ none → Linked (now (text .entry)) (now (roads .entry)) (now (lanes .entry)) (now (heads .exit)) (now (next .exit)) (now (owner .exit)) (now (kheads .exit)) (now (knext .exit))) ⌝ }
+    ghost { Tables }
+    requires { λ t. ⌜ laneTables (now text) (now roads) (now sections) (now junctions) (now connections) (now pairs) (now lanes) ≡ t ⌝ }
+    requires { λ _. ⌜ Empty (now heads) (now next) ⌝ }
+    requires { λ _. ⌜ length (now owner) ≡ 16384 ⌝ }
+    requires { λ _. ⌜ Empty (now kheads) (now knext) ⌝ }
+    ensures { λ t q. ⌜ refusalOf q ≡ firstBroken (successionRules t) ⌝ }
+    ensures { λ _ q. ⌜ (refusalOf q ≡ none → Linked (now (text .entry)) (now (roads .entry)) (now (lanes .entry))
+        (now (heads .exit)) (now (next .exit)) (now (owner .exit)) (now (kheads .exit)) (now (knext .exit))) ⌝ }
 {
     let sizes = both(
         sizes::map_sized(text, roads, sections, junctions, connections, pairs, 16384),
@@ -245,12 +260,17 @@ pub fn table_verdict(
     kheads: &mut [u32],
     knext: &mut [u32],
 ) -> Verdict
-    requires { ⌜ (sizes ≡ true → Few (now roads) (now sections) (now connections) (now pairs)) × (sizes ≡ true → length (now lanes) / 10 ≤ 16384) ⌝ }
-    requires { ⌜ (length (now heads) ≡ 16384) × (length (now next) ≡ 16384) × ((b : ℕ) → b < length (now heads) → getD (now heads) b 0 ≡ 0) ⌝ }
-    requires { ⌜ length (now owner) ≡ 16384 ⌝ }
-    requires { ⌜ (length (now kheads) ≡ 16384) × (length (now knext) ≡ 16384) × ((b : ℕ) → b < length (now kheads) → getD (now kheads) b 0 ≡ 0) ⌝ }
-    ensures { λ q. ⌜ refusalOf q ≡ firstBroken (rulesTo5 sizes words (allTables (now (text .entry)) (now (roads .entry)) (now (sections .entry)) (now (junctions .entry)) (now (connections .entry)) (now (pairs .entry)) (now (lanes .entry)) (now (edges .entry))) ++ laneRules (allTables (now (text .entry)) (now (roads .entry)) (now (sections .entry)) (now (junctions .entry)) (now (connections .entry)) (now (pairs .entry)) (now (lanes .entry)) (now (edges .entry))) ++ (rule 10 (edgesFit (allTables (now (text .entry)) (now (roads .entry)) (now (sections .entry)) (now (junctions .entry)) (now (connections .entry)) (now (pairs .entry)) (now (lanes .entry)) (now (edges .entry)))) ∷ [])) ⌝ }
-    ensures { λ q. ⌜ (refusalOf q ≡ none → Linked (now (text .entry)) (now (roads .entry)) (now (lanes .entry)) (now (heads .exit)) (now (next .exit)) (now (owner .exit)) (now (kheads .exit)) (now (knext .exit))) ⌝ }
+    ghost { Tables }
+    requires { λ t. ⌜ allTables (now text) (now roads) (now sections) (now junctions) (now connections) (now pairs)
+        (now lanes) (now edges) ≡ t ⌝ }
+    requires { λ _. ⌜ (sizes ≡ true → Few (now roads) (now sections) (now connections) (now pairs))
+        × (sizes ≡ true → length (now lanes) / 10 ≤ 16384) ⌝ }
+    requires { λ _. ⌜ Empty (now heads) (now next) ⌝ }
+    requires { λ _. ⌜ length (now owner) ≡ 16384 ⌝ }
+    requires { λ _. ⌜ Empty (now kheads) (now knext) ⌝ }
+    ensures { λ t q. ⌜ refusalOf q ≡ firstBroken (rulesTo5 sizes words t ++ laneRules t ++ (rule 10 (edgesFit t) ∷ [])) ⌝ }
+    ensures { λ _ q. ⌜ (refusalOf q ≡ none → Linked (now (text .entry)) (now (roads .entry)) (now (lanes .entry))
+        (now (heads .exit)) (now (next .exit)) (now (owner .exit)) (now (kheads .exit)) (now (knext .exit))) ⌝ }
 {
     let first = lane_verdict(
         sizes,
@@ -294,11 +314,15 @@ pub fn reversal_verdict(
     kheads: &mut [u32],
     knext: &mut [u32],
 ) -> Verdict
-    requires { ⌜ (length (now heads) ≡ 16384) × (length (now next) ≡ 16384) × ((b : ℕ) → b < length (now heads) → getD (now heads) b 0 ≡ 0) ⌝ }
-    requires { ⌜ length (now owner) ≡ 16384 ⌝ }
-    requires { ⌜ (length (now kheads) ≡ 16384) × (length (now knext) ≡ 16384) × ((b : ℕ) → b < length (now kheads) → getD (now kheads) b 0 ≡ 0) ⌝ }
-    ensures { λ q. ⌜ refusalOf q ≡ firstBroken (reversalRules (allTables (now (text .entry)) (now (roads .entry)) (now (sections .entry)) (now (junctions .entry)) (now (connections .entry)) (now (pairs .entry)) (now (lanes .entry)) (now (edges .entry))) (now (marks .entry))) ⌝ }
-    ensures { λ q. ⌜ (refusalOf q ≡ none → Linked (now (text .entry)) (now (roads .entry)) (now (lanes .entry)) (now (heads .exit)) (now (next .exit)) (now (owner .exit)) (now (kheads .exit)) (now (knext .exit))) ⌝ }
+    ghost { Tables }
+    requires { λ t. ⌜ allTables (now text) (now roads) (now sections) (now junctions) (now connections) (now pairs)
+        (now lanes) (now edges) ≡ t ⌝ }
+    requires { λ _. ⌜ Empty (now heads) (now next) ⌝ }
+    requires { λ _. ⌜ length (now owner) ≡ 16384 ⌝ }
+    requires { λ _. ⌜ Empty (now kheads) (now knext) ⌝ }
+    ensures { λ t q. ⌜ refusalOf q ≡ firstBroken (reversalRules t (now (marks .entry))) ⌝ }
+    ensures { λ _ q. ⌜ (refusalOf q ≡ none → Linked (now (text .entry)) (now (roads .entry)) (now (lanes .entry))
+        (now (heads .exit)) (now (next .exit)) (now (owner .exit)) (now (kheads .exit)) (now (knext .exit))) ⌝ }
 {
     let a = both(
         sizes::map_sized(text, roads, sections, junctions, connections, pairs, 16384),

@@ -7,13 +7,21 @@ use mathlib.Core.Bool.{Bool, true, false, _||_}
 use native.Mathlib.Nat.{le-refl, le-trans, le-step, not-suc-le-zero, le-of-suc-le-suc, eq-or-lt-of-le, le-of-lt}
 use native.Mathlib.Numerals.{add-one}
 use native.Mathlib.Omega.{arith}
-use lib.ListN.{length, getD, set, length-set}
+use lib.ListN.{length, getD, set, replicate, length-set, length-replicate, getD-replicate}
 use lib.Seq.{getD-set-same, getD-set-other}
 use lib.Dec.{eqb}
 use borrow.Author.Tests.{eq-eqb, eqb-true, eqb-false}
-use Rattle.words.specs.Chain.{Chained, within}
+use Rattle.words.specs.Chain.{Chained, Empty, within}
 use Rattle.words.specs.Rows.{any, lastOf}
 use Rattle.words.proofs.Laws.{or-left, or-none, or-right}
+
+-- new arrays hold no chain
+pub fresh : Empty (replicate 16384 0) (replicate 16384 0)
+fresh = record {
+  buckets = length-replicate {A = ℕ} 16384 0;
+  rows = length-replicate {A = ℕ} 16384 0;
+  clear = λ b h. getD-replicate {A = ℕ} 16384 b 0 0 h;
+}
 
 -- ---- the last row of which p holds
 pub last-none : (p : ℕ → Bool) → lastOf 0 p ≡ 0
@@ -66,10 +74,9 @@ chain-skip (suc n) B p h =
 
 -- ---- chains
 module _ (hash : ℕ → ℕ) where
-  pub chained-none : (heads next : List ℕ) → ((b : ℕ) → b < length heads → getD heads b 0 ≡ 0)
-      → Chained hash 0 heads next
-  chained-none heads next z = record {
-    head = λ b h. z b h ∙ sym (last-none (within hash b));
+  pub chained-none : {heads next : List ℕ} → Empty heads next → Chained hash 0 heads next
+  chained-none empty = record {
+    head = λ b h. empty .clear b h ∙ sym (last-none (within hash b));
     link = λ r h. absurd (not-suc-le-zero h);
   }
 

@@ -13,6 +13,12 @@ use Rattle.words.specs.Rows.{lastOf}
 abbrev pub within : (ℕ → ℕ) → ℕ → ℕ → Bool
 within hash b r = eqb (hash r) b
 
+-- arrays of the right lengths, with every bucket empty
+pub record Empty (heads next : List ℕ) : Type 0 where
+  pub buckets : length heads ≡ 16384
+  pub rows : length next ≡ 16384
+  pub clear : (b : ℕ) → b < length heads → getD heads b 0 ≡ 0
+
 -- the chains of the rows below n: a bucket leads to its last row, and a row to the one before it in its bucket
 pub record Chained (hash : ℕ → ℕ) (n : ℕ) (heads next : List ℕ) : Type 0 where
   pub head : (b : ℕ) → b < length heads → getD heads b 0 ≡ lastOf n (within hash b)

@@ -8,7 +8,7 @@ ghost use Prim.Native.Nat.{ℕ, _+_, _*_, _/_, _≤_, _<_};
 ghost use lib.ListN.{length, getD, set};
 ghost use lib.Dec.{eqb};
 ghost use Rattle.words.specs.Rows.{any, lastOf, span};
-ghost use Rattle.words.specs.Chain.{Chained};
+ghost use Rattle.words.specs.Chain.{Chained, Empty};
 ghost use Rattle.words.specs.Keys.{bears, nameHash, nameBefore, isId, idHash, idBefore, isKey, keyHash, laneHash, keyBefore, isDirectOf};
 
 // Whether a row was met before, or this one has been now.
@@ -24,7 +24,8 @@ fn met(before: bool, found: usize) -> bool
 // Puts row r in front of the chain of bucket h.
 fn link(heads: &mut [u32], next: &mut [u32], h: usize, r: usize)
     requires { ⌜ (h < length (now heads)) × (r < length (now next)) × (r < 16384) ⌝ }
-    ensures { λ _. ⌜ (now (heads .exit) ≡ set (now (heads .entry)) h (r + 1)) × (now (next .exit) ≡ set (now (next .entry)) r (getD (now (heads .entry)) h 0)) ⌝ }
+    ensures { λ _. ⌜ now (heads .exit) ≡ set (now (heads .entry)) h (r + 1) ⌝ }
+    ensures { λ _. ⌜ now (next .exit) ≡ set (now (next .entry)) r (getD (now (heads .entry)) h 0) ⌝ }
 {
     next[r] = heads[h];
     heads[h] = (r + 1) as u32;
@@ -42,7 +43,8 @@ pub fn find_name(
     start: usize,
     size: usize,
 ) -> usize
-    requires { ⌜ (w ≤ 20) × (k + 1 < w) × (n * w ≤ length (now ws)) × (n ≤ 16384) × (length (now heads) ≡ 16384) × (n ≤ length (now next)) × (start < 4294967296) × (size < 4294967296) ⌝ }
+    requires { ⌜ (w ≤ 20) × (k + 1 < w) × (n * w ≤ length (now ws)) × (n ≤ 16384) × (length (now heads) ≡ 16384) × (n ≤ length (now next))
+        × (start < 4294967296) × (size < 4294967296) ⌝ }
     requires { ⌜ Chained (nameHash (now text) w k (now ws)) n (now heads) (now next) ⌝ }
     ensures { λ r. ⌜ r ≡ lastOf n (bears (now (text .entry)) w k (now (ws .entry)) (span start size)) ⌝ }
 {
@@ -68,9 +70,10 @@ pub fn link_names(
     heads: &mut [u32],
     next: &mut [u32],
 ) -> bool
-    requires { ⌜ (w ≤ 20) × (k + 1 < w) × (n * w ≤ length (now ws)) × (n ≤ 16384) × (length (now heads) ≡ 16384) × (length (now next) ≡ 16384) ⌝ }
-    requires { ⌜ ((b : ℕ) → b < length (now heads) → getD (now heads) b 0 ≡ 0) ⌝ }
-    ensures { λ r. ⌜ (r ≡ any n (nameBefore (now (text .entry)) w k (now (ws .entry)))) × Chained (nameHash (now (text .entry)) w k (now (ws .entry))) n (now (heads .exit)) (now (next .exit)) ⌝ }
+    requires { ⌜ (w ≤ 20) × (k + 1 < w) × (n * w ≤ length (now ws)) × (n ≤ 16384) ⌝ }
+    requires { ⌜ Empty (now heads) (now next) ⌝ }
+    ensures { λ r. ⌜ r ≡ any n (nameBefore (now (text .entry)) w k (now (ws .entry))) ⌝ }
+    ensures { λ _. ⌜ Chained (nameHash (now (text .entry)) w k (now (ws .entry))) n (now (heads .exit)) (now (next .exit)) ⌝ }
 {
     let mut twice = false;
     let mut i = 0;
@@ -105,9 +108,10 @@ pub fn find_id(lanes: &[u32], heads: &[u32], next: &[u32], n: usize, id: u32) ->
 
 // Links every lane, and returns whether two bear one identity.
 pub fn link_ids(lanes: &[u32], n: usize, heads: &mut [u32], next: &mut [u32]) -> bool
-    requires { ⌜ (n * 10 ≤ length (now lanes)) × (n ≤ 16384) × (length (now heads) ≡ 16384) × (length (now next) ≡ 16384) ⌝ }
-    requires { ⌜ ((b : ℕ) → b < length (now heads) → getD (now heads) b 0 ≡ 0) ⌝ }
-    ensures { λ r. ⌜ (r ≡ any n (idBefore (now (lanes .entry)))) × Chained (idHash (now (lanes .entry))) n (now (heads .exit)) (now (next .exit)) ⌝ }
+    requires { ⌜ (n * 10 ≤ length (now lanes)) × (n ≤ 16384) ⌝ }
+    requires { ⌜ Empty (now heads) (now next) ⌝ }
+    ensures { λ r. ⌜ r ≡ any n (idBefore (now (lanes .entry))) ⌝ }
+    ensures { λ _. ⌜ Chained (idHash (now (lanes .entry))) n (now (heads .exit)) (now (next .exit)) ⌝ }
 {
     let mut twice = false;
     let mut i = 0;
@@ -154,7 +158,8 @@ pub fn find_key(
     section: u32,
     number: u32,
 ) -> usize
-    requires { ⌜ (n * 10 ≤ length (now lanes)) × (n ≤ 16384) × (n ≤ length (now owner)) × (length (now heads) ≡ 16384) × (n ≤ length (now next)) × (road < 4294967296) ⌝ }
+    requires { ⌜ (n * 10 ≤ length (now lanes)) × (n ≤ 16384) × (n ≤ length (now owner)) × (length (now heads) ≡ 16384)
+        × (n ≤ length (now next)) × (road < 4294967296) ⌝ }
     requires { ⌜ Chained (laneHash (now lanes) (now owner)) n (now heads) (now next) ⌝ }
     ensures { λ r. ⌜ r ≡ lastOf n (isKey (now (lanes .entry)) (now (owner .entry)) road section number) ⌝ }
 {
@@ -177,9 +182,10 @@ pub fn link_keys(
     heads: &mut [u32],
     next: &mut [u32],
 ) -> bool
-    requires { ⌜ (n * 10 ≤ length (now lanes)) × (n ≤ 16384) × (n ≤ length (now owner)) × (length (now heads) ≡ 16384) × (length (now next) ≡ 16384) ⌝ }
-    requires { ⌜ ((b : ℕ) → b < length (now heads) → getD (now heads) b 0 ≡ 0) ⌝ }
-    ensures { λ r. ⌜ (r ≡ any n (keyBefore (now (lanes .entry)) (now (owner .entry)))) × Chained (laneHash (now (lanes .entry)) (now (owner .entry))) n (now (heads .exit)) (now (next .exit)) ⌝ }
+    requires { ⌜ (n * 10 ≤ length (now lanes)) × (n ≤ 16384) × (n ≤ length (now owner)) ⌝ }
+    requires { ⌜ Empty (now heads) (now next) ⌝ }
+    ensures { λ r. ⌜ r ≡ any n (keyBefore (now (lanes .entry)) (now (owner .entry))) ⌝ }
+    ensures { λ _. ⌜ Chained (laneHash (now (lanes .entry)) (now (owner .entry))) n (now (heads .exit)) (now (next .exit)) ⌝ }
 {
     let mut twice = false;
     let mut i = 0;
@@ -217,7 +223,8 @@ pub fn find_direct(
     start: usize,
     size: usize,
 ) -> usize
-    requires { ⌜ (n * 5 ≤ length (now junctions)) × (n ≤ 16384) × (length (now heads) ≡ 16384) × (n ≤ length (now next)) × (start < 4294967296) × (size < 4294967296) ⌝ }
+    requires { ⌜ (n * 5 ≤ length (now junctions)) × (n ≤ 16384) × (length (now heads) ≡ 16384) × (n ≤ length (now next))
+        × (start < 4294967296) × (size < 4294967296) ⌝ }
     requires { ⌜ Chained (nameHash (now text) 5 0 (now junctions)) n (now heads) (now next) ⌝ }
     ensures { λ r. ⌜ r ≡ lastOf n (isDirectOf (now (text .entry)) (now (junctions .entry)) (span start size)) ⌝ }
 {

@@ -1,4 +1,4 @@
-use lib.ListN.{length, length-replicate, getD-replicate}
+use lib.ListN.{length, length-replicate}
 use mathlib.Core.List.{[], _∷_, _++_}
 use mathlib.Core.Bool.{_&&_, true}
 use Prim.Native.Nat.{ℕ}
@@ -9,6 +9,7 @@ use Rattle.model.specs.Calls.{laneRules, rulesTo5}
 use Rattle.model.specs.Rules.{edgesFit, edgesSized, firstBroken, lanesSized, lanesWorded, listsSized, mapSized}
 use Rattle.model.specs.Rules.{mapWorded, rule}
 use Rattle.model.specs.Tables.{allTables, mapTables}
+use Rattle.words.proofs.Chains.{fresh}
 use Rattle.words.proofs.Scans.{left-on, right-on}
 use Rattle.rules.proofs.Counts.{few, sized-few, sized10, sized12}
 use Rattle.rules.proofs.Leaves.{both-is}
@@ -99,18 +100,10 @@ table-verdict-requires c κs =
         λ e. sized-few 10 16384 (length lanes) (right-on (mapSized 16384 m) l (on e)),
       ),
       (
+        fresh,
         (
           length-replicate {A = ℕ} 16384 0,
-          length-replicate {A = ℕ} 16384 0,
-          λ b h. getD-replicate {A = ℕ} 16384 b 0 0 h,
-        ),
-        (
-          length-replicate {A = ℕ} 16384 0,
-          (
-            length-replicate {A = ℕ} 16384 0,
-            length-replicate {A = ℕ} 16384 0,
-            λ b h. getD-replicate {A = ℕ} 16384 b 0 0 h,
-          ),
+          fresh,
         ),
       ),
     )

@@ -1,9 +1,10 @@
 use borrow.Author.Tests.{not-true, not-false}
-use lib.ListN.{length, length-replicate, getD-replicate}
+use lib.ListN.{length, length-replicate}
 use Prim.Native.Nat.{ℕ, _/_}
 use mathlib.Core.Path.{sym, _∙_}
 use borrow.Author.Needs.{needs}
 use Rattle.model.specs.Tables.{allTables}
+use Rattle.words.proofs.Chains.{fresh}
 use Rattle.tables.specs.Verdicts.{refusalOf}
 use Rattle.tables.proofs.Order.{is-none, is-some}
 use Rattle.gaps.specs.Links.{rowsBelow}
@@ -19,11 +20,7 @@ slice-aggregate-gap-verdict-2 : tie.Need-slice-aggregate-gap-verdict-2
 slice-aggregate-gap-verdict-2 c = search needs
 
 gap-verdict-requires : tie.Need-gap-verdict-requires
-gap-verdict-requires c κs = (
-  length-replicate {A = ℕ} 16384 0,
-  length-replicate {A = ℕ} 16384 0,
-  λ b h. getD-replicate {A = ℕ} 16384 b 0 0 h,
-)
+gap-verdict-requires c κs = fresh
 
 admitted-requires : tie.Need-admitted-requires
 admitted-requires c κs = search needs

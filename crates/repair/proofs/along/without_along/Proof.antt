@@ -1,6 +1,7 @@
 use Rattle.repair.proofs.Virtual.{roads-start}
+use Rattle.words.proofs.Chains.{fresh}
 use Rattle.words.proofs.KeyLaws.{rows-in}
-use lib.ListN.{length, length-replicate, getD-replicate}
+use lib.ListN.{length, length-replicate}
 use Prim.Native.Nat.{ℕ, _-_}
 use native.Mathlib.Omega.{arith}
 use mathlib.Core.Path.{_∙_}
@@ -22,10 +23,8 @@ link-names-requires c κs =
         omega arith,
         rows-in (length (start .args .junctions .now)) 5,
         start .pre .1,
-        length-replicate {A = ℕ} 16384 0,
-        length-replicate {A = ℕ} 16384 0,
       ),
-      λ b h. getD-replicate {A = ℕ} 16384 b 0 0 h,
+      fresh,
     )
 
 slice-aggregate-mark-roads : tie.Need-slice-aggregate-mark-roads

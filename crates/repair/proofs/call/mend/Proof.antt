@@ -1,8 +1,9 @@
 use Rattle.repair.proofs.Outcomes.{content-is}
 use Rattle.repair.specs.Answers.{outs, putOr9}
 use Rattle.model.specs.Calls.{RepairOutputs}
+use Rattle.words.proofs.Chains.{fresh}
 use Rattle.words.proofs.KeyLaws.{rows-in}
-use lib.ListN.{length, length-replicate, getD-replicate}
+use lib.ListN.{length, length-replicate}
 use Prim.Native.Nat.{ℕ, _-_}
 use native.Mathlib.Omega.{arith}
 use mathlib.Core.Path.{ap, _∙_}
@@ -24,10 +25,8 @@ link-names-requires c κs =
         omega arith,
         rows-in (length (start .args .connections .now)) 7,
         omega (arith, start .pre .0 .few),
-        length-replicate {A = ℕ} 16384 0,
-        length-replicate {A = ℕ} 16384 0,
       ),
-      λ b h. getD-replicate {A = ℕ} 16384 b 0 0 h,
+      fresh,
     )
 
 slice-aggregate-junctions : tie.Need-slice-aggregate-junctions

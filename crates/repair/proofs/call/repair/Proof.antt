@@ -1,10 +1,11 @@
 use Rattle.repair.proofs.Outcomes.{ready, start-is, call-refused, call-admitted}
 use Rattle.repair.specs.Answers.{outs}
+use Rattle.words.proofs.Chains.{fresh}
 use Rattle.tables.proofs.Order.{is-none, is-some}
 use Rattle.tables.specs.Verdicts.{refusalOf}
 use Rattle.model.specs.Tables.{mapTables}
 use borrow.Author.Tests.{not-true, not-false}
-use lib.ListN.{length-replicate, getD-replicate}
+use lib.ListN.{length-replicate}
 use Prim.Native.Nat.{ℕ, _-_}
 use mathlib.Core.Path.{sym, _∙_}
 use borrow.Author.Needs.{needs}
@@ -18,11 +19,7 @@ slice-aggregate-repair-verdict-2 : tie.Need-slice-aggregate-repair-verdict-2
 slice-aggregate-repair-verdict-2 c = search needs
 
 repair-verdict-requires : tie.Need-repair-verdict-requires
-repair-verdict-requires c κs = (
-  length-replicate {A = ℕ} 16384 0,
-  length-replicate {A = ℕ} 16384 0,
-  λ b h. getD-replicate {A = ℕ} 16384 b 0 0 h,
-)
+repair-verdict-requires c κs = fresh
 
 admitted-requires : tie.Need-admitted-requires
 admitted-requires c κs = search needs

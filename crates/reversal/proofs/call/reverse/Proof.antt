@@ -1,11 +1,12 @@
 use Prim.Native.Nat.{ℕ}
 use mathlib.Core.Path.{sym, _∙_}
-use lib.ListN.{length, length-replicate, getD-replicate}
+use lib.ListN.{length, length-replicate}
 use borrow.Author.Needs.{needs}
 use borrow.Author.Tests.{not-true, not-false}
 use Rattle.model.specs.Calls.{reversalLengths}
 use Rattle.model.specs.Tables.{allTables}
 use Rattle.laws.proofs.WordsReversed.{sixLengths}
+use Rattle.words.proofs.Chains.{fresh}
 use Rattle.tables.specs.Verdicts.{refusalOf}
 use Rattle.tables.proofs.Order.{is-none, is-some}
 use Rattle.reversal.specs.Answers.{sixOf}
@@ -31,18 +32,10 @@ slice-aggregate-reversal-verdict-5 c = search needs
 
 reversal-verdict-requires : tie.Need-reversal-verdict-requires
 reversal-verdict-requires c κs = (
+  fresh,
   (
     length-replicate {A = ℕ} 16384 0,
-    length-replicate {A = ℕ} 16384 0,
-    λ b h. getD-replicate {A = ℕ} 16384 b 0 0 h,
-  ),
-  (
-    length-replicate {A = ℕ} 16384 0,
-    (
-      length-replicate {A = ℕ} 16384 0,
-      length-replicate {A = ℕ} 16384 0,
-      λ b h. getD-replicate {A = ℕ} 16384 b 0 0 h,
-    ),
+    fresh,
   ),
 )
 

@@ -1,9 +1,8 @@
-use lib.ListN.{length-replicate, getD-replicate}
 use mathlib.Core.Bool.{not}
-use Prim.Native.Nat.{ℕ}
 use mathlib.Core.Path.{ap}
 use borrow.Author.Needs.{needs}
 use native.Mathlib.Omega.{arith}
+use Rattle.words.proofs.Chains.{fresh}
 use Rattle.rules.proofs.lanes.identities_once.Statement.{statement}
 use Rattle.rules.proofs.lanes.identities_once.Tie as tie
 
@@ -15,15 +14,7 @@ slice-aggregate-link-ids-2 c = search needs
 
 link-ids-requires : tie.Need-link-ids-requires
 link-ids-requires c κs =
-    let start : tie.Start = search in (
-      (
-        omega arith,
-        omega (arith, start .pre),
-        length-replicate {A = ℕ} 16384 0,
-        length-replicate {A = ℕ} 16384 0,
-      ),
-      λ b h. getD-replicate {A = ℕ} 16384 b 0 0 h,
-    )
+    let start : tie.Start = search in ((omega arith, omega (arith, start .pre)), fresh)
 
 returns : tie.Need-returns
 returns c =

@@ -1,9 +1,9 @@
-use lib.ListN.{length-replicate, getD-replicate}
-use lib.ListN.{length}
+use lib.ListN.{length, length-replicate}
 use native.Mathlib.Omega.{arith}
 use mathlib.Core.Path.{_∙_}
 use Prim.Native.Nat.{ℕ}
 use borrow.Author.Needs.{needs}
+use Rattle.words.proofs.Chains.{fresh}
 use Rattle.words.proofs.KeyLaws.{rows-in}
 use Rattle.rules.proofs.marks.one_ended.Statement.{statement}
 use Rattle.rules.proofs.marks.one_ended.Tie as tie
@@ -17,15 +17,8 @@ slice-aggregate-link-names-2 c = search needs
 link-names-requires : tie.Need-link-names-requires
 link-names-requires c κs =
     let start : tie.Start = search in (
-      (
-        omega arith,
-        omega arith,
-        rows-in (length (start .args .junctions .now)) 5,
-        start .pre .1,
-        length-replicate {A = ℕ} 16384 0,
-        length-replicate {A = ℕ} 16384 0,
-      ),
-      λ b h. getD-replicate {A = ℕ} 16384 b 0 0 h,
+      (omega arith, omega arith, rows-in (length (start .args .junctions .now)) 5, start .pre .1),
+      fresh,
     )
 
 slice-aggregate-none-twice : tie.Need-slice-aggregate-none-twice

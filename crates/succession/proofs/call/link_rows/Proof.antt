@@ -1,4 +1,5 @@
-use lib.ListN.{length, getD-replicate, length-replicate}
+use lib.ListN.{length, length-replicate}
+use Rattle.words.proofs.Chains.{fresh}
 use Rattle.words.proofs.KeyLaws.{rows-in}
 use Prim.Native.Nat.{ℕ, _-_}
 use native.Mathlib.Omega.{arith}
@@ -21,10 +22,8 @@ link-names-requires c κs =
         omega arith,
         rows-in (length (start .args .junctions .now)) 5,
         start .pre .0 .3,
-        length-replicate {A = ℕ} 16384 0,
-        length-replicate {A = ℕ} 16384 0,
       ),
-      λ b h. getD-replicate {A = ℕ} 16384 b 0 0 h,
+      fresh,
     )
 
 link-sides-requires : tie.Need-link-sides-requires

@@ -1,6 +1,7 @@
+use Rattle.words.proofs.Chains.{fresh}
 use Rattle.tables.specs.Verdicts.{refusalOf}
 use Rattle.tables.proofs.Order.{is-none, is-some}
-use lib.ListN.{getD-replicate, length-replicate}
+use lib.ListN.{length-replicate}
 use borrow.Author.Tests.{not-true, not-false}
 use mathlib.Core.Path.{sym, _∙_}
 use Prim.Native.Nat.{ℕ}
@@ -25,18 +26,10 @@ slice-aggregate-succession-verdict-5 c = search needs
 
 succession-verdict-requires : tie.Need-succession-verdict-requires
 succession-verdict-requires c κs = (
+  fresh,
   (
     length-replicate {A = ℕ} 16384 0,
-    length-replicate {A = ℕ} 16384 0,
-    λ b h. getD-replicate {A = ℕ} 16384 b 0 0 h,
-  ),
-  (
-    length-replicate {A = ℕ} 16384 0,
-    (
-      length-replicate {A = ℕ} 16384 0,
-      length-replicate {A = ℕ} 16384 0,
-      λ b h. getD-replicate {A = ℕ} 16384 b 0 0 h,
-    ),
+    fresh,
   ),
 )
 

@@ -1,6 +1,5 @@
-use lib.ListN.{length-replicate, getD-replicate}
-use Prim.Native.Nat.{ℕ}
 use borrow.Author.Needs.{needs}
+use Rattle.words.proofs.Chains.{fresh}
 use Rattle.tables.proofs.check.check_repair.Statement.{statement}
 use Rattle.tables.proofs.check.check_repair.Tie as tie
 
@@ -11,11 +10,7 @@ slice-aggregate-repair-verdict-2 : tie.Need-slice-aggregate-repair-verdict-2
 slice-aggregate-repair-verdict-2 c = search needs
 
 repair-verdict-requires : tie.Need-repair-verdict-requires
-repair-verdict-requires c κs = (
-  length-replicate {A = ℕ} 16384 0,
-  length-replicate {A = ℕ} 16384 0,
-  λ b h. getD-replicate {A = ℕ} 16384 b 0 0 h,
-)
+repair-verdict-requires c κs = fresh
 
 returns : tie.Need-returns
 returns c = search needs

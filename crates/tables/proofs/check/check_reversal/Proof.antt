@@ -1,6 +1,7 @@
-use lib.ListN.{length-replicate, getD-replicate}
+use lib.ListN.{length-replicate}
 use Prim.Native.Nat.{ℕ}
 use borrow.Author.Needs.{needs}
+use Rattle.words.proofs.Chains.{fresh}
 use Rattle.tables.proofs.check.check_reversal.Statement.{statement}
 use Rattle.tables.proofs.check.check_reversal.Tie as tie
 
@@ -21,18 +22,10 @@ slice-aggregate-reversal-verdict-5 c = search needs
 
 reversal-verdict-requires : tie.Need-reversal-verdict-requires
 reversal-verdict-requires c κs = (
+  fresh,
   (
     length-replicate {A = ℕ} 16384 0,
-    length-replicate {A = ℕ} 16384 0,
-    λ b h. getD-replicate {A = ℕ} 16384 b 0 0 h,
-  ),
-  (
-    length-replicate {A = ℕ} 16384 0,
-    (
-      length-replicate {A = ℕ} 16384 0,
-      length-replicate {A = ℕ} 16384 0,
-      λ b h. getD-replicate {A = ℕ} 16384 b 0 0 h,
-    ),
+    fresh,
   ),
 )
 

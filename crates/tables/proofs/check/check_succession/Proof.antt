@@ -1,6 +1,7 @@
-use lib.ListN.{length-replicate, getD-replicate}
+use lib.ListN.{length-replicate}
 use Prim.Native.Nat.{ℕ}
 use borrow.Author.Needs.{needs}
+use Rattle.words.proofs.Chains.{fresh}
 use Rattle.tables.proofs.check.check_succession.Statement.{statement}
 use Rattle.tables.proofs.check.check_succession.Tie as tie
 
@@ -21,18 +22,10 @@ slice-aggregate-succession-verdict-5 c = search needs
 
 succession-verdict-requires : tie.Need-succession-verdict-requires
 succession-verdict-requires c κs = (
+  fresh,
   (
     length-replicate {A = ℕ} 16384 0,
-    length-replicate {A = ℕ} 16384 0,
-    λ b h. getD-replicate {A = ℕ} 16384 b 0 0 h,
-  ),
-  (
-    length-replicate {A = ℕ} 16384 0,
-    (
-      length-replicate {A = ℕ} 16384 0,
-      length-replicate {A = ℕ} 16384 0,
-      λ b h. getD-replicate {A = ℕ} 16384 b 0 0 h,
-    ),
+    fresh,
   ),
 )
 

@@ -108,8 +108,8 @@ lanes-listed-requires c κs =
       (
         start .pre .0 .0 (k .sized) .few-roads,
         start .pre .0 .1 (k .sized),
-        after-map-verdict .map-verdict .kept .1 .1 .1 .1 .1 .1 .1 .1 .0 ∙ start .pre .1 .0 .0,
-        after-map-verdict .map-verdict .kept .1 .1 .1 .1 .1 .1 .1 .1 .1 .0 ∙ start .pre .1 .0 .1,
+        after-map-verdict .map-verdict .kept .1 .1 .1 .1 .1 .1 .1 .1 .0 ∙ start .pre .1 .0 .buckets,
+        after-map-verdict .map-verdict .kept .1 .1 .1 .1 .1 .1 .1 .1 .1 .0 ∙ start .pre .1 .0 .rows,
         start .pre .1 .1 .0,
       ),
       (
@@ -183,10 +183,8 @@ link-keys-requires c κs =
           start .pre .1 .1 .0,
           start .pre .0 .1 (k .sized),
         ),
-        start .pre .1 .1 .1 .0,
-        start .pre .1 .1 .1 .1,
       ),
-      start .pre .1 .1 .1 .2,
+      start .pre .1 .1 .1,
     )
 
 same-length-8 : tie.Need-same-length-8

@@ -41,10 +41,8 @@ link-names-requires c κs =
         omega arith,
         rows-in (length (start .args .roads .now)) 20,
         (start .pre .0 (not-false _ (else1 .if1 .left))) .few-roads,
-        start .pre .1 .0,
-        start .pre .1 .1,
       ),
-      start .pre .1 .2,
+      start .pre .1,
     )
 
 same-length : tie.Need-same-length

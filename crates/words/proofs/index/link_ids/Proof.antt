@@ -26,14 +26,8 @@ abbrev μ-loop : tie.MeasureT-loop
 
 loop-holds : tie.Need-loop-holds Inv-loop μ-loop
 loop-holds c =
-    let start : tie.Start Inv-loop μ-loop = search in (
-      omega arith,
-      sym (any-none _),
-      start .pre .0 .2,
-      start .pre .0 .3,
-      chained-none (idHash (start .args .lanes .now)) (start .args .heads .now) (start .args .next .now)
-          (start .pre .1),
-    )
+    let start : tie.Start Inv-loop μ-loop = search in
+    let empty = start .pre .1 in (omega arith, sym (any-none _), empty .buckets, empty .rows, chained-none _ empty)
 
 mul-id : tie.Need-mul-id Inv-loop μ-loop
 mul-id c =

@@ -43,7 +43,7 @@ row-fits start i h = row-in _ 10 9 _ _ h (start .pre .0 .0) (omega arith)
 loop-holds : tie.Need-loop-holds Inv-loop μ-loop
 loop-holds c =
     let start : Start = search in
-    (omega arith, sym (any-none _), start .pre .0 .3, start .pre .0 .4, chained-none _ _ _ (start .pre .1))
+    let empty = start .pre .1 in (omega arith, sym (any-none _), empty .buckets, empty .rows, chained-none _ empty)
 
 word-requires : tie.Need-word-requires Inv-loop μ-loop
 word-requires c κs =

@@ -50,7 +50,7 @@ module _ (start : Start) where
 loop-holds : tie.Need-loop-holds Inv-loop μ-loop
 loop-holds c =
     let start : Start = search in
-    (omega arith, sym (any-none _), start .pre .0 .4, start .pre .0 .5, chained-none _ _ _ (start .pre .1))
+    let empty = start .pre .1 in (omega arith, sym (any-none _), empty .buckets, empty .rows, chained-none _ empty)
 
 mul-word : tie.Need-mul-word Inv-loop μ-loop
 mul-word c = let turn : Turn = search in omega (arith, row-fits (search) _ (turn .loop-test .taken))
