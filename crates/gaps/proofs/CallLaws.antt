@@ -8,7 +8,7 @@ use native.Mathlib.Omega.{arith}
 use lib.Dec.{eqb, leb}
 use lib.ListN.{length}
 use borrow.Author.Tests.{eqb-true, le-leb, leb-true, lt-leb}
-use Rattle.model.specs.Calls.{refused, gapCall, gapContent, gapRefusal, gapRules, laneRules, longEnough}
+use Rattle.model.specs.Calls.{refused, gapCall, gapContent, gapRules, laneRules, longEnough}
 use Rattle.model.specs.Calls.{rulesTo5, settled}
 use Rattle.model.specs.Rows.{written}
 use Rattle.model.specs.Rules.{edgesEven, edgesFit, edgesSized, firstBroken, lanesSized, lanesWorded, listsFit}
@@ -81,7 +81,7 @@ module _ (t : Tables) (offsets ids : List ℕ) where
   pub gap-refused : (v : Verdict) (out : List ℕ) → (refusalOf v ≡ none → ⊥)
       → refusalOf v ≡ firstBroken (gapRules t offsets ids)
       → outcomeOf (Refused v) out ≡ gapCall t offsets ids out
-  unfolding gapCall gapRefusal
+  unfolding gapCall
   gap-refused v out n e =
       go (refusalOf v) n (first-stays (gapRules t offsets ids)
       (longEnough (length (gapContent t offsets ids) ∷ []) (length out ∷ [])) (refusalOf v) n e)
@@ -98,7 +98,7 @@ module _ (t : Tables) (offsets ids : List ℕ) where
 
   pub gap-whole : (content out : List ℕ) → none ≡ firstBroken (gapRules t offsets ids)
       → content ≡ gapContent t offsets ids → wholeOutcome content out ≡ gapCall t offsets ids out
-  unfolding gapCall gapRefusal wholeOutcome
+  unfolding gapCall wholeOutcome
   gap-whole content out e f =
       ap (λ (c : List ℕ).
       settled (cond (leb (length c) (length out)) none (some 9)) (length c / 3 ∷ []) (written c out) out) f

@@ -14,7 +14,7 @@ use Rattle.model.specs.Lists.{gather}
 use Rattle.model.specs.Reading.{RawTables, readJunctions, readWarnings}
 use Rattle.model.specs.ReadingCalls.{junctionContent, junctionCounts, junctionLengths, putJunctions}
 use Rattle.model.specs.ReadingCalls.{rawJunctionRules, rawPartsFit, rawSized, readJunctionsCall}
-use Rattle.model.specs.ReadingCalls.{readJunctionsRefusal, rowsNamed}
+use Rattle.model.specs.ReadingCalls.{rowsNamed}
 use Rattle.model.specs.Rows.{partsFit, table}
 use Rattle.model.specs.Rules.{firstBroken, fits, sized}
 use Rattle.model.specs.Tables.{allConnections, allPairs, connectionWords, junctionWords, pairWords}
@@ -104,7 +104,7 @@ module _ (text junctions connections links : List ℕ) where
 module _ (t : RawTables) (jo co po wo : List ℕ) where
   pub call-refused : (v : Verdict) → (refusalOf v ≡ none → ⊥) → refusalOf v ≡ firstBroken (rawJunctionRules t)
       → outcome (Refused v) (outs jo co po wo) ≡ readJunctionsCall t (outs jo co po wo)
-  unfolding readJunctionsCall readJunctionsRefusal
+  unfolding readJunctionsCall
   call-refused v n e =
       settled-refused (rawJunctionRules t) (junctionCounts (junctionContent t))
       (putJunctions (junctionContent t) (outs jo co po wo)) (outs jo co po wo)
@@ -116,7 +116,7 @@ module _ (t : RawTables) (jo co po wo : List ℕ) where
       settled (cond b none (some 9)) (junctionCounts (junctionContent t))
       (putJunctions (junctionContent t) (outs jo co po wo)) (outs jo co po wo)
       ≡ readJunctionsCall t (outs jo co po wo)
-  unfolding readJunctionsCall readJunctionsRefusal
+  unfolding readJunctionsCall
   nine b e h =
       settled-nine (rawJunctionRules t) (junctionCounts (junctionContent t))
       (putJunctions (junctionContent t) (outs jo co po wo)) (outs jo co po wo)

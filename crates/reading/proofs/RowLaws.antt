@@ -10,10 +10,9 @@ use native.Mathlib.Omega.{arith}
 use lib.ListN.{length, drop, length-append}
 use lib.Seq.{drop-drop}
 use borrow.Author.Tests.{le-leb, lt-leb}
-use Rattle.model.specs.Calls.{longEnough, refused, settled}
+use Rattle.model.specs.Calls.{called, longEnough, refused, settled, tableWriting}
 use Rattle.model.specs.Lists.{gather}
 use Rattle.model.specs.Reading.{partRows, rowAt}
-use Rattle.model.specs.ReadingCalls.{oneTable}
 use Rattle.model.specs.Rows.{rows, table, written}
 use Rattle.model.specs.Rules.{Rule, firstBroken, fits, refusalWord, rule}
 use Rattle.laws.proofs.RulesReversed.{broken-append}
@@ -109,23 +108,20 @@ module _ {O : Type 0} (rs : List Rule) (counts : List ℕ) (new old : O) where
 -- that of a call that writes one table
 module _ (rs : List Rule) (w : ℕ) (content out : List ℕ) where
   pub one-refused : (v : Verdict) → (refusalOf v ≡ none → ⊥) → refusalOf v ≡ firstBroken rs
-      → outcomeOf (Refused v) out ≡ oneTable rs w content out
-  unfolding oneTable
+      → outcomeOf (Refused v) out ≡ called (tableWriting w) rs content out
   one-refused v n e =
       settled-refused rs (length content / w ∷ []) (written content out) out
       (longEnough (length content ∷ []) (length out ∷ [])) v n e
 
   pub one-short : none ≡ firstBroken rs → length out < length content
-      → outcomeOf (Refused OutputShort) out ≡ oneTable rs w content out
-  unfolding oneTable
+      → outcomeOf (Refused OutputShort) out ≡ called (tableWriting w) rs content out
   one-short e h =
       settled-nine rs (length content / w ∷ []) (written content out) out (length content ∷ [])
       (length out ∷ []) false e (ap (λ (b : Bool). b && true) (lt-leb (length content) (length out) h))
 
   pub one-written : {n : ℕ} {out′ : List ℕ} → none ≡ firstBroken rs → 0 < w → length content ≡ n * w
       → length content ≤ length out → out′ ≡ written content out
-      → outcomeOf (Written n) out′ ≡ oneTable rs w content out
-  unfolding oneTable
+      → outcomeOf (Written n) out′ ≡ called (tableWriting w) rs content out
   one-written {n} {out′} e p c h f =
       ap₂ (λ (k : ℕ) (o : List ℕ). outcomeOf (Written k) o) (sym (ap (λ (m : ℕ). m / w) c ∙ mul-div-cancel n p)) f
       ∙ settled-nine rs (length content / w ∷ []) (written content out) out (length content ∷ [])

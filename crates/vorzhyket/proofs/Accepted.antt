@@ -8,9 +8,9 @@ use native.Mathlib.Omega.{arith}
 use lib.Dec.{ltb}
 use lib.ListN.{length}
 use borrow.Author.Tests.{ltb-true}
-use Rattle.model.specs.Calls.{ListOutputs, RepairOutputs, ReversalOutputs, gapCall, gapContent, gapRefusal, gapRules, laneRules, listContent, listLengths, longEnough, markRules, putLists, putRepaired, putReversed, repairCall, repairContent, repairCounts, repairLengths, repairRefusal, repairRules, reversalCall, reversalContent, reversalCounts, reversalLengths, reversalRefusal, reversalRules, rulesTo5, settled, successionCall, successionRefusal, successionRules, tableRules, wrote}
+use Rattle.model.specs.Calls.{ListOutputs, RepairOutputs, ReversalOutputs, gapCall, gapContent, gapRules, laneRules, listContent, listLengths, longEnough, markRules, putLists, putRepaired, putReversed, repairCall, repairContent, repairCounts, repairLengths, repairRefusal, repairRules, reversalCall, reversalContent, reversalCounts, reversalLengths, reversalRefusal, reversalRules, rulesTo5, settled, successionCall, successionRules, tableRules, wrote}
 use Rattle.model.specs.Lists.{every}
-use Rattle.model.specs.ReadingCalls.{JunctionOutputs, junctionContent, junctionCounts, junctionLengths, oneTable, putJunctions, rawJunctionRules, rawLaneContent, rawLaneRules, readJunctionsCall, readJunctionsRefusal, readLanesCall, readTargetsCall, targetContent, targetRules}
+use Rattle.model.specs.ReadingCalls.{JunctionOutputs, junctionContent, junctionCounts, junctionLengths, putJunctions, rawJunctionRules, rawLaneContent, rawLaneRules, readJunctionsCall, readLanesCall, readTargetsCall, targetContent, targetRules}
 use Rattle.model.specs.Reading.{RawTables}
 use Rattle.model.specs.Rows.{written}
 use Rattle.model.specs.Rules.{Rule, firstBroken}
@@ -43,11 +43,11 @@ unfolding repairCall repairRefusal repairRules rulesTo5 above-zero
 repair-accepted t o before = accepted (repairRules t ++ longEnough (repairLengths (repairContent t)) (repairLengths o)) refl (repairCounts (repairContent t)) (putRepaired (repairContent t) o) o before
 
 pub succession-accepted : (t : Tables) (o : ListOutputs) (before : List ℕ) → exported (successionCall t o) before .0 .0 ≡ 0 → successionCall t o .answer ≡ wrote (listLengths (listContent t))
-unfolding successionCall successionRefusal successionRules rulesTo5 laneRules above-zero
+unfolding successionCall successionRules rulesTo5 laneRules above-zero
 succession-accepted t o before = accepted (successionRules t ++ longEnough (listLengths (listContent t)) (listLengths o)) refl (listLengths (listContent t)) (putLists (listContent t) o) o before
 
 pub gaps-accepted : (t : Tables) (offsets ids o before : List ℕ) → exported (gapCall t offsets ids o) before .0 .0 ≡ 0 → gapCall t offsets ids o .answer ≡ wrote (length (gapContent t offsets ids) / 3 ∷ [])
-unfolding gapCall gapRefusal gapRules rulesTo5 laneRules above-zero
+unfolding gapCall gapRules rulesTo5 laneRules above-zero
 gaps-accepted t offsets ids o before = accepted (gapRules t offsets ids ++ longEnough (length (gapContent t offsets ids) ∷ []) (length o ∷ [])) refl (length (gapContent t offsets ids) / 3 ∷ []) (written (gapContent t offsets ids) o) o before
 
 pub reversal-accepted : (t : Tables) (marks : List ℕ) (o : ReversalOutputs) (before : List ℕ) → exported (reversalCall t marks o) before .0 .0 ≡ 0 → reversalCall t marks o .answer ≡ wrote (reversalCounts (reversalContent t marks))
@@ -55,13 +55,13 @@ unfolding reversalCall reversalRefusal reversalRules tableRules markRules rulesT
 reversal-accepted t marks o before = accepted (reversalRules t marks ++ longEnough (reversalLengths (reversalContent t marks)) (reversalLengths o)) refl (reversalCounts (reversalContent t marks)) (putReversed (reversalContent t marks) o) o before
 
 pub targets-accepted : (text raw o before : List ℕ) → exported (readTargetsCall text raw o) before .0 .0 ≡ 0 → readTargetsCall text raw o .answer ≡ wrote (length (targetContent text raw) / 7 ∷ [])
-unfolding readTargetsCall oneTable targetRules above-zero
+unfolding readTargetsCall targetRules above-zero
 targets-accepted text raw o before = accepted (targetRules text raw ++ longEnough (length (targetContent text raw) ∷ []) (length o ∷ [])) refl (length (targetContent text raw) / 7 ∷ []) (written (targetContent text raw) o) o before
 
 pub lanes-accepted : (text raw o before : List ℕ) → exported (readLanesCall text raw o) before .0 .0 ≡ 0 → readLanesCall text raw o .answer ≡ wrote (length (rawLaneContent text raw) / 4 ∷ [])
-unfolding readLanesCall oneTable rawLaneRules above-zero
+unfolding readLanesCall rawLaneRules above-zero
 lanes-accepted text raw o before = accepted (rawLaneRules text raw ++ longEnough (length (rawLaneContent text raw) ∷ []) (length o ∷ [])) refl (length (rawLaneContent text raw) / 4 ∷ []) (written (rawLaneContent text raw) o) o before
 
 pub junctions-accepted : (t : RawTables) (o : JunctionOutputs) (before : List ℕ) → exported (readJunctionsCall t o) before .0 .0 ≡ 0 → readJunctionsCall t o .answer ≡ wrote (junctionCounts (junctionContent t))
-unfolding readJunctionsCall readJunctionsRefusal rawJunctionRules above-zero
+unfolding readJunctionsCall rawJunctionRules above-zero
 junctions-accepted t o before = accepted (rawJunctionRules t ++ longEnough (junctionLengths (junctionContent t)) (junctionLengths o)) refl (junctionCounts (junctionContent t)) (putJunctions (junctionContent t) o) o before

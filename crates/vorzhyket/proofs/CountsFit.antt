@@ -5,7 +5,7 @@ use mathlib.Core.List.{List, [], _∷_, map}
 use Prim.Native.Nat.{ℕ, suc, _*_, _/_, _≤_}
 use native.Mathlib.Omega.{arith}
 use lib.ListN.{length, length-map}
-use Rattle.model.specs.Calls.{ListOutputs, RepairOutputs, ReversalOutputs, gapCall, gapContent, gapRefusal, gapRules, listContent, listLengths, longEnough, putLists, putRepaired, putReversed, repairCall, repairContent, repairCounts, repairLengths, repairRefusal, repairRules, repairedMap, reversalCall, reversalContent, reversalCounts, reversalLengths, reversalRefusal, reversalRules, rulesTo5, successionCall, successionRefusal, successionRules, tableRules, markRules, warningRow, wrote}
+use Rattle.model.specs.Calls.{ListOutputs, RepairOutputs, ReversalOutputs, gapCall, gapContent, gapRules, listContent, listLengths, longEnough, putLists, putRepaired, putReversed, repairCall, repairContent, repairCounts, repairLengths, repairRefusal, repairRules, repairedMap, reversalCall, reversalContent, reversalCounts, reversalLengths, reversalRefusal, reversalRules, rulesTo5, successionCall, successionRules, tableRules, markRules, warningRow, wrote}
 use Rattle.model.specs.Claim.{repairedTables}
 use Rattle.model.specs.Rows.{table, written}
 use Rattle.model.specs.Rules.{edgesSized, firstBroken, lanesSized, mapSized, mapWorded, same}
@@ -84,7 +84,7 @@ module _ (t : Tables) (h : firstBroken (successionRules t) ≡ none) where
       (omega arith, omega arith)
 
 pub succession-fits : (t : Tables) (o : ListOutputs) (rows : List ℕ) → wrote rows ≡ successionCall t o .answer → Words rows
-unfolding successionCall successionRefusal listLengths
+unfolding successionCall listLengths
 succession-fits t o rows q =
     let w = wrote-of (successionRefusal t (listLengths o)) (listLengths (listContent t)) (putLists (listContent t) o) o q in
     let h = unbroken-append (successionRules t) (longEnough (listLengths (listContent t)) (listLengths o)) (w .0) .0 in
@@ -97,7 +97,7 @@ succession-fits t o rows q =
 
 -- ---- the gap check
 pub gaps-fit : (t : Tables) (offsets ids o rows : List ℕ) → wrote rows ≡ gapCall t offsets ids o .answer → Words rows
-unfolding gapCall gapRefusal
+unfolding gapCall
 gaps-fit t offsets ids o rows q =
     let w = wrote-of (gapRefusal t offsets ids (length o)) (length (gapContent t offsets ids) / 3 ∷ []) (written (gapContent t offsets ids) o) o q in
     let h = sym (unbroken-append (gapRules t offsets ids) (longEnough (length (gapContent t offsets ids) ∷ []) (length o ∷ [])) (w .0) .0) in

@@ -10,7 +10,7 @@ use lib.ListN.{length, length-append, length-map}
 use Rattle.model.specs.Calls.{longEnough, wrote}
 use Rattle.model.specs.Lists.{bindO, gather, isSome, mapO}
 use Rattle.model.specs.Reading.{RawTables, ReadWarning, connectionDropped, connectionWarnings, connectionsAt, endText, junctionWarnings, keptConnections, kindAt, laneLinkDropped, laneLinkWarnings, laneLinksAt, leadsInto, partRows, passedOver, rawConnection, rawJunction, readConnection, readJunction, readJunctions, readPair, readWarningRow, readWarnings, reads, toList}
-use Rattle.model.specs.ReadingCalls.{JunctionOutputs, junctionContent, junctionCounts, junctionLengths, oneTable, putJunctions, rawJunctionRules, rawLaneContent, rawLaneRules, readJunctionsCall, readJunctionsRefusal, readLanesCall, readTargetsCall, targetContent, targetRules}
+use Rattle.model.specs.ReadingCalls.{JunctionOutputs, junctionContent, junctionCounts, junctionLengths, putJunctions, rawJunctionRules, rawLaneContent, rawLaneRules, readJunctionsCall, readLanesCall, readTargetsCall, targetContent, targetRules}
 use Rattle.model.specs.Records.{Connection, Junction, Pair, Span}
 use Rattle.model.specs.Rows.{word, written}
 use Rattle.model.specs.Rules.{firstBroken}
@@ -31,7 +31,7 @@ use Rattle.vorzhyket.proofs.Left.{wrote-of}
 
 -- ---- targets and lanes
 pub targets-fit : (text raw o rows : List ℕ) → wrote rows ≡ readTargetsCall text raw o .answer → Words rows
-unfolding readTargetsCall oneTable
+unfolding readTargetsCall
 targets-fit text raw o rows q =
     let n = length (targetContent text raw) in
     let w = wrote-of (firstBroken (targetRules text raw ++ longEnough (n ∷ []) (length o ∷ []))) (n / 7 ∷ []) (written (targetContent text raw) o) o q in
@@ -41,7 +41,7 @@ targets-fit text raw o rows q =
     subst Words (sym (w .1)) (omega arith, tt)
 
 pub lanes-fit : (text raw o rows : List ℕ) → wrote rows ≡ readLanesCall text raw o .answer → Words rows
-unfolding readLanesCall oneTable
+unfolding readLanesCall
 lanes-fit text raw o rows q =
     let n = length (rawLaneContent text raw) in
     let w = wrote-of (firstBroken (rawLaneRules text raw ++ longEnough (n ∷ []) (length o ∷ []))) (n / 4 ∷ []) (written (rawLaneContent text raw) o) o q in
@@ -218,7 +218,7 @@ module _ (text js cs ls : List ℕ) where
         (omega arith, omega arith, omega arith, omega arith)
 
 pub junctions-fit : (text js cs ls : List ℕ) (o : JunctionOutputs) (rows : List ℕ) → wrote rows ≡ readJunctionsCall (rawTables text js cs ls) o .answer → Words rows
-unfolding readJunctionsCall readJunctionsRefusal junctionCounts junctionContent
+unfolding readJunctionsCall junctionCounts junctionContent
 junctions-fit text js cs ls o rows q =
     let t = rawTables text js cs ls in
     let w = wrote-of (readJunctionsRefusal t (junctionLengths o)) (junctionCounts (junctionContent t)) (putJunctions (junctionContent t) o) o q in

@@ -52,7 +52,7 @@ link-ids-requires c κs =
     let o = start .args .offsets .now in
     let ids = start .args .ids .now in
     let k = gap-kept t o ids first in
-    ((rows-in (length lanes) 10, k .few, start .pre .0, start .pre .1), start .pre .2)
+    ((rows-in (length lanes) 10, k .few), start .pre)
 
 lists-fit-requires : tie.Need-lists-fit-requires
 lists-fit-requires c κs =
@@ -73,8 +73,8 @@ lists-fit-requires c κs =
     let k = gap-kept t o ids first in (
       (
         k .few,
-        after-link-ids .link-ids .kept .1 .1 .0 ∙ start .pre .0,
-        after-link-ids .link-ids .kept .1 .1 .1 .0 ∙ start .pre .1,
+        after-link-ids .link-ids .kept .1 .1 .0 ∙ start .pre .buckets,
+        after-link-ids .link-ids .kept .1 .1 .1 .0 ∙ start .pre .rows,
       ),
       after-link-ids .link-ids .ensures .1,
     )
