@@ -2,7 +2,7 @@
  *
  * A table is a pointer and its length in elements, not in rows or bytes. What is read: the `const` tables. What is
  * written: the tables after them, and `written`. No pointer is null, also of an empty table, and what is written
- * overlaps nothing else. Nothing is kept between calls or allocated. A call takes up to 1,450 KiB of stack.
+ * overlaps nothing else. Nothing is kept between calls or allocated. A call takes up to 1.5 MiB of stack.
  *
  * A call returns 0, or the number of the first reason that applies for which it was refused (vz_length alone also 1,
  * which is no refusal there). Where it returns 0, `written` holds the rows written to each output, in the order of the
