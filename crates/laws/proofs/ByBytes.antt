@@ -76,7 +76,8 @@ one-lane same A n s k ls h = keep-first (standsAt same n s k) (sameKey same) ali
         (eqb (a .number) (b .number))
         (and-both (same (a .road) (b .road)) (eqb (a .section) (b .section))
         (A .same-trans (a .road) n (b .road) (one a p) (A .same-sym (b .road) n (one b q)))
-        (eq-eqb (a .section) (b .section) (eqb-true (a .section) s (two a p) ∙ sym (eqb-true (b .section) s (two b q)))))
+        (eq-eqb (a .section) (b .section)
+        (eqb-true (a .section) s (two a p) ∙ sym (eqb-true (b .section) s (two b q)))))
         (eq-eqb (a .number) (b .number)
         (eqb-true (a .number) k (three a p) ∙ sym (eqb-true (b .number) k (three b q))))
       where

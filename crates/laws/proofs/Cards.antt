@@ -6,7 +6,7 @@ use Prim.Native.Nat.{ℕ}
 use lib.Ieee.{binary32, ofBits, toBits, add, sub, mul, div, neg, lt, le, isNan}
 use Rattle.geometry.specs.declared.segment.Point.{Point}
 use Rattle.geometry.specs.declared.gap.Direction.the-variants.{Backward, Both}
-use Rattle.geometry.specs.Root.{midpointBelow, midpointAbove, rootBits, rootOf, belowZero}
+use Rattle.geometry.specs.Root.{accepted, belowZero, midpointAbove, midpointBelow, rootAnswer, rootBits, rootOf}
 use Rattle.geometry.specs.Segment.{distanceOf, minusOf, plusOf, timesOf, dotOf, lengthOf, clampOf, freePlace}
 use Rattle.geometry.specs.Segment.{placesApart, placesOf, apartOf}
 use Rattle.geometry.specs.Gap.{minOf, leastFrom, gapOf}
@@ -45,18 +45,18 @@ use Rattle.model.specs.Tables.{pairRow, pairWords, pairsIn, roadIn, roadRow, ro
 use Rattle.model.specs.Tables.{tablesOf}
 use Rattle.model.specs.Text.{bytesOf, placed, sameIn}
 
--- the root of a bit pattern
-abbrev rooted : ℕ → ℕ
-rooted n = toBits binary32 (rootOf (bits n))
+-- `root` accepts the value of the first bits, and answers that of the second
+abbrev Rooted : ℕ → ℕ → Type 0
+Rooted n r = rootAnswer (bits n) ≡ accepted (bits r)
 
 abbrev at : ℕ → ℕ → Point
 at x y = record { x = bits x; y = bits y; z = bits 0 }
 
 -- no rule refuses the tables repair, nor what it leaves succession; and these are the lists
 pub record Gives (t : Tables) (successorOffsets successorIds predecessorOffsets predecessorIds : List ℕ) : Type 0 where
-  pub repaired : firstBroken (repairRules t) ≡ none
-  pub accepted : firstBroken (successionRules (repairedTables t)) ≡ none
-  pub gives : listContent (repairedTables t)
+  pub repair-passes : firstBroken (repairRules t) ≡ none
+  pub succession-passes : firstBroken (successionRules (repairedTables t)) ≡ none
+  pub lists-are : listContent (repairedTables t)
       ≡ record {
         successorOffsets = successorOffsets;
         successorIds = successorIds;
@@ -69,10 +69,10 @@ abbrev reversingB : Call
 reversingB = record { marks = 0 ∷ 1 ∷ []; outs = reversalContent (tablesFor straight) (0 ∷ 0 ∷ []) }
 
 pub bench-cards :
-    (rooted 0x4080_0000 ≡ 0x4000_0000)
-    × (rooted 0x4000_0000 ≡ 0x3fb5_04f3)
-    × (rooted 0x0000_0001 ≡ 0x1a35_04f3)
-    × (rooted 0x7f7f_ffff ≡ 0x5f7f_ffff)
+    Rooted 0x4080_0000 0x4000_0000
+    × Rooted 0x4000_0000 0x3fb5_04f3
+    × Rooted 0x0000_0001 0x1a35_04f3
+    × Rooted 0x7f7f_ffff 0x5f7f_ffff
     × (gapCall (apart 0x3dcc_cccd) (0 ∷ 1 ∷ 1 ∷ []) (9 ∷ []) (5 ∷ 6 ∷ 7 ∷ 8 ∷ [])
     ≡ record { answer = wrote (0 ∷ []); outs = 5 ∷ 6 ∷ 7 ∷ 8 ∷ [] })
     × (gapCall (apart 0x3dcc_ccce) (0 ∷ 1 ∷ 1 ∷ []) (9 ∷ []) (5 ∷ 6 ∷ 7 ∷ 8 ∷ [])
@@ -116,12 +116,12 @@ bench-cards = (
   refl,
   refl,
   refl,
-  (record { repaired = refl; accepted = refl; gives = refl }),
-  (record { repaired = refl; accepted = refl; gives = refl }),
-  (refl, (record { repaired = refl; accepted = refl; gives = refl })),
-  (record { repaired = refl; accepted = refl; gives = refl }),
+  (record { repair-passes = refl; succession-passes = refl; lists-are = refl }),
+  (record { repair-passes = refl; succession-passes = refl; lists-are = refl }),
+  (refl, (record { repair-passes = refl; succession-passes = refl; lists-are = refl })),
+  (record { repair-passes = refl; succession-passes = refl; lists-are = refl }),
   (
-    (record { repaired = refl; accepted = refl; gives = refl }),
-    (record { repaired = refl; accepted = refl; gives = refl }),
+    (record { repair-passes = refl; succession-passes = refl; lists-are = refl }),
+    (record { repair-passes = refl; succession-passes = refl; lists-are = refl }),
   ),
 )

@@ -123,7 +123,9 @@ road-forth text ss r h c =
     let s =
     target-forth text (word r 11) (word r 12) (word r 13) (word r 14) (word r 15) (word r 16) (word r 17)
     (w .3) in
-    let e : word r 0 ∷ word r 1 ∷ (nameWords (nameIn r 2) ++ (targetWords (roadIn ss r .predecessor) ++ (targetWords (roadIn ss r .successor) ++ (word r 18 ∷ length (part (word r 18) (word r 19) ss) ∷ [])))) ≡ wordsFrom 20 0 r
+    let e : word r 0 ∷ word r 1 ∷ (nameWords (nameIn r 2)
+    ++ (targetWords (roadIn ss r .predecessor) ++ (targetWords (roadIn ss r .successor)
+    ++ (word r 18 ∷ length (part (word r 18) (word r 19) ss) ∷ [])))) ≡ wordsFrom 20 0 r
     = λ i. word r 0 ∷ word r 1 ∷ (n i ++ (p i ++ (s i ++ (word r 18 ∷ c i ∷ [])))) in
     e ∙ spelled 20 r (h .1)
 
@@ -132,7 +134,8 @@ pub connection-forth : (text : List ℕ) (ps : List Pair) (r : List ℕ) → Wor
 unfolding connectionIn connectionRow connectionWorded
 connection-forth text ps r h c =
     let w = and3 (placed text (spanIn r 0)) (placed text (spanIn r 2)) (leb (word r 4) 1) (h .0) in
-    let e : word r 0 ∷ word r 1 ∷ word r 2 ∷ word r 3 ∷ bit (flag (word r 4)) ∷ word r 5 ∷ length (part (word r 5) (word r 6) ps) ∷ [] ≡ wordsFrom 7 0 r
+    let e : word r 0 ∷ word r 1 ∷ word r 2 ∷ word r 3 ∷ bit (flag (word r 4)) ∷ word r 5
+    ∷ length (part (word r 5) (word r 6) ps) ∷ [] ≡ wordsFrom 7 0 r
     = λ i. word r 0 ∷ word r 1 ∷ word r 2 ∷ word r 3 ∷ bit-flag (word r 4) (w .2) i ∷ word r 5 ∷ c i ∷ [] in
     e ∙ spelled 7 r (h .1)
 
@@ -140,7 +143,8 @@ pub junction-forth : (text : List ℕ) (cs : List Connection) (r : List ℕ) →
     → length (junctionIn cs r .connections) ≡ word r 4 → junctionRow (word r 3) (junctionIn cs r) ≡ r
 unfolding junctionIn junctionRow junctionWorded
 junction-forth text cs r h c =
-    let e : word r 0 ∷ word r 1 ∷ kindWord (kindOf (word r 2)) ∷ word r 3 ∷ length (part (word r 3) (word r 4) cs) ∷ [] ≡ wordsFrom 5 0 r
+    let e : word r 0 ∷ word r 1 ∷ kindWord (kindOf (word r 2)) ∷ word r 3
+    ∷ length (part (word r 3) (word r 4) cs) ∷ [] ≡ wordsFrom 5 0 r
     =
     λ i.
     word r 0 ∷ word r 1
@@ -156,7 +160,9 @@ lane-forth text r h =
     (linkWorded (word r 8) (word r 9)) (h .0) in
     let s = link-forth (word r 6) (word r 7) (w .2) in
     let p = link-forth (word r 8) (word r 9) (w .3) in
-    let e : word r 0 ∷ word r 1 ∷ word r 2 ∷ word r 3 ∷ word r 4 ∷ directionWord (directionOf (word r 5)) ∷ (linkWords (linkOf (word r 6) (word r 7)) ++ linkWords (linkOf (word r 8) (word r 9))) ≡ wordsFrom 10 0 r
+    let e : word r 0 ∷ word r 1 ∷ word r 2 ∷ word r 3 ∷ word r 4 ∷ directionWord (directionOf (word r 5))
+    ∷ (linkWords (linkOf (word r 6) (word r 7)) ++ linkWords (linkOf (word r 8) (word r 9)))
+    ≡ wordsFrom 10 0 r
     =
     λ i.
     word r 0 ∷ word r 1 ∷ word r 2 ∷ word r 3 ∷ word r 4 ∷ direction-forth (word r 5) (w .1) i
@@ -181,7 +187,8 @@ rows-pass test w ws e h =
     (table-width w ws e)
 
 -- a table whose rows have parts in another: its rows are given back, and so is the other
-module _ {X A : Type 0} (test : List ℕ → Bool) (w kf kc : ℕ) (row : ℕ → X → List ℕ) (f : X → List A) (from : List ℕ → X) (all : List A)
+module _ {X A : Type 0} (test : List ℕ → Bool) (w kf kc : ℕ) (row : ℕ → X → List ℕ) (f : X → List A)
+    (from : List ℕ → X) (all : List A)
     (reads : (r : List ℕ) → f (from r) ≡ part (word r kf) (word r kc) all)
     (forth : (r : List ℕ) → Worded test w r → length (f (from r)) ≡ word r kc → row (word r kf) (from r) ≡ r) where
   table-forth : (ws : List ℕ) → length ws % w ≡ 0 → every test (table w ws) ≡ true

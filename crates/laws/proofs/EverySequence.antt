@@ -5,10 +5,9 @@ use mathlib.Core.Bool.{Bool, true, false, false≢true, not}
 use mathlib.Core.Option.{Option, none, some}
 use mathlib.Core.List.{List, map}
 use Prim.Native.Nat.{ℕ}
-use Rattle.model.specs.Calls.{ListOutputs, ReversalOutputs, gapContent, listContent, repairContent}
-use Rattle.model.specs.Calls.{repairRefusal, reversalCall, reversalContent, reversalLengths, reversalRefusal}
-use Rattle.model.specs.Calls.{successionCall, tableRules, wrote}
-use Rattle.model.specs.Claim.{Claim, Mutual, listRows, repairedTables, reversedWarning}
+use Rattle.model.specs.Calls.{ReversalOutputs, gapContent, listContent, repairContent, repairRefusal}
+use Rattle.model.specs.Calls.{reversalCall, reversalContent, reversalLengths, reversalRefusal, tableRules}
+use Rattle.model.specs.Claim.{Claim, repairedTables, reversedWarning}
 use Rattle.model.specs.Lists.{isSome}
 use Rattle.model.specs.Records.{Span}
 use Rattle.model.specs.Reversal.{reverseEdged, reverseMap}
@@ -18,7 +17,7 @@ use Rattle.model.specs.Sequence.{Call, after, answers, answersBySet, anyAccepte
 use Rattle.model.specs.Sequence.{oddMarks, reversedBy, reversedOnceBy, run, setAfter}
 use Rattle.model.specs.Tables.{Tables, roadsOf, tablesOf}
 use Rattle.model.specs.Text.{sameIn}
-use Rattle.laws.proofs.Packed.{mutual-lists}
+use Rattle.laws.proofs.Packed.{mutual-found}
 use Rattle.laws.proofs.SameFound.{found-reversed, repairRefusal-reversed, same-gaps, same-lists}
 use Rattle.laws.proofs.SameWarnings.{warned-empty, warned-reversed}
 use Rattle.laws.proofs.Valid.{reverseModel}
@@ -27,13 +26,6 @@ use Rattle.laws.proofs.WordsReversed.{modelOf, modelRules, sixLengths, 
 use Rattle.laws.proofs.Sequences as seq
 
 module _ (t : Tables) (cs : List Call) where
-  -- the lists of the tables after the sequence
-  lists-hold : (o : ListOutputs) (counts : List ℕ)
-      → successionCall (repairedTables (run t cs)) o .answer ≡ wrote counts
-      → Mutual (run t cs .lanes) (listRows counts (successionCall (repairedTables (run t cs)) o .outs))
-  unfolding repairedTables
-  lists-hold o counts a = mutual-lists (repairedTables (run t cs)) o counts a
-
   -- where rules 1 to 8 or 10 refuse the tables
   bad-claim : (k : ℕ) → firstBroken (tableRules t) ≡ some k → Claim t cs
   bad-claim k bad = record {
@@ -49,7 +41,7 @@ module _ (t : Tables) (cs : List Call) where
     alike = λ q. ap (found q) (seq.stuck t k bad cs);
     same-lists = ap (λ u. listContent (repairedTables u)) (seq.stuck t k bad cs);
     same-gaps = λ offsets ids. ap (λ u. gapContent (repairedTables u) offsets ids) (seq.stuck t k bad cs);
-    converse = lists-hold;
+    converse = λ q l there. mutual-found q l (run t cs) there;
   }
 
   module _ (f : Fine t) where
@@ -167,7 +159,7 @@ module _ (t : Tables) (cs : List Call) where
           ∙ same-gaps (t .text) (modelOf t .map) (modelOf t .edged) (fine-sound t f) s
           (seq.held-set t f S ready n) offsets ids
           ∙ ap (λ u. gapContent (repairedTables u) offsets ids) (fine-words t f));
-      converse = lists-hold;
+      converse = λ q l there. mutual-found q l (run t cs) there;
     }
 
   -- DEMAND 3: the claim holds of every sequence of reversals on every tables, and so on every map that repair accepts

@@ -152,7 +152,8 @@ pub fit-le : (kf kc i n : ℕ) (rs : List (List ℕ)) → partsFit kf kc i n rs 
 fit-le kf kc i n [] h = let e = eqb-true i n h in omega arith
 fit-le kf kc i n (r ∷ rs) h = let k = fit-le kf kc (i + word r kc) n rs (fit-rest kf kc i n r rs h) in omega arith
 
-module _ {X A : Type 0} (kf kc : ℕ) (row : ℕ → X → List ℕ) (f : X → List A) (from : List ℕ → X) (all : List A) (P : List ℕ → Type 0)
+module _ {X A : Type 0} (kf kc : ℕ) (row : ℕ → X → List ℕ) (f : X → List A) (from : List ℕ → X) (all : List A)
+    (P : List ℕ → Type 0)
     (reads : (r : List ℕ) → f (from r) ≡ part (word r kf) (word r kc) all)
     (forth : (r : List ℕ) → P r → length (f (from r)) ≡ word r kc → row (word r kf) (from r) ≡ r) where
   part-count : (i : ℕ) (r : List ℕ) → word r kf ≡ i → i + word r kc ≤ length all → length (f (from r)) ≡ word r kc

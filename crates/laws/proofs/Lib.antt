@@ -51,10 +51,11 @@ pub mod Bound
 pub mod Eleven
 pub mod Tight
 pub mod Offsets
--- Rows, list lookup, and the tables that a call reads.
+-- Rows, list lookup, the tables that a call reads, and warnings joined.
 pub mod RowTests
 pub mod Looked
 pub mod TablesRead
+pub mod Joined
 -- The bench cards, and the main theorems.
 pub mod Cards
 pub mod Theorems

@@ -1,7 +1,8 @@
--- Packed lists are read back, and the lists of an accepted succession are each other's converse.
+-- Packed lists are read back, and the lists of an accepted succession are each other's converse, so those that
+-- repair, succession and the gap check find are too.
 use mathlib.Core.Path.{_≡_, refl, sym, _∙_, ap, ap₂, subst}
 use mathlib.Core.Bool.{Bool, true, false, false≢true}
-use mathlib.Core.Option.{Option, none, some}
+use mathlib.Core.Option.{Option, none, some, Option·none-ne-some, Option·some-injective}
 use mathlib.Core.List.{List, [], _∷_, _++_, map, append-assoc, List·Memᴰ, List·Memᴰ·head, List·Memᴰ·tail}
 use Prim.Native.Nat.{ℕ, zero, suc, _+_, _-_, _/_, _<_}
 use native.Mathlib.Nat.{le-of-suc-le-suc, not-suc-le-zero}
@@ -9,15 +10,16 @@ use native.Mathlib.Omega.{arith}
 use lib.ListN.{length, take, getD, length-append, length-map}
 use lib.Seq.{drop-at, take-append-seam}
 use borrow.Author.Tests.{eqb-true}
-use Rattle.model.specs.Calls.{Answer, ListOutputs, laneRules, listContent, listLengths, longEnough, putLists}
-use Rattle.model.specs.Calls.{refused, rulesTo5, settled, successionCall, successionRules}
+use Rattle.model.specs.Calls.{Answer, ListOutputs, RepairOutputs, laneRules, listContent, listLengths, longEnough}
+use Rattle.model.specs.Calls.{putLists, refused, repairCall, rulesTo5, settled, successionCall, successionRules}
 use Rattle.model.specs.Calls.{wrote}
-use Rattle.model.specs.Claim.{Mutual, identityAt, isTwoWay, listAt, listRows}
+use Rattle.model.specs.Claim.{Mutual, foundLists, identityAt, isTwoWay, listAt, listRows}
 use Rattle.model.specs.Lists.{count, member}
 use Rattle.model.specs.Lookup.{listsAfter, listsIn, offsetsFrom, packed}
 use Rattle.model.specs.Records.{Lane}
 use Rattle.model.specs.Rows.{part, table, word}
 use Rattle.model.specs.Rules.{Rule, firstBroken, identitiesOnce, idsOnce, same}
+use Rattle.model.specs.Sequence.{Buffers, byLists, byRepair, found, fromRepaired, withRepaired}
 use Rattle.model.specs.Succession.{isBoth, predecessorLists, predecessors, successorLists, successors}
 use Rattle.model.specs.Tables.{Tables, directionOf, laneIn, lanesIn, lanesOf, mapOf}
 use Rattle.laws.proofs.Lay.{length-table, take-written}
@@ -129,7 +131,10 @@ module _ (t : Tables) where
 
   ids-once : (o : ListOutputs) → firstBroken (rulesWith9 o) ≡ none → identitiesOnce t ≡ true
   unfolding successionRules rulesTo5 laneRules
-  ids-once o q = all-pass (successionRules t) (unbroken-append (successionRules t) (longEnough (listLengths (listContent t)) (listLengths o)) q .0) .1 .1 .1 .1 .1 .0
+  ids-once o q =
+      let nine = longEnough (listLengths (listContent t)) (listLengths o) in
+      let unbroken = unbroken-append (successionRules t) nine q .0 in
+      all-pass (successionRules t) unbroken .1 .1 .1 .1 .1 .0
 
   -- every succession that is accepted
   pub mutual-lists : (o : ListOutputs) (counts : List ℕ) → successionCall t o .answer ≡ wrote counts
@@ -154,3 +159,23 @@ module _ (t : Tables) where
           subst (Mutual (t .lanes))
           (sym (ap (λ ns. listRows ns (putLists (listContent t) o)) (sym (ap unwrap a)) ∙ rows-content o))
           (mutual-content (ids-once o q))
+
+-- ---- the lists that repair, succession and the gap check find, on any tables
+module _ (q : Buffers) (l : ListOutputs) where
+  mutual-listed : (counts : List ℕ) (t : Tables) (a : Answer) → successionCall t (q .forLists) .answer ≡ a
+      → foundLists (byLists q counts t a (successionCall t (q .forLists) .outs)) ≡ some l → Mutual (t .lanes) l
+  mutual-listed counts t (refused k) said there = absurd (Option·none-ne-some l there)
+  mutual-listed counts t (wrote ns) said there =
+      let written = mutual-lists t (q .forLists) ns said in
+      subst (Mutual (t .lanes)) (Option·some-injective _ _ there) written
+
+  mutual-repaired : (t : Tables) (a : Answer) (o : RepairOutputs) → foundLists (byRepair q t a o) ≡ some l
+      → Mutual (t .lanes) l
+  unfolding fromRepaired withRepaired
+  mutual-repaired t (refused k) o there = absurd (Option·none-ne-some l there)
+  mutual-repaired t (wrote counts) o there = mutual-listed counts (withRepaired t counts o) _ refl there
+
+  pub mutual-found : (t : Tables) → foundLists (found q t) ≡ some l → Mutual (t .lanes) l
+  unfolding found
+  mutual-found t there =
+      mutual-repaired t (repairCall t (q .forRepair) .answer) (repairCall t (q .forRepair) .outs) there

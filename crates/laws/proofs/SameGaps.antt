@@ -10,7 +10,7 @@ use lib.Ieee.{Float}
 use Rattle.geometry.specs.declared.segment.Point.{Point}
 use Rattle.geometry.specs.declared.gap.Direction.{Direction}
 use Rattle.geometry.specs.Gap.{gapOf, decisionOf, rowBits}
-use Rattle.geometry.proofs.GapOrder.{gap-from-turned, gap-to-turned}
+use Rattle.geometry.proofs.Promises.{gap-turned}
 use Rattle.model.specs.Gaps.{endsOf, gapBetween, gapRow, gapsFrom, linkGaps, pointsOf, rowOfIdentity}
 use Rattle.model.specs.Lists.{listO, mapO, pick}
 use Rattle.model.specs.Records.{EdgedLane, Map, Road, Span}
@@ -27,13 +27,13 @@ from-reversed : (m : Bool) (s e : List Float) (d : Direction) (to : List (List P
     gapOf (pointsOf (pick m s e) ∷ pointsOf (pick m e s) ∷ []) (reverseDirection m d) to dt
     ≡ gapOf (pointsOf s ∷ pointsOf e ∷ []) d to dt
 from-reversed false s e d to dt = refl
-from-reversed true s e d to dt = gap-from-turned (pointsOf s ∷ pointsOf e ∷ []) to d dt
+from-reversed true s e d to dt = gap-turned (pointsOf s ∷ pointsOf e ∷ []) d to dt .0
 
 to-reversed : (m : Bool) (s e : List Float) (d : Direction) (from : List (List Point)) (df : Direction) →
     gapOf from df (pointsOf (pick m s e) ∷ pointsOf (pick m e s) ∷ []) (reverseDirection m d)
     ≡ gapOf from df (pointsOf s ∷ pointsOf e ∷ []) d
 to-reversed false s e d from df = refl
-to-reversed true s e d from df = gap-to-turned from (pointsOf s ∷ pointsOf e ∷ []) df d
+to-reversed true s e d from df = gap-turned from df (pointsOf s ∷ pointsOf e ∷ []) d .1
 
 module _ (same : Span → Span → Bool) (mk : Span → Bool) (R : List Road) where
   gap-reversed : (a b : EdgedLane) → gapBetween (reverseEdged same mk R a) (reverseEdged same mk R b) ≡ gapBetween a b

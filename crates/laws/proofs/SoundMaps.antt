@@ -307,7 +307,8 @@ module _ (text : List ℕ) (m : Map) (xs : List EdgedLane) (h : Sound text m xs)
           ≡ 0 + length (gather (λ (c : Connection). c .pairs) (allConnections (m .junctions)))
       fromZero =
           rows-are
-          ∙ (unfold allPairs in (let k = length (gather (λ (c : Connection). c .pairs) (allConnections (m .junctions))) in
+          ∙ (unfold allPairs in
+          (let k = length (gather (λ (c : Connection). c .pairs) (allConnections (m .junctions))) in
           let e : k ≡ 0 + k = omega arith in e))
 
   edges-placed : eqb (length (edgeWords xs)) (12 * (length (laneWords (m .lanes)) / 10)) ≡ true

@@ -11,24 +11,33 @@ use mathlib.Core.Path.{_≡_}
 use mathlib.Core.Bool.{Bool, true, not}
 use mathlib.Core.Option.{none}
 use mathlib.Core.List.{List, [], map, List·Memᴰ}
-use Prim.Native.Nat.{ℕ, _<_}
+use Prim.Native.Nat.{ℕ, _+_, _<_}
 use lib.ListN.{length, getD}
-use Rattle.model.specs.Calls.{listContent, repairContent, repairedMap, reversalRefusal, reversedMap, tableRules}
-use Rattle.model.specs.Calls.{warningWidth}
-use Rattle.model.specs.Claim.{Claim, repairedTables, reversedWarning}
+use Rattle.model.specs.Calls.{ListOutputs, RepairOutputs, gapRules, listContent, repairCall, repairContent}
+use Rattle.model.specs.Calls.{repairedMap, reversalRefusal, reversedMap, successionCall, successionRules}
+use Rattle.model.specs.Calls.{tableRules, warningWidth, wrote}
+use Rattle.model.specs.Claim.{Claim, Mutual, listRows, repairedTables, reversedWarning}
 use Rattle.model.specs.Gaps.{linkGaps}
-use Rattle.model.specs.Lists.{count, isSome, member, pick}
+use Rattle.model.specs.Joined.{isReadings, isRepairs, joinedWarnings}
+use Rattle.model.specs.Lists.{count, isSome, keep, member, pick}
 use Rattle.model.specs.Lookup.{listLookup}
+use Rattle.model.specs.Reading.{RawTables}
+use Rattle.model.specs.ReadingCalls.{junctionContent}
 use Rattle.model.specs.Records.{EdgedLane, Lane, Map, Road}
 use Rattle.model.specs.Rows.{table}
-use Rattle.model.specs.Rules.{firstBroken, identitiesOnce, idsOnce, marksFit, same}
+use Rattle.model.specs.Rules.{edgesFit, firstBroken, identitiesOnce, idsOnce, marksFit, same}
 use Rattle.model.specs.Sequence.{Call, isEmpty, reversedOnceBy, toggledMarks}
 use Rattle.model.specs.Succession.{isBoth, predecessorLists, predecessors, successorLists, successors}
-use Rattle.model.specs.Tables.{Tables, edgedLanesOf, isAbsent, lanesOf, mapOf, nameSize, nameStart, tablesOf}
+use Rattle.model.specs.Tables.{Tables, edgedLanesOf, isAbsent, laneTables, lanesOf, mapOf, mapTables, nameSize}
+use Rattle.model.specs.Tables.{nameStart, tablesOf}
 use Rattle.laws.proofs.Encoded.{edged-whole, map-back}
+use Rattle.laws.proofs.Joined.{joined-length, joined-readings, joined-repairs}
 use Rattle.laws.proofs.Looked.{listContent-looked}
+use Rattle.laws.proofs.Offsets.{through}
 use Rattle.laws.proofs.OverTables.{gaps-over, marks-each, plain-names, predecessors-over, repaired-means}
 use Rattle.laws.proofs.OverTables.{reversed-means, successors-over, warnings-over}
+use Rattle.laws.proofs.Packed.{mutual-lists}
+use Rattle.laws.proofs.TablesRead.{repairCall-reads, successionCall-reads}
 use Rattle.laws.proofs.Valid.{Each}
 use Rattle.laws.proofs.WordsReversed.{fine, fine-words, modelOf}
 use Rattle.laws.proofs.Converse as conv
@@ -113,6 +122,11 @@ pub both-or-neither : (t : Tables) → identitiesOnce t ≡ true → (a b : Lane
 unfolding idsOnce mapOf
 both-or-neither t u a b p q x y = conv.both-or-neither (same t) (mapOf t) u a b p q x y
 
+-- both, of the words: the lists that an accepted succession wrote, on any tables
+pub converse-written : (t : Tables) (o : ListOutputs) (counts : List ℕ) → successionCall t o .answer ≡ wrote counts →
+    Mutual (t .lanes) (listRows counts (successionCall t o .outs))
+converse-written t o counts a = mutual-lists t o counts a
+
 -- list lookup on what succession writes finds the lane's list, onward or before
 pub lookup-finds : (t : Tables) (row : ℕ) (before : Bool) → row < length (lanesOf t) →
     listLookup (listContent t .successorOffsets) (listContent t .successorIds)
@@ -121,10 +135,40 @@ pub lookup-finds : (t : Tables) (row : ℕ) (before : Bool) → row < length (la
     (getD (predecessorLists (same t) (mapOf t)) row [])
 lookup-finds t row before h = listContent-looked t row before h
 
+-- ---- one call after another
+-- a call looks at no table but those that it reads: repair comes to the same with no lanes and no edges,
+-- succession with no edges
+pub repair-reads : (t : Tables) (o : RepairOutputs) →
+    repairCall t o
+    ≡ repairCall (mapTables (t .text) (t .roads) (t .sections) (t .junctions) (t .connections) (t .pairs)) o
+repair-reads t o = repairCall-reads t o
+
+pub succession-reads : (t : Tables) (o : ListOutputs) →
+    successionCall t o
+    ≡ successionCall
+    (laneTables (t .text) (t .roads) (t .sections) (t .junctions) (t .connections) (t .pairs) (t .lanes)) o
+succession-reads t o = successionCall-reads t o
+
+-- after an accepted succession the gap check on its lists, with twelve edges for each lane (rule 10), can refuse
+-- by 9 alone
+pub gap-check-passes : (t : Tables) → firstBroken (successionRules t) ≡ none → edgesFit t ≡ true →
+    firstBroken (gapRules t (listContent t .successorOffsets) (listContent t .successorIds)) ≡ none
+gap-check-passes t h e = through t h e
+
+-- ---- warnings
+-- the Rust's list of warnings, from what reading and then repair, on the junctions that reading wrote, warn of:
+-- without repair's it is reading's list, without reading's it is repair's, and nothing else is in it
+pub warnings-joined : (t : RawTables) (u : Tables) → u .junctions ≡ junctionContent t .junctions →
+    let read = table warningWidth (junctionContent t .warnings) in
+    let repaired = table warningWidth (repairContent u .warnings) in
+    let both = joinedWarnings t (junctionContent t .warnings) (repairContent u .warnings) in
+    (keep isReadings both ≡ read) × (keep isRepairs both ≡ repaired) × (length both ≡ length read + length repaired)
+warnings-joined t u as-read = (joined-readings t u as-read, joined-repairs t u as-read, joined-length t u as-read)
+
 -- ---- DEMAND 3
 -- THE CLAIM HOLDS of every sequence of reversal calls on every tables, refused ones included, with outputs of
 -- any content and length. The model's specs/Claim.antt says it part by part: each answer, the tables,
 -- the set, one reversal at once, repair's answer and warnings, the same lists and gap rows, and that the lists
--- are each other's converse.
+-- that are found are each other's converse.
 pub every-sequence : (t : Tables) (cs : List Call) → Claim t cs
 every-sequence t cs = demand3.every-sequence t cs

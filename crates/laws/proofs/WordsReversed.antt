@@ -241,16 +241,17 @@ module _ (text : List ℕ) (x : Model) (h : SoundModel text x) (marks : List ℕ
   pub reversedOnceBy-is : reversedOnceBy marks (wordsOf text x)
       ≡ wordsOf text (reverseModel (sameIn text) (named text x marks) x)
   unfolding reversedOnceBy
-  reversedOnceBy-is = ap (withReversed (wordsOf text x)) content-is ∙ (unfold withReversed reversedOf tablesOf reverseModel reverseMap in λ i. record {
-    text = text;
-    roads = roadWords (map (reverseRoad (named text x marks)) (x .map .roads));
-    sections = sectionWords (map (reverseRoad (named text x marks)) (x .map .roads));
-    junctions = sym (junctionWords-reversed (named text x marks) (x .map .junctions)) i;
-    connections = connectionWords (map (reverseJunction (named text x marks)) (x .map .junctions));
-    pairs = pairWords (map (reverseJunction (named text x marks)) (x .map .junctions));
-    lanes = laneWords (map (reverseLane (sameIn text) (named text x marks) (x .map .roads)) (x .map .lanes));
-    edges = edgeWords (map (reverseEdged (sameIn text) (named text x marks) (x .map .roads)) (x .edged));
-  })
+  reversedOnceBy-is = ap (withReversed (wordsOf text x)) content-is
+      ∙ (unfold withReversed reversedOf tablesOf reverseModel reverseMap in λ i. record {
+        text = text;
+        roads = roadWords (map (reverseRoad (named text x marks)) (x .map .roads));
+        sections = sectionWords (map (reverseRoad (named text x marks)) (x .map .roads));
+        junctions = sym (junctionWords-reversed (named text x marks) (x .map .junctions)) i;
+        connections = connectionWords (map (reverseJunction (named text x marks)) (x .map .junctions));
+        pairs = pairWords (map (reverseJunction (named text x marks)) (x .map .junctions));
+        lanes = laneWords (map (reverseLane (sameIn text) (named text x marks) (x .map .roads)) (x .map .lanes));
+        edges = edgeWords (map (reverseEdged (sameIn text) (named text x marks) (x .map .roads)) (x .edged));
+      })
 
 -- ---- rules 1 to 8 and 10 as facts
 pub record Fine (t : Tables) : Type 0 where
@@ -261,7 +262,19 @@ pub fine : (t : Tables) → firstBroken (tableRules t) ≡ none → Fine t
 unfolding tableRules rulesTo5 laneRules
 fine t h =
     let p = all-pass (tableRules t) h in
-    record { sizes = p .0; rest = record { worded = p .1 .0; once = p .1 .1 .0; sections = p .1 .1 .1 .0; connections = p .1 .1 .1 .1 .0; identities = p .1 .1 .1 .1 .1 .0; listed = p .1 .1 .1 .1 .1 .1 .0; keys = p .1 .1 .1 .1 .1 .1 .1 .0; edges = p .1 .1 .1 .1 .1 .1 .1 .1 .0 } }
+    record {
+      sizes = p .0;
+      rest = record {
+        worded = p .1 .0;
+        once = p .1 .1 .0;
+        sections = p .1 .1 .1 .0;
+        connections = p .1 .1 .1 .1 .0;
+        identities = p .1 .1 .1 .1 .1 .0;
+        listed = p .1 .1 .1 .1 .1 .1 .0;
+        keys = p .1 .1 .1 .1 .1 .1 .1 .0;
+        edges = p .1 .1 .1 .1 .1 .1 .1 .1 .0;
+      };
+    }
 
 pub fine-rules : (t : Tables) → Fine t → firstBroken (tableRules t) ≡ none
 unfolding tableRules rulesTo5 laneRules

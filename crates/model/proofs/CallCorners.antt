@@ -9,7 +9,9 @@ use lib.ListN.{replicate}
 use Rattle.geometry.specs.declared.gap.Direction.the-variants.{Forward}
 use Rattle.model.specs.Calls.{ListOutputs, Outcome, RepairOutputs, ReversalOutputs, gapCall, refused}
 use Rattle.model.specs.Calls.{repairCall, reversalCall, successionCall, wrote}
+use Rattle.model.specs.Claim.{foundLists, listRows}
 use Rattle.model.specs.Records.{Lane, common, virtual}
+use Rattle.model.specs.Sequence.{found, fromRepaired, withRepaired}
 use Rattle.model.specs.Tables.{Tables, absentStart, tablesOf}
 use Rattle.model.proofs.CardMaps.{a, apart, b, bits, connection, endAt, junction, lane, minus1, noLanes}
 use Rattle.model.proofs.CardMaps.{pair, road, straight, tablesFor, text, toRoad}
@@ -195,3 +197,25 @@ pub before-nine : Refuses (reversalCall threeSections (1 ∷ []) (reversalOutput
     × Refuses (gapCall (apart 0x4000_0000) (0 ∷ 1 ∷ 1 ∷ []) (8 ∷ []) []) 11 []
 unfolding broken
 before-nine = (refl, refl)
+
+-- ---- repair, succession and the gap check, one after the other
+-- one road, one lane, no edges: rule 10 refuses reversal and the gap check, yet lists are found
+abbrev noEdges : Tables
+noEdges = tablesOf text (record {
+  roads = road a none none (0 ∷ []) ∷ [];
+  junctions = [];
+  lanes = lane 7 a 0 1 Forward none ∷ [];
+}) []
+
+pub lists-without-edges : Refuses (reversalCall noEdges (1 ∷ []) (reversalOutputs 20 1 0 0 10 0)) 10
+    (reversalOutputs 20 1 0 0 10 0)
+    × (foundLists (found
+    (record { forRepair = repairOutputs 20 0 0 0 0; forLists = listOutputs 3 1 2 1; forGaps = [] }) noEdges)
+    ≡ some (record {
+      successorOffsets = 0 ∷ 0 ∷ [];
+      successorIds = [];
+      predecessorOffsets = 0 ∷ 0 ∷ [];
+      predecessorIds = [];
+    }))
+unfolding broken found fromRepaired withRepaired listRows
+lists-without-edges = (refl, refl)

@@ -7,6 +7,7 @@ use Prim.Native.Nat.{ℕ}
 use lib.Ieee.{Float, add, binary64, inf, lt, nan, neg, ofBits, ofFields, round, sub, sum, units}
 use lib.ListN.{replicate}
 use Rattle.model.specs.Calls.{Outcome, refused, wrote}
+use Rattle.model.specs.Joined.{joinedWarnings}
 use Rattle.model.specs.Length.{farOff, fine, lengthCall, reported, uneven}
 use Rattle.model.specs.Reading.{RawTables, connectionWarnings, junctionWarnings, keptConnections}
 use Rattle.model.specs.Reading.{laneNumber, leadsInto, passedOver, readConnection, readJunction}
@@ -208,6 +209,25 @@ pub junctions-refused : Refuses (readJunctionsCall (tables junctions) (lent 9 14
     (lent 0 0 0 0)
 unfolding opened
 junctions-refused = (refl, refl, refl, refl, refl, refl)
+
+-- ---- "both calls' warnings joined junction by junction"
+-- reading warns of the first junction, of the second, which has no id, and of the third; repair, of the rows that
+-- the first and the third became
+pub warnings-joined : joinedWarnings (tables junctions)
+    ((2 ∷ 0 ∷ 0 ∷ 1 ∷ []) ++ (1 ∷ 0 ∷ 1 ∷ 0 ∷ []) ++ (1 ∷ 1 ∷ 3 ∷ 0 ∷ []) ++ (1 ∷ 2 ∷ 4 ∷ 0 ∷ []))
+    ((3 ∷ 0 ∷ 7 ∷ 1 ∷ []) ++ (3 ∷ 1 ∷ 5 ∷ 0 ∷ []) ++ (3 ∷ 1 ∷ 6 ∷ 0 ∷ []))
+    ≡ (2 ∷ 0 ∷ 0 ∷ 1 ∷ []) ∷ (1 ∷ 0 ∷ 1 ∷ 0 ∷ []) ∷ (3 ∷ 0 ∷ 7 ∷ 1 ∷ [])
+    ∷ (1 ∷ 1 ∷ 3 ∷ 0 ∷ [])
+    ∷ (1 ∷ 2 ∷ 4 ∷ 0 ∷ []) ∷ (3 ∷ 1 ∷ 5 ∷ 0 ∷ []) ∷ (3 ∷ 1 ∷ 6 ∷ 0 ∷ []) ∷ []
+unfolding opened joinedWarnings
+warnings-joined = refl
+
+-- no junction has an id, so there is nothing that repair could warn of; and no junctions at all
+pub warnings-without-ids : (joinedWarnings (tables (absent ++ absent ++ absent ++ (0 ∷ 7 ∷ []))) (1 ∷ 0 ∷ 6 ∷ 0 ∷ []) []
+    ≡ (1 ∷ 0 ∷ 6 ∷ 0 ∷ []) ∷ [])
+    × (joinedWarnings (tables []) [] [] ≡ [])
+unfolding opened joinedWarnings
+warnings-without-ids = (refl, refl)
 
 -- ---- the length check, in bits of f64: 1.0, 2.0, 3.0
 abbrev f64 : ℕ → Float

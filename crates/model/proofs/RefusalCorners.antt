@@ -310,7 +310,8 @@ allWrong = withMore (tablesOf text (record {
   roads = road a (toJunction j) (toJunction j) (1 ∷ 0 ∷ []) ∷ road a none none [] ∷ [];
   junctions = junction direct [] ∷ [];
   lanes = lane 7 a 9 leastNumber Forward none ∷ lane 7 a 9 leastNumber Forward none ∷ [];
-}) (record { lane = lane 7 a 9 leastNumber Forward none; atStart = endAt 0; atEnd = endAt 0x4000_0000 } ∷ [])) (0 ∷ []) [] (3 ∷ 1 ∷ 3 ∷ 0 ∷ 0 ∷ []) [] (1 ∷ 1 ∷ []) []
+}) (record { lane = lane 7 a 9 leastNumber Forward none; atStart = endAt 0; atEnd = endAt 0x4000_0000 } ∷ []))
+    (0 ∷ []) [] (3 ∷ 1 ∷ 3 ∷ 0 ∷ 0 ∷ []) [] (1 ∷ 1 ∷ []) []
 
 -- each call's numbers in the order of "How each call refuses", with outputs that hold nothing, and two offsets
 -- of three

@@ -112,7 +112,8 @@ second-adds-nothing = (refl, refl)
 -- a connection can fill the end that a later one looks at: j takes a's end, so k finds it occupied
 pub rows-in-order : Gives
     (mapWith (plain a none none ∷ plain b (toRoad a true) none ∷ [])
-    (junction common (connection a b false [] ∷ []) ∷ record { name = k; kind = common; connections = connection a b false [] ∷ [] } ∷ []))
+    (junction common (connection a b false [] ∷ [])
+    ∷ record { name = k; kind = common; connections = connection a b false [] ∷ [] } ∷ []))
     (plain a none (jAt true) ∷ plain b (toRoad a true) none ∷ [])
     (warning 0 a true ∷ [])
 unfolding repaired warned

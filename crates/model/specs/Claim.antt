@@ -1,6 +1,7 @@
 -- The claim about a sequence of reversals, demand 3, as one statement. Definitions only.
 use mathlib.Core.Path.{_≡_}
 use mathlib.Core.Bool.{Bool, true, false}
+use mathlib.Core.Option.{Option, none, some}
 use mathlib.Core.List.{List, [], _∷_, map}
 use Prim.Native.Nat.{ℕ, _<_, _/_}
 use lib.Dec.{eqb}
@@ -10,11 +11,12 @@ use Rattle.model.specs.Rows.{table, word}
 use Rattle.model.specs.Tables.{Tables, laneWidth}
 use Rattle.model.specs.Lookup.{listsIn}
 use Rattle.model.specs.Rules.{fits}
-use Rattle.model.specs.Calls.{Answer, wrote, warningWidth, ListOutputs, ReversalOutputs, repairContent}
-use Rattle.model.specs.Calls.{repairRefusal, listContent, successionCall, gapContent, reversalLengths}
+use Rattle.model.specs.Calls.{Answer, refused, wrote, warningWidth, ListOutputs, ReversalOutputs}
+use Rattle.model.specs.Calls.{repairContent, repairRefusal, listContent, gapContent, reversalLengths}
 use Rattle.model.specs.Calls.{reversalContent, reversalCall}
 use Rattle.model.specs.Sequence.{Call, after, run, answers, emptySet, toggledMark, reversedBy, setAfter}
-use Rattle.model.specs.Sequence.{answersBySet, isAccepted, anyAccepted, oddMarks, Buffers, found}
+use Rattle.model.specs.Sequence.{answersBySet, isAccepted, anyAccepted, oddMarks, Buffers, Found, noRepair}
+use Rattle.model.specs.Sequence.{noLists, lists, found}
 
 -- the tables with what repair writes in place of what it read
 unfoldable pub repairedTables : Tables → Tables
@@ -37,6 +39,17 @@ listRows counts o = record {
   predecessorOffsets = take (word counts 2) (o .predecessorOffsets);
   predecessorIds = take (word counts 3) (o .predecessorIds);
 }
+
+-- the lists of a succession; none where it was refused
+abbrev pub writtenLists : Answer → ListOutputs → Option ListOutputs
+writtenLists (refused k) o = none
+writtenLists (wrote counts) o = some (listRows counts o)
+
+-- the lists that repair, succession and the gap check came to; none where a call before them was refused
+abbrev pub foundLists : Found → Option ListOutputs
+foundLists (noRepair k) = none
+foundLists (noLists counts k) = none
+foundLists (lists counts succession gaps) = writtenLists (succession .answer) (succession .outs)
 
 -- a lane row's identity
 abbrev pub identityAt : List ℕ → ℕ → ℕ
@@ -94,7 +107,6 @@ module _ (t : Tables) (cs : List Call) where
     pub same-lists : listContent (repairedTables (run t cs)) ≡ listContent (repairedTables t)
     pub same-gaps : (offsets ids : List ℕ)
         → gapContent (repairedTables (run t cs)) offsets ids ≡ gapContent (repairedTables t) offsets ids
-    -- and the lists are each other's converse
-    pub converse : (o : ListOutputs) (counts : List ℕ)
-        → successionCall (repairedTables (run t cs)) o .answer ≡ wrote counts →
-        Mutual (run t cs .lanes) (listRows counts (successionCall (repairedTables (run t cs)) o .outs))
+    -- and the lists that are found are each other's converse
+    pub converse : (q : Buffers) (l : ListOutputs) → foundLists (found q (run t cs)) ≡ some l →
+        Mutual (run t cs .lanes) l

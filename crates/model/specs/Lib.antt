@@ -1,7 +1,7 @@
 -- What a call means, in the order of document 01: the tables and the map that their words mean; repair;
--- succession and list lookup; the gap check; reversal; how each call
--- refuses; each call's whole outcome; attribute reading and the length check; sequences of reversals; and the
--- claim about every sequence.
+-- succession and list lookup; the gap check; reversal; how each call refuses; each call's whole outcome; attribute
+-- reading, its warnings joined with repair's, and the length check; sequences of reversals; and the claim about
+-- every sequence.
 pub mod Lists
 pub mod Records
 pub mod Text
@@ -16,6 +16,7 @@ pub mod Rules
 pub mod Calls
 pub mod Reading
 pub mod ReadingCalls
+pub mod Joined
 pub mod Length
 pub mod Sequence
 pub mod Claim

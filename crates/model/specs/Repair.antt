@@ -1,10 +1,12 @@
--- "Repair": the links to a junction that its incoming roads leave out, and the connections of a direct junction the other way. Definitions only.
+-- "Repair": the links to a junction that its incoming roads leave out, and the connections of a direct junction the
+-- other way. Definitions only.
 use mathlib.Core.Bool.{Bool, true, false, not, _&&_, _||_, cond}
 use mathlib.Core.Option.{Option, none, some}
 use mathlib.Core.List.{List, [], _∷_, _++_, map}
 use Prim.Native.Nat.{ℕ, suc}
 use Rattle.model.specs.Lists.{pick, isSome, keep, first, some?, amend, bindO, gather, listO}
-use Rattle.model.specs.Records.{Span, Target, Road, JunctionKind, common, direct, virtual, Pair, Connection, Junction, Map, targetAt}
+use Rattle.model.specs.Records.{Span, Target, Road, JunctionKind, common, direct, virtual, Pair, Connection}
+use Rattle.model.specs.Records.{Junction, Map, targetAt}
 
 -- is a junction virtual?
 abbrev pub isVirtual : JunctionKind → Bool
@@ -81,11 +83,13 @@ module _ (same : Span → Span → Bool) where
       r
 
   -- ---- "Common: `missing_links`, connections in order"
-  -- the end of road n that a target names, "only if that link is of kind road, names the incoming road, gives its contact"
+  -- the end of road n that a target names, "only if that link is of kind road, names the incoming road, gives its
+  -- contact"
   unfoldable pub backEnd : Span → Target → Option Bool
   backEnd n t = cond (not (t .isJunction) && same (t .name) n && t .given) (some (t .contact)) none
 
-  -- the end at which "a known incoming road that names the junction at neither end gets it": "the end named by the connecting road's link at the connection's contact", if vacant
+  -- the end at which "a known incoming road that names the junction at neither end gets it": "the end named by the
+  -- connecting road's link at the connection's contact", if vacant
   unfoldable pub missingEnd : List Road → Span → Connection → Option Bool
   missingEnd rs j c = bindO (roadOf rs (c .incoming)) λ r. cond (meets j r) none
       (bindO (bindO (bindO (roadOf rs (c .connecting)) (targetAt (c .contact))) (backEnd (c .incoming))) (vacantEnd r))
@@ -105,9 +109,11 @@ module _ (same : Span → Span → Bool) where
   missingLinks j (c ∷ cs) rs = missingLinks j cs (missingLink j c rs)
 
   -- ---- "Direct: `reversed`"
-  -- "Their contact is the end at which the original's incoming road names it. Where a road names the junction at both ends, the successor end counts."
+  -- "Their contact is the end at which the original's incoming road names it. Where a road names the junction at
+  -- both ends, the successor end counts."
   unfoldable pub meetingEnd : Span → Road → Option Bool
-  meetingEnd j r = cond (namesJunction j (r .successor)) (some true) (cond (namesJunction j (r .predecessor)) (some false) none)
+  meetingEnd j r =
+      cond (namesJunction j (r .successor)) (some true) (cond (namesJunction j (r .predecessor)) (some false) none)
 
   -- does connection o run the other way of c?
   unfoldable pub runsBack : Connection → Connection → Bool
@@ -138,7 +144,11 @@ module _ (same : Span → Span → Bool) where
   repairRoads j rs = roadsAfter (j .kind) (j .name) (j .connections) rs
 
   unfoldable pub repairJunction : List Road → Junction → Junction
-  repairJunction rs j = record { name = j .name; kind = j .kind; connections = connectionsAfter (j .kind) (j .name) (j .connections) rs }
+  repairJunction rs j = record {
+    name = j .name;
+    kind = j .kind;
+    connections = connectionsAfter (j .kind) (j .name) (j .connections) rs;
+  }
 
   -- each junction reads the roads that those before it left
   abbrev pub roadsOver : List Junction → List Road → List Road

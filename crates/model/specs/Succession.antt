@@ -65,7 +65,8 @@ module _ (same : Span → Span → Bool) where
 
   -- through a connection: its pairs from lane number k
   unfoldable pub throughPairs : Map → Connection → ℕ → List Entry
-  throughPairs m c k = gather (λ p. lookupAtEnd m (c .connecting) (c .contact) (p .to)) (keep (λ p. eqb (p .from) k) (c .pairs))
+  throughPairs m c k =
+      gather (λ p. lookupAtEnd m (c .connecting) (c .contact) (p .to)) (keep (λ p. eqb (p .from) k) (c .pairs))
 
   -- through a junction: its connections from road n
   unfoldable pub throughJunction : Map → Span → ℕ → Junction → List Entry
@@ -75,7 +76,8 @@ module _ (same : Span → Span → Bool) where
   unfoldable pub junctionOf : List Junction → Span → Option Junction
   junctionOf js n = final (λ j. same (j .name) n) js
 
-  -- what a target leads lane l, with link o there, into: a road's lane at the target's contact point, or a junction's connections
+  -- what a target leads lane l, with link o there, into: a road's lane at the target's contact point, or a
+  -- junction's connections
   abbrev pub cross : Map → Lane → Option ℕ → Target → List Entry
   cross m l o t = cond (t .isJunction)
       (listO (junctionOf (m .junctions) (t .name)) (throughJunction m (l .road) (l .number)))
@@ -102,7 +104,8 @@ module _ (same : Span → Span → Bool) where
 
   -- does two-way lane b find lane l, which does not find b?
   unfoldable pub findsBack : Map → Lane → Lane → Bool
-  findsBack m l b = isBoth (b .direction) && member (l .identity) (successorsOf m b) && not (member (b .identity) (successorsOf m l))
+  findsBack m l b = isBoth (b .direction) && member (l .identity) (successorsOf m b)
+      && not (member (b .identity) (successorsOf m l))
 
   -- "a link between two two-way lanes is added in the other direction if missing"
   unfoldable pub backLinks : Map → Lane → List ℕ
