@@ -12,15 +12,15 @@ ghost use mathlib.Core.Path.{_≡_};
 ghost use mathlib.Core.Bool.{true};
 ghost use mathlib.Core.Option.{none};
 ghost use Prim.Native.Nat.{ℕ, _+_, _*_, _/_, _≤_, _<_};
-ghost use lib.ListN.{length, getD};
+ghost use lib.ListN.{length, getD, take};
 ghost use Rattle.model.specs.Tables.{allTables};
 ghost use Rattle.model.specs.Rules.{firstBroken};
-ghost use Rattle.model.specs.Calls.{gapRules, gapCall};
+ghost use Rattle.model.specs.Calls.{gapRules, gapCall, gapWidth, outcome, tableWriting, writtenOr9};
 ghost use Rattle.words.specs.Chain.{Chained, Empty};
 ghost use Rattle.words.specs.Keys.{idHash};
 ghost use Rattle.tables.specs.Verdicts.{refusalOf};
 ghost use Rattle.gaps.specs.Links.{rowsBelow, listsRight};
-ghost use Rattle.gaps.specs.Answers.{outcomeOf, wholeOutcome, gapTableRules};
+ghost use Rattle.gaps.specs.Answers.{answerOf};
 
 // The rows written, or why the call was refused.
 pub enum Gaps {
@@ -28,7 +28,7 @@ pub enum Gaps {
     Refused(Verdict),
 }
 
-// 1 to 8 and 10.
+// 1 to 8 and 10, the first nine.
 fn first_verdict(
     text: &[u8],
     roads: &[u32],
@@ -41,7 +41,10 @@ fn first_verdict(
     offsets: &[u32],
     ids: &[u32],
 ) -> Verdict
-    ensures { λ q. ⌜ refusalOf q ≡ firstBroken (gapTableRules (allTables (now (text .entry)) (now (roads .entry)) (now (sections .entry)) (now (junctions .entry)) (now (connections .entry)) (now (pairs .entry)) (now (lanes .entry)) (now (edges .entry))) (now (offsets .entry)) (now (ids .entry))) ⌝ }
+    ensures { λ q. ⌜ refusalOf q ≡ firstBroken (take 9 (gapRules
+        (allTables (now (text .entry)) (now (roads .entry)) (now (sections .entry)) (now (junctions .entry))
+        (now (connections .entry)) (now (pairs .entry)) (now (lanes .entry)) (now (edges .entry)))
+        (now (offsets .entry)) (now (ids .entry)))) ⌝ }
 {
     let mut heads = [0u32; 16384];
     let mut next = [0u32; 16384];
@@ -97,7 +100,10 @@ fn gap_verdict(
     next: &mut [u32],
 ) -> Verdict
     requires { ⌜ Empty (now heads) (now next) ⌝ }
-    ensures { λ q. ⌜ refusalOf q ≡ firstBroken (gapRules (allTables (now (text .entry)) (now (roads .entry)) (now (sections .entry)) (now (junctions .entry)) (now (connections .entry)) (now (pairs .entry)) (now (lanes .entry)) (now (edges .entry))) (now (offsets .entry)) (now (ids .entry))) ⌝ }
+    ensures { λ q. ⌜ refusalOf q ≡ firstBroken (gapRules
+        (allTables (now (text .entry)) (now (roads .entry)) (now (sections .entry)) (now (junctions .entry))
+        (now (connections .entry)) (now (pairs .entry)) (now (lanes .entry)) (now (edges .entry)))
+        (now (offsets .entry)) (now (ids .entry))) ⌝ }
     ensures { λ q. ⌜ (refusalOf q ≡ none → Chained (idHash (now (lanes .entry))) (length (now (lanes .entry)) / 10) (now (heads .exit)) (now (next .exit))) ⌝ }
 {
     let first = first_verdict(
@@ -135,7 +141,9 @@ fn write_rows(
     requires { ⌜ (length (now lanes) / 10 ≤ 16384) × (length (now edges) ≡ 12 * (length (now lanes) / 10)) × (length (now heads) ≡ 16384) × (length (now next) ≡ 16384) × (length (now ids) ≤ 131072) ⌝ }
     requires { ⌜ Chained (idHash (now lanes)) (length (now lanes) / 10) (now heads) (now next) ⌝ }
     requires { ⌜ listsRight (now lanes) (now offsets) (now ids) ≡ true ⌝ }
-    ensures { λ q. ⌜ outcomeOf q (now (out .exit)) ≡ wholeOutcome (rowsBelow (now (lanes .entry)) (now (edges .entry)) (now (offsets .entry)) (now (ids .entry)) (length (now (lanes .entry)) / 10)) (now (out .entry)) ⌝ }
+    ensures { λ q. ⌜ outcome (answerOf q) (now (out .exit)) ≡ writtenOr9 (tableWriting gapWidth)
+        (rowsBelow (now (lanes .entry)) (now (edges .entry)) (now (offsets .entry)) (now (ids .entry)) (length (now (lanes .entry)) / 10))
+        (now (out .entry)) ⌝ }
 {
     if 3 * ids.len() <= out.len() {
         let n = links::all_rows(lanes, edges, heads, next, offsets, ids, out, true);
@@ -163,7 +171,10 @@ pub fn link_gaps(
     ids: &[u32],
     out: &mut [u32],
 ) -> Gaps
-    ensures { λ q. ⌜ outcomeOf q (now (out .exit)) ≡ gapCall (allTables (now (text .entry)) (now (roads .entry)) (now (sections .entry)) (now (junctions .entry)) (now (connections .entry)) (now (pairs .entry)) (now (lanes .entry)) (now (edges .entry))) (now (offsets .entry)) (now (ids .entry)) (now (out .entry)) ⌝ }
+    ensures { λ q. ⌜ outcome (answerOf q) (now (out .exit)) ≡ gapCall
+        (allTables (now (text .entry)) (now (roads .entry)) (now (sections .entry)) (now (junctions .entry))
+        (now (connections .entry)) (now (pairs .entry)) (now (lanes .entry)) (now (edges .entry)))
+        (now (offsets .entry)) (now (ids .entry)) (now (out .entry)) ⌝ }
 {
     let mut heads = [0u32; 16384];
     let mut next = [0u32; 16384];

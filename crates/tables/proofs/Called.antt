@@ -1,9 +1,11 @@
 -- The whole outcome of a call, from what its checks answer.
-use Prim.Native.Nat.{ℕ}
+use Prim.Native.Nat.{ℕ, _<_, _≤_}
 use mathlib.Core.Path.{_≡_, refl, sym, ap, ap₂, _∙_}
 use mathlib.Core.List.{List, [], _∷_, _++_}
 use mathlib.Core.Bool.{Bool, true, false, cond}
 use mathlib.Core.Option.{Option, none, some}
+use lib.ListN.{length}
+use borrow.Author.Tests.{le-leb, lt-leb}
 use Rattle.model.specs.Calls.{Writing, called, longEnough, outcome, refused, settled, wrote, writtenOr9}
 use Rattle.model.specs.Rules.{Rule, firstBroken, fits, refusalWord, rule}
 use Rattle.laws.proofs.RulesReversed.{broken-append}
@@ -32,6 +34,15 @@ module _ {O : Type 0} (w : Writing O) (rules : List Rule) (content outs : O) whe
   call-admitted v free first =
       ap (λ o. settled o (w .rows content) (w .put content outs) outs)
       (sym (broken-append rules _ (sym first ∙ is-none (refusalOf v) free)))
+
+-- ---- room in one table
+pub one-fits : (content out : List ℕ) → length content ≤ length out
+    → fits (length content ∷ []) (length out ∷ []) ≡ true
+one-fits content out room = rw (le-leb (length content) (length out) room)
+
+pub one-short : (content out : List ℕ) → length out < length content
+    → fits (length content ∷ []) (length out ∷ []) ≡ false
+one-short content out short = rw (lt-leb (length content) (length out) short)
 
 -- ---- written, or 9
 module _ {O : Type 0} (w : Writing O) (content outs : O) where

@@ -5,7 +5,7 @@ use Prim.Native.Nat.{ℕ}
 use native.Mathlib.Omega.{arith}
 use mathlib.Core.Path.{_≡_, sym, ap₂, _∙_}
 use borrow.Author.Needs.{needs}
-use Rattle.model.specs.Calls.{laneRules, rulesTo5}
+use Rattle.model.specs.Calls.{gapRules, laneRules, rulesTo5}
 use Rattle.model.specs.Rules.{edgesFit, edgesSized, firstBroken, lanesSized, lanesWorded, listsSized, mapSized}
 use Rattle.model.specs.Rules.{mapWorded, rule}
 use Rattle.model.specs.Tables.{allTables, mapTables}
@@ -13,7 +13,6 @@ use Rattle.words.proofs.Chains.{fresh}
 use Rattle.words.proofs.Scans.{left-on, right-on}
 use Rattle.rules.proofs.Counts.{few, sized-few, sized10, sized12}
 use Rattle.rules.proofs.Leaves.{both-is}
-use Rattle.gaps.specs.Answers.{gapTableRules}
 use Rattle.gaps.proofs.call.first_verdict.Statement.{statement}
 use Rattle.gaps.proofs.call.first_verdict.Tie as tie
 
@@ -109,7 +108,7 @@ table-verdict-requires c κs =
     )
 
 returns : tie.Need-returns
-unfolding gapTableRules mapSized lanesSized edgesSized listsSized mapWorded lanesWorded
+unfolding gapRules laneRules rulesTo5 mapSized lanesSized edgesSized listsSized mapWorded lanesWorded
 returns c =
     let after-table-verdict : tie.After-table-verdict = search in
     let after-both5 : tie.After-both5 = search in

@@ -1,17 +1,76 @@
-use borrow.Author.Tests.{not-true, not-false}
-use lib.ListN.{length, length-replicate}
-use Prim.Native.Nat.{ℕ, _/_}
-use mathlib.Core.Path.{sym, _∙_}
+-- `link_gaps` is refused by its verdict, or writes its rows: the words by row numbers are the model's content.
 use borrow.Author.Needs.{needs}
-use Rattle.model.specs.Tables.{allTables}
+use borrow.Author.Tests.{not-true, not-false}
+use lib.ListN.{length, length-replicate, take}
+use mathlib.Core.Bool.{true}
+use mathlib.Core.List.{List}
+use mathlib.Core.Option.{none}
+use mathlib.Core.Path.{_≡_, sym, ap, _∙_}
+use Prim.Native.Nat.{ℕ, _/_}
+use Rattle.model.specs.Calls.{gapCall, gapContent, gapRules, gapWidth, tableWriting, writtenOr9}
+use Rattle.model.specs.Rules.{Rule, firstBroken}
+use Rattle.model.specs.Tables.{Tables, allTables}
 use Rattle.words.proofs.Chains.{fresh}
-use Rattle.tables.specs.Verdicts.{refusalOf}
-use Rattle.tables.proofs.Order.{is-none, is-some}
-use Rattle.gaps.specs.Links.{rowsBelow}
+use Rattle.tables.specs.Verdicts.{admits, refusalOf}
+use Rattle.tables.specs.declared.verdict.Verdict.{Verdict}
+use Rattle.tables.proofs.Called.{call-admitted, call-refused}
+use Rattle.tables.proofs.Order.{is-none}
+use Rattle.gaps.specs.Links.{listsRight, rowsBelow}
 use Rattle.gaps.proofs.Bridge.{content-is}
-use Rattle.gaps.proofs.CallLaws.{gap-kept, gap-refused, gap-through, gap-whole}
+use Rattle.gaps.proofs.CallLaws.{Kept, gap-kept, gap-through}
 use Rattle.gaps.proofs.call.link_gaps.Statement.{statement}
 use Rattle.gaps.proofs.call.link_gaps.Tie as tie
+
+-- ---- what the call is about
+module _ (start : tie.Start) where
+  abbrev tables : Tables
+  tables =
+      allTables (start .args .text .now) (start .args .roads .now) (start .args .sections .now)
+      (start .args .junctions .now) (start .args .connections .now) (start .args .pairs .now)
+      (start .args .lanes .now) (start .args .edges .now)
+
+  abbrev offsets : List ℕ
+  offsets = start .args .offsets .now
+
+  abbrev ids : List ℕ
+  ids = start .args .ids .now
+
+  abbrev rules : List Rule
+  rules = gapRules tables offsets ids
+
+  abbrev content : List ℕ
+  content = gapContent tables offsets ids
+
+-- ---- what the verdict says
+module _ (tried : tie.After-admitted) where
+  abbrev judged : tie.After-gap-verdict
+  judged = search
+
+  abbrev start : tie.Start
+  start = let near = judged in search
+
+  abbrev verdict : Verdict
+  verdict = judged .gap-verdict .result
+
+  -- it is the first refusal but 9
+  first : refusalOf verdict ≡ firstBroken (rules start)
+  first = judged .gap-verdict .ensures .0
+
+  module _ (free : admits verdict ≡ true) where
+    admitted : refusalOf verdict ≡ none
+    admitted = is-none (refusalOf verdict) free
+
+    through : (none ≡ firstBroken (take 9 (rules start)))
+        × (listsRight (start .args .lanes .now) (offsets start) (ids start) ≡ true)
+    through = gap-through (tables start) (offsets start) (ids start) (sym admitted ∙ first)
+
+    kept : Kept (tables start) (ids start)
+    kept = gap-kept (tables start) (offsets start) (ids start) (through .0)
+
+    -- the words by row numbers are the model's
+    content-same : rowsBelow (start .args .lanes .now) (start .args .edges .now) (offsets start) (ids start)
+        (length (start .args .lanes .now) / 10) ≡ content start
+    content-same = content-is (tables start) (offsets start) (ids start) (kept .even) (kept .once) (through .1)
 
 slice-aggregate-gap-verdict : tie.Need-slice-aggregate-gap-verdict
 slice-aggregate-gap-verdict c = search needs
@@ -26,18 +85,12 @@ admitted-requires : tie.Need-admitted-requires
 admitted-requires c κs = search needs
 
 returns : tie.Need-returns
+unfolding gapCall
 returns c =
-    let after-admitted : tie.After-admitted = search in
-    let after-gap-verdict : tie.After-gap-verdict = search in
-    let after-shared-slice-known7 = after-gap-verdict .before .before .before .before .before .before .before in
-    let start = after-shared-slice-known7 .before .before .before .before .before .before .before in
-    let t = (allTables (start .args .text .now) (start .args .roads .now) (start .args .sections .now)
-    (start .args .junctions .now) (start .args .connections .now) (start .args .pairs .now)
-    (start .args .lanes .now) (start .args .edges .now)) in
-    gap-refused t (start .args .offsets .now) (start .args .ids .now) (after-gap-verdict .gap-verdict .result)
-    (start .args .out .now) (is-some (refusalOf (after-gap-verdict .gap-verdict .result))
-    (sym (after-admitted .admitted .ensures) ∙ not-true _ (c .if1 .taken)))
-    (after-gap-verdict .gap-verdict .ensures .0)
+    let tried : tie.After-admitted = search in
+    let barred = sym (tried .admitted .ensures) ∙ not-true _ (c .if1 .taken) in
+    call-refused (tableWriting gapWidth) (rules (start tried)) (content (start tried)) _ (verdict tried) barred
+    (first tried)
 
 slice-aggregate-write-rows : tie.Need-slice-aggregate-write-rows
 slice-aggregate-write-rows c = search needs
@@ -47,60 +100,38 @@ slice-aggregate-write-rows-2 c = search needs
 
 write-rows-requires : tie.Need-write-rows-requires
 write-rows-requires c κs =
-    let else1 : tie.Else1 = search in
-    let after-admitted : tie.After-admitted = search in
-    let after-gap-verdict : tie.After-gap-verdict = search in
-    let after-shared-slice-known7 = after-gap-verdict .before .before .before .before .before .before .before in
-    let start = after-shared-slice-known7 .before .before .before .before .before .before .before in
-    let t = (allTables (start .args .text .now) (start .args .roads .now) (start .args .sections .now)
-    (start .args .junctions .now) (start .args .connections .now) (start .args .pairs .now)
-    (start .args .lanes .now) (start .args .edges .now)) in
-    let adm = is-none (refusalOf (after-gap-verdict .gap-verdict .result))
-    (sym (after-admitted .admitted .ensures) ∙ not-false _ (else1 .if1 .left)) in
-    let first = sym adm ∙ after-gap-verdict .gap-verdict .ensures .0 in
-    let o = start .args .offsets .now in
-    let ids = start .args .ids .now in
-    let th = gap-through t o ids first in
-    let k = gap-kept t o ids (th .0) in (
+    let past : tie.Else1 = search in
+    let tried : tie.After-admitted = search in
+    let free = sym (tried .admitted .ensures) ∙ not-false _ (past .if1 .left) in
+    let lengths = judged tried .gap-verdict .kept .1 .1 .1 .1 .1 .1 .1 .1 .1 .1 in
+    let few = kept tried free in (
       (
-        k .few,
-        k .even,
-        after-gap-verdict .gap-verdict .kept .1 .1 .1 .1 .1 .1 .1 .1 .1 .1 .0
-            ∙ length-replicate {A = ℕ} 16384 0,
-        after-gap-verdict .gap-verdict .kept .1 .1 .1 .1 .1 .1 .1 .1 .1 .1 .1 .0
-            ∙ length-replicate {A = ℕ} 16384 0,
-        k .short,
+        few .few,
+        few .even,
+        lengths .0 ∙ length-replicate {A = ℕ} 16384 0,
+        lengths .1 .0 ∙ length-replicate {A = ℕ} 16384 0,
+        few .short,
       ),
-      (after-gap-verdict .gap-verdict .ensures .1 adm, th .1),
+      (judged tried .gap-verdict .ensures .1 (admitted tried free), through tried free .1),
     )
 
 same-length : tie.Need-same-length
 same-length c =
-    let after-write-rows : tie.After-write-rows = search in
-    after-write-rows .write-rows .kept .1 .1 .1 .1 .1 .1 .0
+    let written : tie.After-write-rows = search in
+    written .write-rows .kept .1 .1 .1 .1 .1 .1 .0
 
 returns-2 : tie.Need-returns-2
+unfolding gapCall
 returns-2 c =
-    let after-write-rows : tie.After-write-rows = search in
-    let else1 : tie.Else1 = search in
-    let after-admitted : tie.After-admitted = search in
-    let after-gap-verdict : tie.After-gap-verdict = search in
-    let after-shared-slice-known7 = after-gap-verdict .before .before .before .before .before .before .before in
-    let start = after-shared-slice-known7 .before .before .before .before .before .before .before in
-    let lanes = start .args .lanes .now in let edges = start .args .edges .now in
-    let offsets = start .args .offsets .now in
-    let t = (allTables (start .args .text .now) (start .args .roads .now) (start .args .sections .now)
-    (start .args .junctions .now) (start .args .connections .now) (start .args .pairs .now) lanes edges) in
-    let adm = is-none (refusalOf (after-gap-verdict .gap-verdict .result))
-    (sym (after-admitted .admitted .ensures) ∙ not-false _ (else1 .if1 .left)) in
-    let first = sym adm ∙ after-gap-verdict .gap-verdict .ensures .0 in
-    let o = offsets in
-    let ids = start .args .ids .now in
-    let th = gap-through t o ids first in
-    let k = gap-kept t o ids (th .0) in
-    after-write-rows .write-rows .ensures
-    ∙ gap-whole t o ids (rowsBelow lanes edges offsets (start .args .ids .now) (length lanes / 10))
-    (start .args .out .now) first (content-is t o ids (k .even) (k .once) (th .1))
+    let written : tie.After-write-rows = search in
+    let past : tie.Else1 = search in
+    let tried : tie.After-admitted = search in
+    let free = sym (tried .admitted .ensures) ∙ not-false _ (past .if1 .left) in
+    let out = start tried .args .out .now in
+    written .write-rows .ensures
+    ∙ ap (λ (rows : List ℕ). writtenOr9 (tableWriting gapWidth) rows out) (content-same tried free)
+    ∙ call-admitted (tableWriting gapWidth) (rules (start tried)) (content (start tried)) out (verdict tried) free
+    (first tried)
 
 pub link-gaps-spec : {M : Type 1} → statement M
 link-gaps-spec =

@@ -29,7 +29,7 @@ link-decision-requires c κs =
     let start : tie.Start = search in
     let lanes = start .args .lanes .now in
     let e = (found-row (lastOf (length lanes / 10) (isId lanes (start .args .id .0)))
-    (after-lane-row .lane-row .ensures .0) (after-r .r .given .1)) in
+    (after-lane-row .lane-row .ensures) (after-r .r .given .1)) in
     let l = (last-le (length lanes / 10) (isId lanes (start .args .id .0))) in
     (start .pre .0 .4, omega (arith, e, l), start .pre .0 .1)
 
@@ -48,7 +48,7 @@ put-row-requires c κs =
       (λ w.
           let k = ap length (link-row lanes (start .args .edges .now) (start .args .lane)
           (start .args .id .0) {f = lastOf′} refl
-          (found-row lastOf′ (after-lane-row .lane-row .ensures .0) (after-r .r .given .1))
+          (found-row lastOf′ (after-lane-row .lane-row .ensures) (after-r .r .given .1))
           (after-link-decision .link-decision .ensures .0)) in
           let h = start .pre .1 .1 w in omega (arith, k, h)),
       after-link-decision .link-decision .ensures .1,
@@ -72,7 +72,7 @@ returns c =
     let lanes = start .args .lanes .now in let at = start .args .at in
     let lastOf′ = lastOf (length lanes / 10) (isId lanes (start .args .id .0)) in
     let e = (link-row lanes (start .args .edges .now) (start .args .lane) (start .args .id .0) {f = lastOf′}
-    refl (found-row lastOf′ (after-lane-row .lane-row .ensures .0) (after-r .r .given .1))
+    refl (found-row lastOf′ (after-lane-row .lane-row .ensures) (after-r .r .given .1))
     (after-link-decision .link-decision .ensures .0)) in (
       after-put-row .put-row .ensures .0 ∙ ap (λ (w : List ℕ). at + length w) e,
       after-put-row .put-row .ensures .1
@@ -85,7 +85,7 @@ returns-2 c =
     let start : tie.Start = search in
     let lanes = start .args .lanes .now in
     let z = found-none (lastOf (length lanes / 10) (isId lanes (start .args .id .0)))
-    (after-lane-row .lane-row .ensures .0) (c .enum-told .given .1) in
+    (after-lane-row .lane-row .ensures) (c .enum-told .given .1) in
     absurd (let y : 0 < 0 = subst (λ (m : ℕ). 0 < m) z (start .pre .0 .6) in omega (arith, y))
 
 pub link-row-spec : {M : Type 1} → statement M

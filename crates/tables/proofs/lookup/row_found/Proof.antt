@@ -1,4 +1,4 @@
-use Rattle.tables.proofs.Lookups.{row-of}
+use Rattle.tables.proofs.Identities.{row-of}
 use borrow.Author.Needs.{needs}
 use Rattle.tables.proofs.lookup.row_found.Statement.{statement}
 use Rattle.tables.proofs.lookup.row_found.Tie as tie
