@@ -1,7 +1,7 @@
 -- The call's whole outcome.
 use mathlib.Core.Path.{_≡_, refl, sym, ap, ap₂, _∙_}
-use mathlib.Core.Bool.{Bool, true, false, _&&_, cond}
-use mathlib.Core.Option.{Option, none, some}
+use mathlib.Core.Bool.{Bool, true, false, _&&_}
+use mathlib.Core.Option.{none}
 use mathlib.Core.List.{List, [], _∷_, map}
 use Prim.Native.Nat.{ℕ, _+_, _*_, _/_, _≤_, _<_}
 use native.Mathlib.Nat.{mul-div-cancel}
@@ -10,9 +10,8 @@ use lib.ListN.{length, getD, take}
 use lib.Seq.{getD-drop}
 use lib.Dec.{leb}
 use borrow.Author.Tests.{leb-true}
-use Rattle.model.specs.Calls.{RepairOutputs, longEnough, putRepaired, refused, repairCall, repairContent}
-use Rattle.model.specs.Calls.{repairCounts, repairLengths, repairRefusal, repairRules, rulesTo5, settled}
-use Rattle.model.specs.Calls.{warningRow, wrote}
+use Rattle.model.specs.Calls.{RepairOutputs, putRepaired, repairContent, repairCounts, repairLengths}
+use Rattle.model.specs.Calls.{repairRules, rulesTo5, warningRow}
 use Rattle.model.specs.Lists.{every, gather}
 use Rattle.model.specs.Records.{Connection, Junction, Road}
 use Rattle.model.specs.Repair.{junctionsOver, repair, roadsOver, startRoads, warnOver, warnings, withoutAlong}
@@ -31,59 +30,60 @@ use Rattle.words.proofs.Scans.{all-at, every-rows, left-on, map-rows, right-on}
 use Rattle.rules.proofs.Counts.{few, junctions-few, sized-few}
 use Rattle.rules.proofs.Forms.{name-at, roads-once}
 use Rattle.rules.proofs.Locals.{junction-local, short}
-use Rattle.tables.proofs.Order.{first-stays, not-none, parts-of, then-first}
+use Rattle.tables.proofs.Order.{not-none, parts-of}
 use Rattle.repair.specs.Now.{connectionAt, junctionAt, roadsNow}
 use Rattle.repair.specs.Laying.{Joined, Over, Small}
 use Rattle.rules.specs.Parts.{Fit}
 use Rattle.repair.specs.Along.{roadNowWords}
-use Rattle.repair.specs.Answers.{outs, putOr9}
+use Rattle.repair.specs.Answers.{contentNow, outputs}
 use Rattle.repair.proofs.Lays.{part-tab}
 use Rattle.rules.proofs.Fits.{fit-in, fit-of}
 use Rattle.repair.proofs.RoadWords.{words-now}
 
--- ---- 9, or all is written
-module _ (A B C D E A₀ B₀ C₀ D₀ E₀ : List ℕ) (a b c d e : ℕ) (la : length A ≡ a * 20) (lb : length B ≡ b * 5)
-    (lc : length C ≡ c * 7) (ld : length D ≡ d * 2) (le : length E ≡ e * 4) where
-  lengths : (x : Bool)
-      → fits (a * 20 ∷ b * 5 ∷ c * 7 ∷ d * 2 ∷ e * 4 ∷ [])
-      (length A₀ ∷ length B₀ ∷ length C₀ ∷ length D₀ ∷ length E₀ ∷ []) ≡ x
-      → fits (length A ∷ length B ∷ length C ∷ length D ∷ length E ∷ [])
-      (length A₀ ∷ length B₀ ∷ length C₀ ∷ length D₀ ∷ length E₀ ∷ []) ≡ x
-  lengths x h =
+-- ---- content in whole rows
+pub record InRows (content : RepairOutputs) (roads junctions connections pairs warnings : ℕ) : Type 0 where
+  pub road-words : length (content .roads) ≡ roads * 20
+  pub junction-words : length (content .junctions) ≡ junctions * 5
+  pub connection-words : length (content .connections) ≡ connections * 7
+  pub pair-words : length (content .pairs) ≡ pairs * 2
+  pub warning-words : length (content .warnings) ≡ warnings * 4
+
+rows-of : {words rows width : ℕ} → 0 < width → words ≡ rows * width → rows ≡ words / width
+rows-of {words} {rows} {width} some h = sym (ap (λ (n : ℕ). n / width) h ∙ mul-div-cancel rows some)
+
+module _ (content : RepairOutputs) (roads junctions connections pairs warnings : ℕ)
+    (whole : InRows content roads junctions connections pairs warnings) where
+  -- whether it fits the outputs
+  pub room-is : (outs : RepairOutputs) {room : Bool}
+      → fits (roads * 20 ∷ junctions * 5 ∷ connections * 7 ∷ pairs * 2 ∷ warnings * 4 ∷ [])
+      (length (outs .roads) ∷ length (outs .junctions) ∷ length (outs .connections) ∷ length (outs .pairs)
+      ∷ length (outs .warnings) ∷ []) ≡ room → fits (repairLengths content) (repairLengths outs) ≡ room
+  unfolding repairLengths
+  room-is outs room =
       (λ i.
-      fits (la i ∷ lb i ∷ lc i ∷ ld i ∷ le i ∷ [])
-      (length A₀ ∷ length B₀ ∷ length C₀ ∷ length D₀ ∷ length E₀ ∷ []))
-      ∙ h
+      fits
+      (whole .road-words i ∷ whole .junction-words i ∷ whole .connection-words i ∷ whole .pair-words i
+      ∷ whole .warning-words i ∷ [])
+      (repairLengths outs))
+      ∙ room
 
-  rows-of : (n k w : ℕ) → 0 < w → n ≡ k * w → k ≡ n / w
-  rows-of n k w p h = sym (ap (λ (x : ℕ). x / w) h ∙ mul-div-cancel k p)
+  -- how many rows it has
+  pub rows-are : roads ∷ junctions ∷ connections ∷ pairs ∷ warnings ∷ [] ≡ repairCounts content
+  unfolding repairCounts
+  rows-are = λ i.
+      rows-of (omega arith) (whole .road-words) i ∷ rows-of (omega arith) (whole .junction-words) i
+      ∷ rows-of (omega arith) (whole .connection-words) i ∷ rows-of (omega arith) (whole .pair-words) i
+      ∷ rows-of (omega arith) (whole .warning-words) i ∷ []
 
-  pub none-written : fits (a * 20 ∷ b * 5 ∷ c * 7 ∷ d * 2 ∷ e * 4 ∷ [])
-      (length A₀ ∷ length B₀ ∷ length C₀ ∷ length D₀ ∷ length E₀ ∷ []) ≡ false
-      → record { answer = refused 9; outs = outs A₀ B₀ C₀ D₀ E₀ } ≡ putOr9 (outs A B C D E) (outs A₀ B₀ C₀ D₀ E₀)
-  unfolding putOr9 repairLengths
-  none-written h =
-      sym (ap (λ x.
-      settled (cond x none (some 9)) (repairCounts (outs A B C D E))
-      (putRepaired (outs A B C D E) (outs A₀ B₀ C₀ D₀ E₀)) (outs A₀ B₀ C₀ D₀ E₀)) (lengths false h))
-
-  pub all-written : {A′ B′ C′ D′ E′ : List ℕ}
-      → fits (a * 20 ∷ b * 5 ∷ c * 7 ∷ d * 2 ∷ e * 4 ∷ [])
-      (length A₀ ∷ length B₀ ∷ length C₀ ∷ length D₀ ∷ length E₀ ∷ []) ≡ true → A′ ≡ written A A₀
-      → B′ ≡ written B B₀ → C′ ≡ written C C₀ → D′ ≡ written D D₀ → E′ ≡ written E E₀ →
-      record { answer = wrote (a ∷ b ∷ c ∷ d ∷ e ∷ []); outs = outs A′ B′ C′ D′ E′ } ≡ putOr9 (outs A B C D E) (outs A₀ B₀ C₀ D₀ E₀)
-  unfolding putOr9 repairLengths repairCounts putRepaired
-  all-written h p q r s t =
-      (λ i.
-      record {
-        answer = wrote (rows-of (length A) a 20 (omega arith) la i ∷ rows-of (length B) b 5 (omega arith) lb i
-            ∷ rows-of (length C) c 7 (omega arith) lc i ∷ rows-of (length D) d 2 (omega arith) ld i
-            ∷ rows-of (length E) e 4 (omega arith) le i ∷ []);
-        outs = outs (p i) (q i) (r i) (s i) (t i);
-      })
-      ∙ sym (ap (λ x.
-      settled (cond x none (some 9)) (repairCounts (outs A B C D E))
-      (putRepaired (outs A B C D E) (outs A₀ B₀ C₀ D₀ E₀)) (outs A₀ B₀ C₀ D₀ E₀)) (lengths true h))
+-- the five outputs, each written
+pub put-are : (content outs : RepairOutputs) {roads junctions connections pairs warnings : List ℕ}
+    → roads ≡ written (content .roads) (outs .roads) → junctions ≡ written (content .junctions) (outs .junctions)
+    → connections ≡ written (content .connections) (outs .connections)
+    → pairs ≡ written (content .pairs) (outs .pairs) → warnings ≡ written (content .warnings) (outs .warnings)
+    → outputs roads junctions connections pairs warnings ≡ putRepaired content outs
+unfolding putRepaired
+put-are content outs roads junctions connections pairs warnings =
+    λ i. outputs (roads i) (junctions i) (connections i) (pairs i) (warnings i)
 
 -- ---- the junctions by their rows
 connections-tab : (pairs connections : List ℕ)
@@ -147,9 +147,7 @@ module _ (text roads ss junctions connections pairs : List ℕ) (j : Joined junc
         ≡ junctionsOver (sameIn text) (mapOf t .junctions) (startRoads (sameIn text) (mapOf t))
     after = ap₂ (junctionsOver (sameIn text)) list start
 
-    pub content-is : outs (gather (roadNowWords roads junctions ends) (tab (length roads / 20) (λ r. r)))
-        (take (length junctions / 5 * 5) js) (take (n * 7) cs) (take (p * 2) ps) (take (w * 4) warn)
-        ≡ repairContent t
+    pub content-is : contentNow roads junctions ends js cs ps warn n p w ≡ repairContent t
     unfolding repairContent repair warnings junctionWords connectionWords pairWords allConnections allPairs
     content-is =
         let a =
@@ -171,29 +169,7 @@ module _ (text roads ss junctions connections pairs : List ℕ) (j : Joined junc
         ∙ ap₂
         (λ (l : List Junction) (rs : List Road). gather (warningRow t) (warnOver (sameIn text) 0 l rs))
         list start in
-        λ i. outs (a i) (b i) (c i) (d i) (e i)
-
--- ---- the refusals
-module _ (t : Tables) (o : RepairOutputs) where
-  pub call-refused : (v : Option ℕ) → (v ≡ none → ⊥) → v ≡ firstBroken (repairRules t)
-      → record { answer = refused (refusalWord v); outs = o } ≡ repairCall t o
-  unfolding repairCall repairRefusal
-  call-refused v n e =
-      go v n
-      ∙ ap (λ x. settled x (repairCounts (repairContent t)) (putRepaired (repairContent t) o) o)
-      (first-stays (repairRules t) (longEnough (repairLengths (repairContent t)) (repairLengths o)) v n e)
-    where
-      go : (v : Option ℕ) → (v ≡ none → ⊥)
-          → record { answer = refused (refusalWord v); outs = o }
-          ≡ settled v (repairCounts (repairContent t)) (putRepaired (repairContent t) o) o
-      go none n = absurd (n refl)
-      go (some k) n = refl
-
-  pub call-admitted : none ≡ firstBroken (repairRules t) → putOr9 (repairContent t) o ≡ repairCall t o
-  unfolding repairCall repairRefusal putOr9
-  call-admitted e =
-      ap (λ x. settled x (repairCounts (repairContent t)) (putRepaired (repairContent t) o) o)
-      (then-first (repairRules t) (longEnough (repairLengths (repairContent t)) (repairLengths o)) e refl)
+        λ i. outputs (a i) (b i) (c i) (d i) (e i)
 
 -- what an admission says
 pub record Ready (t : Tables) : Type 0 where

@@ -1,10 +1,18 @@
 -- The call's answer, with document 01's number and values for each of its cases, and its outputs. Definitions only.
+use mathlib.Core.Path.{_≡_}
 use mathlib.Core.List.{List, [], _∷_}
-use Prim.Native.Nat.{ℕ}
-use Rattle.model.specs.Calls.{Answer, Outcome, RepairOutputs, refused, wrote, settled, longEnough}
-use Rattle.model.specs.Calls.{repairLengths, repairCounts, putRepaired}
-use Rattle.model.specs.Rules.{firstBroken, refusalWord}
+use Prim.Native.Nat.{ℕ, _*_, _/_}
+use lib.ListN.{length, take}
+use Rattle.model.specs.Calls.{Answer, RepairOutputs, refused, wrote}
+use Rattle.model.specs.Lists.{gather}
+use Rattle.model.specs.Repair.{startRoads}
+use Rattle.model.specs.Rules.{refusalWord, same}
+use Rattle.model.specs.Tables.{Tables, mapOf}
+use Rattle.words.specs.Rows.{tab}
+use Rattle.rules.specs.Parts.{Fit}
 use Rattle.tables.specs.Verdicts.{refusalOf}
+use Rattle.repair.specs.Along.{roadNowWords}
+use Rattle.repair.specs.Now.{roadsNow}
 use Rattle.repair.specs.declared.call.Repaired.{Repaired}
 use Rattle.repair.specs.declared.call.Repaired.the-variants.{Written, Refused}
 
@@ -14,15 +22,18 @@ answerOf (Written n) = wrote (n .roads ∷ n .junctions ∷ n .connections ∷ n
 answerOf (Refused v) = refused (refusalWord (refusalOf v))
 
 -- the five outputs
-abbrev pub outs : (roads junctions connections pairs warnings : List ℕ) → RepairOutputs
-outs roads junctions connections pairs warnings =
+abbrev pub outputs : (roads junctions connections pairs warnings : List ℕ) → RepairOutputs
+outputs roads junctions connections pairs warnings =
     record { roads = roads; junctions = junctions; connections = connections; pairs = pairs; warnings = warnings }
 
--- the answer, and the outputs after the call
-abbrev pub outcome : Repaired → RepairOutputs → Outcome RepairOutputs
-outcome q o = record { answer = answerOf q; outs = o }
+-- what is at hand to be written: the roads as their ends say, and of the other arrays' rows all junctions, n
+-- connections, p pairs and w warnings
+abbrev pub contentNow : (roads junctions ends js cs ps warn : List ℕ) → (n p w : ℕ) → RepairOutputs
+contentNow roads junctions ends js cs ps warn n p w =
+    outputs (gather (roadNowWords roads junctions ends) (tab (length roads / 20) (λ r. r)))
+    (take (length junctions / 5 * 5) js) (take (n * 7) cs) (take (p * 2) ps) (take (w * 4) warn)
 
--- content c written to the outputs, or refusal 9
-unfoldable pub putOr9 : RepairOutputs → RepairOutputs → Outcome RepairOutputs
-putOr9 c o =
-    settled (firstBroken (longEnough (repairLengths c) (repairLengths o))) (repairCounts c) (putRepaired c o) o
+-- where repair begins: the parts of the sections fit, and the ends are those before the first junction
+pub record Begun (t : Tables) (ends : List ℕ) : Type 0 where
+  pub fit : Fit 20 18 19 (t .roads) (length (t .sections))
+  pub roads : roadsNow (t .sections) (t .roads) (t .junctions) ends ≡ startRoads (same t) (mapOf t)

@@ -58,6 +58,19 @@ pub record Small (pairs connections : List ℕ) : Type 0 where
   pub few-pairs : length pairs / 2 ≤ 8192
   pub fit : Fit 7 5 6 connections (length pairs / 2)
 
+-- the arrays that rows are laid into: they hold 16,384 junctions, connections and pairs, and 8,192 warnings
+pub record Arrays (js cs ps warn : List ℕ) : Type 0 where
+  pub junctions-long : length js ≡ 81920
+  pub connections-long : length cs ≡ 114688
+  pub pairs-long : length ps ≡ 32768
+  pub warnings-long : length warn ≡ 32768
+
+-- so many connections, pairs and warnings stand in them
+pub record Within (n p w : ℕ) : Type 0 where
+  pub connections-few : n ≤ 16384
+  pub pairs-few : p ≤ 16384
+  pub warnings-few : w ≤ 8192
+
 -- the connections linked by their incoming roads' names
 pub record Chain (text connections heads next : List ℕ) : Type 0 where
   pub few : length connections / 7 ≤ 8192

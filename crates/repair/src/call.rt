@@ -13,19 +13,14 @@ ghost use mathlib.Core.Bool.{true};
 ghost use mathlib.Core.List.{List, [], _∷_};
 ghost use Prim.Native.Nat.{ℕ, _*_, _/_, _≤_, _<_};
 ghost use lib.ListN.{length, take};
-ghost use Rattle.model.specs.Calls.{repairContent, repairCall};
-ghost use Rattle.model.specs.Lists.{gather, every};
-ghost use Rattle.model.specs.Repair.{startRoads};
+ghost use Rattle.model.specs.Calls.{RepairOutputs, repairWriting, repairContent, repairCall, outcome, writtenOr9};
+ghost use Rattle.model.specs.Lists.{every};
 ghost use Rattle.model.specs.Rows.{written, table};
 ghost use Rattle.model.specs.Rules.{fits, roadWorded};
-ghost use Rattle.model.specs.Tables.{mapTables, mapOf};
-ghost use Rattle.model.specs.Text.{sameIn};
-ghost use Rattle.words.specs.Rows.{tab};
-ghost use Rattle.repair.specs.Now.{Known, roadsNow};
-ghost use Rattle.repair.specs.Laying.{Small, Joined};
-ghost use Rattle.rules.specs.Parts.{Fit};
-ghost use Rattle.repair.specs.Along.{roadNowWords};
-ghost use Rattle.repair.specs.Answers.{outs, outcome, putOr9};
+ghost use Rattle.model.specs.Tables.{Tables, mapTables};
+ghost use Rattle.repair.specs.Now.{Known};
+ghost use Rattle.repair.specs.Laying.{Small, Joined, Arrays, Within};
+ghost use Rattle.repair.specs.Answers.{answerOf, outputs, contentNow, Begun};
 
 // How many rows each output has.
 pub struct Rows {
@@ -90,8 +85,16 @@ fn write(
     pairs_out: &mut [u32],
     warnings_out: &mut [u32],
 ) -> Repaired
-    requires { ⌜ (length (now roads) / 20 ≤ 16384) × (length (now junctions) / 5 ≤ 16384) × (n ≤ 16384) × (p ≤ 16384) × (w ≤ 8192) × (length (now js) ≡ 81920) × (length (now cs) ≡ 114688) × (length (now ps) ≡ 32768) × (length (now warn) ≡ 32768) ⌝ }
-    ensures { λ q. ⌜ outcome q (outs (now («roads_out» .exit)) (now («junctions_out» .exit)) (now («connections_out» .exit)) (now («pairs_out» .exit)) (now («warnings_out» .exit))) ≡ putOr9 (outs (gather (roadNowWords (now (roads .entry)) (now (junctions .entry)) (now (ends .entry))) (tab (length (now (roads .entry)) / 20) (λ r. r))) (take (length (now (junctions .entry)) / 5 * 5) (now (js .entry))) (take (n * 7) (now (cs .entry))) (take (p * 2) (now (ps .entry))) (take (w * 4) (now (warn .entry)))) (outs (now («roads_out» .entry)) (now («junctions_out» .entry)) (now («connections_out» .entry)) (now («pairs_out» .entry)) (now («warnings_out» .entry))) ⌝ }
+    ghost { RepairOutputs }
+    requires { λ content. ⌜ contentNow (now roads) (now junctions) (now ends) (now js) (now cs) (now ps) (now warn) n p w ≡ content ⌝ }
+    requires { λ _. ⌜ (length (now roads) / 20 ≤ 16384) × (length (now junctions) / 5 ≤ 16384) ⌝ }
+    requires { λ _. ⌜ Within n p w × Arrays (now js) (now cs) (now ps) (now warn) ⌝ }
+    ensures { λ content q. ⌜ outcome (answerOf q)
+        (outputs (now («roads_out» .exit)) (now («junctions_out» .exit))
+        (now («connections_out» .exit)) (now («pairs_out» .exit)) (now («warnings_out» .exit)))
+        ≡ writtenOr9 repairWriting content
+        (outputs (now («roads_out» .entry)) (now («junctions_out» .entry))
+        (now («connections_out» .entry)) (now («pairs_out» .entry)) (now («warnings_out» .entry))) ⌝ }
 {
     let r = roads.len() / 20;
     let j = junctions.len() / 5;
@@ -140,8 +143,19 @@ fn mend(
     pairs_out: &mut [u32],
     warnings_out: &mut [u32],
 ) -> Repaired
-    requires { ⌜ Small (now pairs) (now connections) × Joined (now junctions) (now connections) × Known (now text) (now roads) (now heads) (now next) × (length (now ends) ≡ 32768) × (every (roadWorded (now text)) (table 20 (now roads)) ≡ true) ⌝ }
-    ensures { λ q. ⌜ ((ss : List ℕ) → Fit 20 18 19 (now (roads .entry)) (length ss) → roadsNow ss (now (roads .entry)) (now (junctions .entry)) (now (ends .entry)) ≡ startRoads (sameIn (now (text .entry))) (mapOf (mapTables (now (text .entry)) (now (roads .entry)) ss (now (junctions .entry)) (now (connections .entry)) (now (pairs .entry)))) → outcome q (outs (now («roads_out» .exit)) (now («junctions_out» .exit)) (now («connections_out» .exit)) (now («pairs_out» .exit)) (now («warnings_out» .exit))) ≡ putOr9 (repairContent (mapTables (now (text .entry)) (now (roads .entry)) ss (now (junctions .entry)) (now (connections .entry)) (now (pairs .entry)))) (outs (now («roads_out» .entry)) (now («junctions_out» .entry)) (now («connections_out» .entry)) (now («pairs_out» .entry)) (now («warnings_out» .entry)))) ⌝ }
+    ghost { List ℕ → Tables }
+    requires { λ t. ⌜ (λ sections. mapTables (now text) (now roads) sections (now junctions) (now connections) (now pairs)) ≡ t ⌝ }
+    requires { λ _. ⌜ Small (now pairs) (now connections) ⌝ }
+    requires { λ _. ⌜ Joined (now junctions) (now connections) ⌝ }
+    requires { λ _. ⌜ Known (now text) (now roads) (now heads) (now next) ⌝ }
+    requires { λ _. ⌜ every (roadWorded (now text)) (table 20 (now roads)) ≡ true ⌝ }
+    requires { λ _. ⌜ length (now ends) ≡ 32768 ⌝ }
+    ensures { λ t q. ⌜ ((sections : List ℕ) → Begun (t sections) (now (ends .entry)) → outcome (answerOf q)
+        (outputs (now («roads_out» .exit)) (now («junctions_out» .exit))
+        (now («connections_out» .exit)) (now («pairs_out» .exit)) (now («warnings_out» .exit)))
+        ≡ writtenOr9 repairWriting (repairContent (t sections))
+        (outputs (now («roads_out» .entry)) (now («junctions_out» .entry))
+        (now («connections_out» .entry)) (now («pairs_out» .entry)) (now («warnings_out» .entry)))) ⌝ }
 {
     let mut cheads = [0u32; 16384];
     let mut cnext = [0u32; 16384];
@@ -200,7 +214,14 @@ pub fn repair(
     pairs_out: &mut [u32],
     warnings_out: &mut [u32],
 ) -> Repaired
-    ensures { λ q. ⌜ outcome q (outs (now («roads_out» .exit)) (now («junctions_out» .exit)) (now («connections_out» .exit)) (now («pairs_out» .exit)) (now («warnings_out» .exit))) ≡ repairCall (mapTables (now (text .entry)) (now (roads .entry)) (now (sections .entry)) (now (junctions .entry)) (now (connections .entry)) (now (pairs .entry))) (outs (now («roads_out» .entry)) (now («junctions_out» .entry)) (now («connections_out» .entry)) (now («pairs_out» .entry)) (now («warnings_out» .entry))) ⌝ }
+    ensures { λ q. ⌜ outcome (answerOf q)
+        (outputs (now («roads_out» .exit)) (now («junctions_out» .exit))
+        (now («connections_out» .exit)) (now («pairs_out» .exit)) (now («warnings_out» .exit)))
+        ≡ repairCall
+        (mapTables (now (text .entry)) (now (roads .entry)) (now (sections .entry))
+        (now (junctions .entry)) (now (connections .entry)) (now (pairs .entry)))
+        (outputs (now («roads_out» .entry)) (now («junctions_out» .entry))
+        (now («connections_out» .entry)) (now («pairs_out» .entry)) (now («warnings_out» .entry))) ⌝ }
 {
     let mut heads = [0u32; 16384];
     let mut next = [0u32; 16384];

@@ -17,7 +17,7 @@ ghost use Rattle.model.specs.Text.{sameIn};
 ghost use Rattle.model.specs.Repair.{repairJunction};
 ghost use Rattle.words.specs.Rows.{total};
 ghost use Rattle.repair.specs.Now.{Known, roadsNow, junctionAt};
-ghost use Rattle.repair.specs.Laying.{Laid, Small, Chain, Joined, Stepped, Over};
+ghost use Rattle.repair.specs.Laying.{Laid, Small, Chain, Joined, Within, Stepped, Over};
 ghost use Rattle.rules.specs.Parts.{counts};
 
 // How many connections, pairs and warnings there are.
@@ -184,7 +184,7 @@ pub fn junctions(
     ps: &mut [u32],
 ) -> Counts
     requires { ⌜ Small (now pairs) (now connections) × Joined (now table) (now connections) × (length (now ends) ≡ 32768) × (length (now warn) ≡ 32768) × (length (now js) ≡ 81920) × (length (now cs) ≡ 114688) × (length (now ps) ≡ 32768) × Known (now text) (now roads) (now heads) (now next) × Chain (now text) (now connections) (now cheads) (now cnext) ⌝ }
-    ensures { λ q. ⌜ (q .connections ≤ 16384) × (q .pairs ≤ 16384) × (q .warnings ≤ 8192) ⌝ }
+    ensures { λ q. ⌜ Within (q .connections) (q .pairs) (q .warnings) ⌝ }
     ensures { λ q. ⌜ ((ss : List ℕ) → Over (sameIn (now (text .entry))) (warningRow (mapTables (now (text .entry)) (now (roads .entry)) ss (now (table .entry)) (now (connections .entry)) (now (pairs .entry)))) (junctionAt (now (pairs .entry)) (now (connections .entry)) (now (table .entry))) (roadsNow ss (now (roads .entry)) (now (table .entry)) (now (ends .entry))) (roadsNow ss (now (roads .entry)) (now (table .entry)) (now (ends .exit))) (length (now (table .entry)) / 5) (q .connections) (q .pairs) (q .warnings) (now (js .exit)) (now (cs .entry)) (now (ps .entry)) (now (cs .exit)) (now (ps .exit)) (now (warn .exit))) ⌝ }
 {
     let mut x = 0;

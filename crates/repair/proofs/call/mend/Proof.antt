@@ -1,15 +1,25 @@
+-- `mend` links the connections by name, repairs the junctions into arrays of its own, and writes what they hold.
 use Rattle.repair.proofs.Outcomes.{content-is}
-use Rattle.repair.specs.Answers.{outs, putOr9}
-use Rattle.model.specs.Calls.{RepairOutputs}
+use Rattle.repair.specs.Answers.{outputs}
+use Rattle.model.specs.Calls.{RepairOutputs, repairWriting, writtenOr9}
 use Rattle.words.proofs.Chains.{fresh}
 use Rattle.words.proofs.KeyLaws.{rows-in}
-use lib.ListN.{length, length-replicate}
-use Prim.Native.Nat.{ℕ, _-_}
+use lib.ListN.{length-replicate}
+use Prim.Native.Nat.{ℕ}
 use native.Mathlib.Omega.{arith}
 use mathlib.Core.Path.{ap, _∙_}
 use borrow.Author.Needs.{needs}
 use Rattle.repair.proofs.call.mend.Statement.{statement}
 use Rattle.repair.proofs.call.mend.Tie as tie
+
+-- ---- the start, from far away
+module _ (linked : tie.After-link-names) where
+  abbrev start : tie.Start
+  start = search
+
+module _ (repaired : tie.After-junctions) where
+  abbrev linked : tie.After-link-names
+  linked = search
 
 slice-aggregate-link-names : tie.Need-slice-aggregate-link-names
 slice-aggregate-link-names c = search needs
@@ -19,15 +29,8 @@ slice-aggregate-link-names-2 c = search needs
 
 link-names-requires : tie.Need-link-names-requires
 link-names-requires c κs =
-    let start : tie.Start = search in (
-      (
-        omega arith,
-        omega arith,
-        rows-in (length (start .args .connections .now)) 7,
-        omega (arith, start .pre .0 .few),
-      ),
-      fresh,
-    )
+    let start : tie.Start = search in
+    ((omega arith, omega arith, rows-in _ 7, omega (arith, start .pre .0 .few)), fresh)
 
 slice-aggregate-junctions : tie.Need-slice-aggregate-junctions
 slice-aggregate-junctions c = search needs
@@ -49,22 +52,22 @@ slice-aggregate-junctions-6 c = search needs
 
 junctions-requires : tie.Need-junctions-requires
 junctions-requires c κs =
-    let after-link-names : tie.After-link-names = search in
-    let start : tie.Start = search in (
+    let linked : tie.After-link-names = search in
+    let start : tie.Start = search in
+    let kept = linked .link-names .kept in (
       start .pre .0,
-      start .pre .1,
-      start .pre .3,
+      start .pre .1 .0,
+      start .pre .1 .1 .1 .1,
       length-replicate {A = ℕ} 32768 0,
       length-replicate {A = ℕ} 81920 0,
       length-replicate {A = ℕ} 114688 0,
       length-replicate {A = ℕ} 32768 0,
-      start .pre .2,
+      start .pre .1 .1 .0,
       record {
         few = start .pre .0 .few;
-        heads-long = after-link-names .link-names .kept .1 .1 .1 .1 .1 .0 ∙ length-replicate {A = ℕ} 16384 0;
-        next-long = after-link-names .link-names .kept .1 .1 .1 .1 .1 .1 .0
-            ∙ length-replicate {A = ℕ} 16384 0;
-        chained = after-link-names .link-names .ensures .1;
+        heads-long = kept .1 .1 .1 .1 .1 .0 ∙ length-replicate {A = ℕ} 16384 0;
+        next-long = kept .1 .1 .1 .1 .1 .1 .0 ∙ length-replicate {A = ℕ} 16384 0;
+        chained = linked .link-names .ensures .1;
       },
     )
 
@@ -82,22 +85,19 @@ slice-aggregate-write-4 c = search needs
 
 write-requires : tie.Need-write-requires
 write-requires c κs =
-    let after-junctions : tie.After-junctions = search in
-    let after-cheads3 = after-junctions .before .before .before .before .before .before .before in
-    let after-slice-known5 = after-cheads3 .before .before .before .before .before .before .before in
-    let after-shared-slice-known5 = after-slice-known5 .before .before .before .before .before .before .before in
-    let start = after-shared-slice-known5 .before .before .before .before .before in (
-      start .pre .2 .few,
-      start .pre .1 .few,
-      after-junctions .junctions .ensures .0 .0,
-      after-junctions .junctions .ensures .0 .1,
-      after-junctions .junctions .ensures .0 .2,
-      after-junctions .junctions .kept .1 .1 .1 .1 .1 .1 .1 .1 .1 .1 .1 .0 ∙ length-replicate {A = ℕ} 81920 0,
-      after-junctions .junctions .kept .1 .1 .1 .1 .1 .1 .1 .1 .1 .1 .1 .1 .0
-          ∙ length-replicate {A = ℕ} 114688 0,
-      after-junctions .junctions .kept .1 .1 .1 .1 .1 .1 .1 .1 .1 .1 .1 .1 .1 .0
-          ∙ length-replicate {A = ℕ} 32768 0,
-      after-junctions .junctions .kept .1 .1 .1 .1 .1 .1 .1 .1 .1 .1 .0 ∙ length-replicate {A = ℕ} 32768 0,
+    let repaired : tie.After-junctions = search in
+    let pre = start (linked repaired) .pre in
+    let kept = repaired .junctions .kept .1 .1 .1 .1 .1 .1 .1 .1 .1 .1 in (
+      (pre .1 .1 .0 .few, pre .1 .0 .few),
+      (
+        repaired .junctions .ensures .0,
+        record {
+          junctions-long = kept .1 .0 ∙ length-replicate {A = ℕ} 81920 0;
+          connections-long = kept .1 .1 .0 ∙ length-replicate {A = ℕ} 114688 0;
+          pairs-long = kept .1 .1 .1 .0 ∙ length-replicate {A = ℕ} 32768 0;
+          warnings-long = kept .0 ∙ length-replicate {A = ℕ} 32768 0;
+        },
+      ),
     )
 
 same-length : tie.Need-same-length
@@ -120,21 +120,17 @@ same-length-6 c = search needs
 
 returns : tie.Need-returns
 returns c =
-    let after-write : tie.After-write = search in
-    let after-junctions : tie.After-junctions = search in
-    let after-cheads3 = after-junctions .before .before .before .before .before .before .before in
-    let after-slice-known5 = after-cheads3 .before .before .before .before .before .before .before in
-    let after-shared-slice-known5 = after-slice-known5 .before .before .before .before .before .before .before in
-    let at-start = after-shared-slice-known5 .before .before .before .before .before in
-    λ ss fit start.
-    after-write .write .ensures
-    ∙ ap (λ (x : RepairOutputs).
-    putOr9 x (outs (at-start .args .roads-out .now) (at-start .args .junctions-out .now)
-    (at-start .args .connections-out .now) (at-start .args .pairs-out .now)
-    (at-start .args .warnings-out .now)))
-    (content-is (at-start .args .text .now) (at-start .args .roads .now) ss (at-start .args .junctions .now)
-    (at-start .args .connections .now) (at-start .args .pairs .now) (at-start .pre .1) (at-start .pre .4) fit
-    (at-start .args .ends .now) _ _ _ _ _ _ _ _ _ _ start (after-junctions .junctions .ensures .1 ss))
+    let written : tie.After-write = search in
+    let repaired : tie.After-junctions = search in
+    let start = start (linked repaired) in
+    let args = start .args in
+    let lent =
+    outputs (args .roads-out .now) (args .junctions-out .now) (args .connections-out .now)
+    (args .pairs-out .now) (args .warnings-out .now) in
+    λ sections begun.
+    let content-is = content-is _ _ sections _ _ _ (start .pre .1 .0) (start .pre .1 .1 .1 .0) (begun .fit)
+    (args .ends .now) _ _ _ _ _ _ _ _ _ _ (begun .roads) (repaired .junctions .ensures .1 sections) in
+    written .write .ensures ∙ ap (λ (content : RepairOutputs). writtenOr9 repairWriting content lent) content-is
 
 pub mend-spec : {M : Type 1} → statement M
 mend-spec =

@@ -1,16 +1,53 @@
-use Rattle.repair.proofs.Outcomes.{ready, start-is, call-refused, call-admitted}
-use Rattle.repair.specs.Answers.{outs}
+-- `repair` refuses by its verdict, or has the rows that `mend` writes: `call-refused` and `call-admitted`.
+use Rattle.repair.proofs.Outcomes.{Ready, ready, start-is}
+use Rattle.repair.specs.Answers.{outputs}
+use Rattle.repair.specs.Now.{Known}
 use Rattle.words.proofs.Chains.{fresh}
-use Rattle.tables.proofs.Order.{is-none, is-some}
-use Rattle.tables.specs.Verdicts.{refusalOf}
-use Rattle.model.specs.Tables.{mapTables}
+use Rattle.tables.proofs.Called.{call-admitted, call-refused}
+use Rattle.tables.proofs.Order.{is-none}
+use Rattle.tables.specs.Verdicts.{admits, refusalOf}
+use Rattle.model.specs.Calls.{RepairOutputs, repairCall, repairContent, repairRules, repairWriting}
+use Rattle.model.specs.Tables.{Tables, mapTables}
 use borrow.Author.Tests.{not-true, not-false}
 use lib.ListN.{length-replicate}
-use Prim.Native.Nat.{ℕ, _-_}
-use mathlib.Core.Path.{sym, _∙_}
+use Prim.Native.Nat.{ℕ}
+use mathlib.Core.Bool.{true}
+use mathlib.Core.Option.{none}
+use mathlib.Core.Path.{_≡_, sym, _∙_}
 use borrow.Author.Needs.{needs}
 use Rattle.repair.proofs.call.repair.Statement.{statement}
 use Rattle.repair.proofs.call.repair.Tie as tie
+
+-- ---- the tables, and the outputs as they were lent
+module _ (judged : tie.After-repair-verdict) where
+  abbrev start : tie.Start
+  start = search
+
+  abbrev tables : Tables
+  tables =
+      let args = start .args in
+      mapTables (args .text .now) (args .roads .now) (args .sections .now) (args .junctions .now)
+      (args .connections .now) (args .pairs .now)
+
+  abbrev lent : RepairOutputs
+  lent =
+      let args = start .args in
+      outputs (args .roads-out .now) (args .junctions-out .now) (args .connections-out .now)
+      (args .pairs-out .now) (args .warnings-out .now)
+
+-- ---- admitted
+module _ (past : tie.Else1) where
+  abbrev judged : tie.After-repair-verdict
+  judged = search
+
+  free : admits (judged .repair-verdict .result) ≡ true
+  free = let asked : tie.After-admitted = search in sym (asked .admitted .ensures) ∙ not-false _ (past .if1 .left)
+
+  no-refusal : refusalOf (judged .repair-verdict .result) ≡ none
+  no-refusal = is-none _ free
+
+  ready-for : Ready (tables judged)
+  ready-for = ready _ (sym no-refusal ∙ judged .repair-verdict .ensures .0)
 
 slice-aggregate-repair-verdict : tie.Need-slice-aggregate-repair-verdict
 slice-aggregate-repair-verdict c = search needs
@@ -25,36 +62,21 @@ admitted-requires : tie.Need-admitted-requires
 admitted-requires c κs = search needs
 
 returns : tie.Need-returns
+unfolding repairCall
 returns c =
-    let after-admitted : tie.After-admitted = search in
-    let after-repair-verdict : tie.After-repair-verdict = search in
-    let after-slice-known = after-repair-verdict .before .before .before .before .before .before .before in
-    let start = after-slice-known .before .before .before .before .before .before .before in
-    call-refused (mapTables (start .args .text .now) (start .args .roads .now) (start .args .sections .now)
-    (start .args .junctions .now) (start .args .connections .now) (start .args .pairs .now))
-    (outs (start .args .roads-out .now) (start .args .junctions-out .now) (start .args .connections-out .now)
-    (start .args .pairs-out .now) (start .args .warnings-out .now))
-    (refusalOf (after-repair-verdict .repair-verdict .result))
-    (is-some (refusalOf (after-repair-verdict .repair-verdict .result))
-    (sym (after-admitted .admitted .ensures) ∙ not-true _ (c .if1 .taken)))
-    (after-repair-verdict .repair-verdict .ensures .0)
+    let asked : tie.After-admitted = search in
+    let judged : tie.After-repair-verdict = search in
+    let barred = sym (asked .admitted .ensures) ∙ not-true _ (c .if1 .taken) in
+    call-refused repairWriting (repairRules (tables judged)) (repairContent (tables judged)) (lent judged)
+    (judged .repair-verdict .result) barred (judged .repair-verdict .ensures .0)
 
 slice-aggregate-without-along : tie.Need-slice-aggregate-without-along
 slice-aggregate-without-along c = search needs
 
 without-along-requires : tie.Need-without-along-requires
 without-along-requires c κs =
-    let else1 : tie.Else1 = search in
-    let after-admitted : tie.After-admitted = search in
-    let after-repair-verdict : tie.After-repair-verdict = search in
-    let after-slice-known = after-repair-verdict .before .before .before .before .before .before .before in
-    let start = after-slice-known .before .before .before .before .before .before .before in
-    let adm = is-none (refusalOf (after-repair-verdict .repair-verdict .result))
-    (sym (after-admitted .admitted .ensures) ∙ not-false _ (else1 .if1 .left)) in
-    let g = ready (mapTables (start .args .text .now) (start .args .roads .now) (start .args .sections .now)
-    (start .args .junctions .now) (start .args .connections .now) (start .args .pairs .now))
-    (sym adm ∙ after-repair-verdict .repair-verdict .ensures .0) in
-    (g .few-roads, g .joined .few, length-replicate {A = ℕ} 32768 0)
+    let past : tie.Else1 = search in
+    (ready-for past .few-roads, ready-for past .joined .few, length-replicate {A = ℕ} 32768 0)
 
 slice-aggregate-mend : tie.Need-slice-aggregate-mend
 slice-aggregate-mend c = search needs
@@ -67,31 +89,19 @@ slice-aggregate-mend-3 c = search needs
 
 mend-requires : tie.Need-mend-requires
 mend-requires c κs =
-    let after-without-along : tie.After-without-along = search in
-    let else1 : tie.Else1 = search in
-    let after-admitted : tie.After-admitted = search in
-    let after-repair-verdict : tie.After-repair-verdict = search in
-    let after-slice-known = after-repair-verdict .before .before .before .before .before .before .before in
-    let start = after-slice-known .before .before .before .before .before .before .before in
-    let adm = is-none (refusalOf (after-repair-verdict .repair-verdict .result))
-    (sym (after-admitted .admitted .ensures) ∙ not-false _ (else1 .if1 .left)) in
-    let g = ready (mapTables (start .args .text .now) (start .args .roads .now) (start .args .sections .now)
-    (start .args .junctions .now) (start .args .connections .now) (start .args .pairs .now))
-    (sym adm ∙ after-repair-verdict .repair-verdict .ensures .0) in (
-      g .small,
-      g .joined,
-      record {
-        few = g .few-roads;
-        heads-long = after-repair-verdict .repair-verdict .kept .1 .1 .1 .1 .1 .1 .0
-            ∙ length-replicate {A = ℕ} 16384 0;
-        next-long = after-repair-verdict .repair-verdict .kept .1 .1 .1 .1 .1 .1 .1 .0
-            ∙ length-replicate {A = ℕ} 16384 0;
-        chained = after-repair-verdict .repair-verdict .ensures .1 adm;
-        once = g .once;
-      },
-      after-without-along .without-along .kept .1 .1 .1 .0 ∙ length-replicate {A = ℕ} 32768 0,
-      g .worded,
-    )
+    let begun : tie.After-without-along = search in
+    let past : tie.Else1 = search in
+    let known = ready-for past in
+    let kept = judged past .repair-verdict .kept .1 .1 .1 .1 .1 .1 in
+    let roads-known : Known _ _ _ _ = record {
+      few = known .few-roads;
+      heads-long = kept .0 ∙ length-replicate {A = ℕ} 16384 0;
+      next-long = kept .1 .0 ∙ length-replicate {A = ℕ} 16384 0;
+      chained = judged past .repair-verdict .ensures .1 (no-refusal past);
+      once = known .once;
+    } in
+    let ends-long = begun .without-along .kept .1 .1 .1 .0 ∙ length-replicate {A = ℕ} 32768 0 in
+    (known .small, (known .joined, (roads-known, (known .worded, ends-long))))
 
 same-length : tie.Need-same-length
 same-length c = search needs
@@ -109,28 +119,17 @@ same-length-5 : tie.Need-same-length-5
 same-length-5 c = search needs
 
 returns-2 : tie.Need-returns-2
+unfolding repairCall
 returns-2 c =
-    let after-mend : tie.After-mend = search in
-    let after-without-along : tie.After-without-along = search in
-    let else1 : tie.Else1 = search in
-    let after-admitted : tie.After-admitted = search in
-    let after-repair-verdict : tie.After-repair-verdict = search in
-    let after-slice-known = after-repair-verdict .before .before .before .before .before .before .before in
-    let start = after-slice-known .before .before .before .before .before .before .before in
-    let text = start .args .text .now in let roads = start .args .roads .now in
-    let sections = start .args .sections .now in let junctions = start .args .junctions .now in
-    let connections = start .args .connections .now in let pairs = start .args .pairs .now in
-    let adm = is-none (refusalOf (after-repair-verdict .repair-verdict .result))
-    (sym (after-admitted .admitted .ensures) ∙ not-false _ (else1 .if1 .left)) in
-    let g = ready (mapTables text roads sections junctions connections pairs)
-    (sym adm ∙ after-repair-verdict .repair-verdict .ensures .0) in
-    after-mend .mend .ensures sections (g .fit)
-    (start-is text roads sections junctions connections pairs (g .joined) _
-    (after-without-along .without-along .ensures sections pairs connections))
-    ∙ call-admitted (mapTables text roads sections junctions connections pairs)
-    (outs (start .args .roads-out .now) (start .args .junctions-out .now) (start .args .connections-out .now)
-    (start .args .pairs-out .now) (start .args .warnings-out .now))
-    (sym adm ∙ after-repair-verdict .repair-verdict .ensures .0)
+    let mended : tie.After-mend = search in
+    let begun : tie.After-without-along = search in
+    let past : tie.Else1 = search in
+    let judged = judged past in
+    let sections = tables judged .sections in
+    let started = start-is _ _ sections _ _ _ (ready-for past .joined) _ (begun .without-along .ensures sections _ _) in
+    mended .mend .ensures sections (record { fit = ready-for past .fit; roads = started })
+    ∙ call-admitted repairWriting (repairRules (tables judged)) (repairContent (tables judged)) (lent judged)
+    (judged .repair-verdict .result) (free past) (judged .repair-verdict .ensures .0)
 
 pub repair-spec : {M : Type 1} → statement M
 repair-spec =

@@ -1,17 +1,68 @@
-use Rattle.repair.proofs.Outcomes.{none-written, all-written, fits-five}
+-- `write` refuses with 9 before it writes a word, or writes five contents, each of whole rows.
+use Rattle.repair.proofs.Outcomes.{InRows, fits-five, put-are, room-is, rows-are}
 use Rattle.repair.proofs.RoadWords.{roads-width}
-use Rattle.repair.specs.Along.{roadNowWords}
-use Rattle.words.specs.Rows.{tab}
-use Rattle.model.specs.Lists.{gather}
+use Rattle.repair.specs.Answers.{contentNow, outputs}
+use Rattle.tables.proofs.Called.{all-written, too-short}
+use Rattle.model.specs.Calls.{RepairOutputs, repairWriting}
 use borrow.Author.Tests.{not-true, not-false}
 use lib.Seq.{length-take-le}
-use lib.ListN.{length, take}
-use Prim.Native.Nat.{_*_, _-_, _/_}
+use lib.ListN.{length}
+use Prim.Native.Nat.{ℕ, _*_, _/_, _≤_}
 use native.Mathlib.Omega.{arith}
 use mathlib.Core.Path.{sym, _∙_}
 use borrow.Author.Needs.{needs}
 use Rattle.repair.proofs.call.write.Statement.{statement}
 use Rattle.repair.proofs.call.write.Tie as tie
+
+-- ---- what there is to write, and where
+module _ (tried : tie.After-fit) where
+  abbrev start : tie.Start
+  start = search
+
+  abbrev road-count : ℕ
+  road-count = length (start .args .roads .now) / 20
+
+  abbrev junction-count : ℕ
+  junction-count = length (start .args .junctions .now) / 5
+
+  abbrev content : RepairOutputs
+  content =
+      let args = start .args in
+      contentNow (args .roads .now) (args .junctions .now) (args .ends .now) (args .js .now) (args .cs .now)
+      (args .ps .now) (args .warn .now) (args .n) (args .p) (args .w)
+
+  abbrev lent : RepairOutputs
+  lent =
+      let args = start .args in
+      outputs (args .roads-out .now) (args .junctions-out .now) (args .connections-out .now)
+      (args .pairs-out .now) (args .warnings-out .now)
+
+  whole : InRows content road-count junction-count (start .args .n) (start .args .p) (start .args .w)
+  whole =
+      let few = start .pre .1 .0 in
+      let arrays = start .pre .1 .1 in
+      record {
+        road-words = roads-width _ _ _ _;
+        junction-words = length-take-le _ _ (omega (arith, start .pre .0 .1, arrays .junctions-long));
+        connection-words = length-take-le _ _ (omega (arith, few .connections-few, arrays .connections-long));
+        pair-words = length-take-le _ _ (omega (arith, few .pairs-few, arrays .pairs-long));
+        warning-words = length-take-le _ _ (omega (arith, few .warnings-few, arrays .warnings-long));
+      }
+
+-- ---- it fits
+module _ (past : tie.Else1) where
+  abbrev tried : tie.After-fit
+  tried = search
+
+  abbrev given : tie.Start
+  given = start tried
+
+  fitting : (road-count tried * 20 ≤ length (given .args .roads-out .now))
+      × (junction-count tried * 5 ≤ length (given .args .junctions-out .now))
+      × (given .args .n * 7 ≤ length (given .args .connections-out .now))
+      × (given .args .p * 2 ≤ length (given .args .pairs-out .now))
+      × (given .args .w * 4 ≤ length (given .args .warnings-out .now))
+  fitting = fits-five _ _ _ _ _ _ _ _ _ _ (sym (tried .fit .ensures) ∙ not-false _ (past .if1 .left))
 
 mul-fit : tie.Need-mul-fit
 mul-fit c = search needs
@@ -33,100 +84,56 @@ fit-requires c κs = search needs
 
 returns : tie.Need-returns
 returns c =
-    let after-fit : tie.After-fit = search in
-    let start : tie.Start = search in
-    let roads = start .args .roads .now in let junctions = start .args .junctions .now in
-    let ends = start .args .ends .now in let js = start .args .js .now in let n = start .args .n in
-    let cs = start .args .cs .now in let p = start .args .p in let ps = start .args .ps .now in
-    let w = start .args .w in let warn = start .args .warn .now in
-    none-written (gather (roadNowWords roads junctions ends) (tab (length roads / 20) (λ r. r)))
-    (take (length junctions / 5 * 5) js) (take (n * 7) cs) (take (p * 2) ps) (take (w * 4) warn)
-    (start .args .roads-out .now) (start .args .junctions-out .now) (start .args .connections-out .now)
-    (start .args .pairs-out .now) (start .args .warnings-out .now) (length roads / 20) (length junctions / 5) n
-    p w (roads-width roads junctions ends (length roads / 20))
-    (length-take-le (length junctions / 5 * 5) js (omega (arith, start .pre .1, start .pre .5)))
-    (length-take-le (n * 7) cs (omega (arith, start .pre .2, start .pre .6)))
-    (length-take-le (p * 2) ps (omega (arith, start .pre .3, start .pre .7)))
-    (length-take-le (w * 4) warn (omega (arith, start .pre .4, start .pre .8)))
-    (sym (after-fit .fit .ensures) ∙ not-true _ (c .if1 .taken))
+    let tried : tie.After-fit = search in
+    let short = sym (tried .fit .ensures) ∙ not-true _ (c .if1 .taken) in
+    too-short repairWriting (content tried) (lent tried) (room-is _ _ _ _ _ _ (whole tried) (lent tried) short)
 
 put-roads-requires : tie.Need-put-roads-requires
 put-roads-requires c κs =
-    let else1 : tie.Else1 = search in
-    let after-fit : tie.After-fit = search in
-    let start : tie.Start = search in
-    let f = fits-five (length (start .args .roads .now) / 20 * 20)
-    (length (start .args .junctions .now) / 5 * 5) (start .args .n * 7) (start .args .p * 2)
-    (start .args .w * 4) (length (start .args .roads-out .now)) (length (start .args .junctions-out .now))
-    (length (start .args .connections-out .now)) (length (start .args .pairs-out .now))
-    (length (start .args .warnings-out .now))
-    (sym (after-fit .fit .ensures) ∙ not-false _ (else1 .if1 .left)) in
-    (start .pre .0, f .0)
+    let past : tie.Else1 = search in
+    (given past .pre .0 .0, fitting past .0)
 
 mul-copy-part : tie.Need-mul-copy-part
 mul-copy-part c = search needs
 
 copy-part-requires : tie.Need-copy-part-requires
 copy-part-requires c κs =
-    let else1 : tie.Else1 = search in
-    let after-fit : tie.After-fit = search in
-    let after-shared-slice-known6 = after-fit .before .before .before .before .before .before .before in
-    let start = after-shared-slice-known6 .before .before .before .before .before .before in
-    let f = fits-five (length (start .args .roads .now) / 20 * 20)
-    (length (start .args .junctions .now) / 5 * 5) (start .args .n * 7) (start .args .p * 2)
-    (start .args .w * 4) (length (start .args .roads-out .now)) (length (start .args .junctions-out .now))
-    (length (start .args .connections-out .now)) (length (start .args .pairs-out .now))
-    (length (start .args .warnings-out .now))
-    (sym (after-fit .fit .ensures) ∙ not-false _ (else1 .if1 .left)) in
-    (omega (arith, start .pre .1, start .pre .5), f .1)
+    let past : tie.Else1 = search in
+    let pre = given past .pre in
+    (omega (arith, pre .0 .1, pre .1 .1 .junctions-long), fitting past .1)
 
 mul-copy-part-2 : tie.Need-mul-copy-part-2
-mul-copy-part-2 c = search needs
+mul-copy-part-2 c =
+    let past : tie.Else1 = search in
+    omega (arith, given past .pre .1 .0 .connections-few)
 
 copy-part-requires-2 : tie.Need-copy-part-requires-2
 copy-part-requires-2 c κs =
-    let else1 : tie.Else1 = search in
-    let after-fit : tie.After-fit = search in
-    let start : tie.Start = search in
-    let f = fits-five (length (start .args .roads .now) / 20 * 20)
-    (length (start .args .junctions .now) / 5 * 5) (start .args .n * 7) (start .args .p * 2)
-    (start .args .w * 4) (length (start .args .roads-out .now)) (length (start .args .junctions-out .now))
-    (length (start .args .connections-out .now)) (length (start .args .pairs-out .now))
-    (length (start .args .warnings-out .now))
-    (sym (after-fit .fit .ensures) ∙ not-false _ (else1 .if1 .left)) in
-    (omega (arith, start .pre .2, start .pre .6), f .2)
+    let past : tie.Else1 = search in
+    let pre = given past .pre .1 in
+    (omega (arith, pre .0 .connections-few, pre .1 .connections-long), fitting past .2)
 
 mul-copy-part-3 : tie.Need-mul-copy-part-3
-mul-copy-part-3 c = search needs
+mul-copy-part-3 c =
+    let past : tie.Else1 = search in
+    omega (arith, given past .pre .1 .0 .pairs-few)
 
 copy-part-requires-3 : tie.Need-copy-part-requires-3
 copy-part-requires-3 c κs =
-    let else1 : tie.Else1 = search in
-    let after-fit : tie.After-fit = search in
-    let start : tie.Start = search in
-    let f = fits-five (length (start .args .roads .now) / 20 * 20)
-    (length (start .args .junctions .now) / 5 * 5) (start .args .n * 7) (start .args .p * 2)
-    (start .args .w * 4) (length (start .args .roads-out .now)) (length (start .args .junctions-out .now))
-    (length (start .args .connections-out .now)) (length (start .args .pairs-out .now))
-    (length (start .args .warnings-out .now))
-    (sym (after-fit .fit .ensures) ∙ not-false _ (else1 .if1 .left)) in
-    (omega (arith, start .pre .3, start .pre .7), f .3)
+    let past : tie.Else1 = search in
+    let pre = given past .pre .1 in
+    (omega (arith, pre .0 .pairs-few, pre .1 .pairs-long), fitting past .3)
 
 mul-copy-part-4 : tie.Need-mul-copy-part-4
-mul-copy-part-4 c = search needs
+mul-copy-part-4 c =
+    let past : tie.Else1 = search in
+    omega (arith, given past .pre .1 .0 .warnings-few)
 
 copy-part-requires-4 : tie.Need-copy-part-requires-4
 copy-part-requires-4 c κs =
-    let else1 : tie.Else1 = search in
-    let after-fit : tie.After-fit = search in
-    let start : tie.Start = search in
-    let f = fits-five (length (start .args .roads .now) / 20 * 20)
-    (length (start .args .junctions .now) / 5 * 5) (start .args .n * 7) (start .args .p * 2)
-    (start .args .w * 4) (length (start .args .roads-out .now)) (length (start .args .junctions-out .now))
-    (length (start .args .connections-out .now)) (length (start .args .pairs-out .now))
-    (length (start .args .warnings-out .now))
-    (sym (after-fit .fit .ensures) ∙ not-false _ (else1 .if1 .left)) in
-    (omega (arith, start .pre .4, start .pre .8), f .4)
+    let past : tie.Else1 = search in
+    let pre = given past .pre .1 in
+    (omega (arith, pre .0 .warnings-few, pre .1 .warnings-long), fitting past .4)
 
 same-length : tie.Need-same-length
 same-length c = search needs
@@ -145,31 +152,19 @@ same-length-5 c = search needs
 
 returns-2 : tie.Need-returns-2
 returns-2 c =
-    let after-copy-part4 : tie.After-copy-part4 = search in
-    let after-copy-part3 : tie.After-copy-part3 = search in
-    let after-copy-part2 : tie.After-copy-part2 = search in
-    let after-copy-part : tie.After-copy-part = search in
-    let after-put-roads : tie.After-put-roads = search in
-    let else1 : tie.Else1 = search in
-    let after-fit : tie.After-fit = search in
-    let after-shared-slice-known6 = after-fit .before .before .before .before .before .before .before in
-    let start = after-shared-slice-known6 .before .before .before .before .before .before in
-    let roads = start .args .roads .now in let junctions = start .args .junctions .now in
-    let ends = start .args .ends .now in let js = start .args .js .now in let n = start .args .n in
-    let cs = start .args .cs .now in let p = start .args .p in let ps = start .args .ps .now in
-    let w = start .args .w in let warn = start .args .warn .now in
-    all-written (gather (roadNowWords roads junctions ends) (tab (length roads / 20) (λ r. r)))
-    (take (length junctions / 5 * 5) js) (take (n * 7) cs) (take (p * 2) ps) (take (w * 4) warn)
-    (start .args .roads-out .now) (start .args .junctions-out .now) (start .args .connections-out .now)
-    (start .args .pairs-out .now) (start .args .warnings-out .now) (length roads / 20) (length junctions / 5) n
-    p w (roads-width roads junctions ends (length roads / 20))
-    (length-take-le (length junctions / 5 * 5) js (omega (arith, start .pre .1, start .pre .5)))
-    (length-take-le (n * 7) cs (omega (arith, start .pre .2, start .pre .6)))
-    (length-take-le (p * 2) ps (omega (arith, start .pre .3, start .pre .7)))
-    (length-take-le (w * 4) warn (omega (arith, start .pre .4, start .pre .8)))
-    (sym (after-fit .fit .ensures) ∙ not-false _ (else1 .if1 .left)) (after-put-roads .put-roads .ensures)
-    (after-copy-part .copy-part .ensures) (after-copy-part2 .copy-part2 .ensures)
-    (after-copy-part3 .copy-part3 .ensures) (after-copy-part4 .copy-part4 .ensures)
+    let warnings : tie.After-copy-part4 = search in
+    let pairs : tie.After-copy-part3 = search in
+    let connections : tie.After-copy-part2 = search in
+    let junctions : tie.After-copy-part = search in
+    let roads : tie.After-put-roads = search in
+    let past : tie.Else1 = search in
+    let tried : tie.After-fit = search in
+    let fit = sym (tried .fit .ensures) ∙ not-false _ (past .if1 .left) in
+    all-written repairWriting (content tried) (lent tried)
+    (room-is _ _ _ _ _ _ (whole tried) (lent tried) fit)
+    (rows-are _ _ _ _ _ _ (whole tried))
+    (put-are (content tried) (lent tried) (roads .put-roads .ensures) (junctions .copy-part .ensures)
+    (connections .copy-part2 .ensures) (pairs .copy-part3 .ensures) (warnings .copy-part4 .ensures))
 
 pub write-spec : {M : Type 1} → statement M
 write-spec =

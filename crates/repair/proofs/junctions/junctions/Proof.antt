@@ -150,11 +150,11 @@ returns c =
     let past : l .k ≡ length table / 5 = omega (arith, l .inv .0, c .loop-test .left) in
     let a = ap (λ (k : ℕ). total k (counts 5 4 table)) past ∙ start .pre .1 .fit .whole in
     let b = ap (λ (k : ℕ). total k (counts 7 6 connections)) a ∙ start .pre .0 .fit .whole in (
-      (
-        omega (arith, a, l .inv .1, start .pre .0 .few),
-        omega (arith, b, l .inv .2, start .pre .0 .few-pairs),
-        omega (arith, a, l .inv .3, start .pre .0 .few),
-      ),
+      record {
+        connections-few = omega (arith, a, l .inv .1, start .pre .0 .few);
+        pairs-few = omega (arith, b, l .inv .2, start .pre .0 .few-pairs);
+        warnings-few = omega (arith, a, l .inv .3, start .pre .0 .few);
+      },
       λ ss.
           subst (λ (k : ℕ).
           Over (sameIn text) (warningRow (mapTables text roads ss table connections pairs))
