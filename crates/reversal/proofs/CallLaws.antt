@@ -1,115 +1,78 @@
 -- The call's outcome, and what its admission says.
-use Prim.Native.Nat.{ℕ, _*_, _/_, _%_, _<_, _≤_}
-use mathlib.Core.Bool.{Bool, true, false, _&&_, cond}
-use mathlib.Core.List.{List, [], _∷_, _++_, map}
-use mathlib.Core.Option.{Option, none, some}
+use Prim.Native.Nat.{ℕ, zero, suc, _*_, _/_, _%_, _<_, _≤_}
+use mathlib.Core.Bool.{Bool, true, false, _&&_, false≢true}
+use mathlib.Core.List.{List, [], _∷_, map}
+use mathlib.Core.Option.{none}
 use mathlib.Core.Path.{_≡_, refl, sym, ap, _∙_, subst, fun-ext}
 use native.Mathlib.Omega.{arith}
 use lib.Dec.{leb}
-use lib.Ieee.{Float}
 use lib.ListN.{length, getD}
 use borrow.Author.Tests.{eqb-true, leb-true}
-use Rattle.model.specs.Calls.{ReversalOutputs, longEnough, markRules, markedBy, putReversed, refused}
-use Rattle.model.specs.Calls.{reversalCall, reversalContent, reversalCounts, reversalLengths, reversalRefusal}
-use Rattle.model.specs.Calls.{reversalRules, settled, tableRules, wrote}
+use Rattle.model.specs.Calls.{ReversalOutputs, markRules, markedBy, reversalContent, reversalCounts}
+use Rattle.model.specs.Calls.{reversalLengths, reversalRules, tableRules}
 use Rattle.model.specs.Lists.{ascends, every}
 use Rattle.model.specs.Records.{Span}
 use Rattle.model.specs.Reversal.{reverseEdged, reverseJunction, reverseLane, reverseMap, reverseRoad}
-use Rattle.model.specs.Rows.{partsFit, rowsFrom, table, written}
+use Rattle.model.specs.Rows.{partsFit, rowsFrom, table}
 use Rattle.model.specs.Rules.{connectionPartsFit, connectionWorded, edgesEven, edgesSized, firstBroken, fits}
 use Rattle.model.specs.Rules.{junctionWorded, laneWorded, lanesSized, lanesWorded, mapSized, mapWorded}
-use Rattle.model.specs.Rules.{pairPartsFit, refusalWord, roadWorded, sectionPartsFit, sectionsAscend}
+use Rattle.model.specs.Rules.{pairPartsFit, roadWorded, sectionPartsFit, sectionsAscend}
 use Rattle.model.specs.Tables.{Tables, allPairs, connectionRow, connectionWords, edgeWords, edgedLanesOf}
 use Rattle.model.specs.Tables.{laneWords, lanesIn, mapOf, pairRow, pairWords, roadWords, roadsIn, roadsOf}
 use Rattle.model.specs.Tables.{sectionWords}
 use Rattle.model.specs.Text.{sameIn}
 use Rattle.laws.proofs.Decoded.{and3}
-use Rattle.laws.proofs.RulesReversed.{all-pass, broken-append, unbroken-append}
+use Rattle.laws.proofs.RulesReversed.{all-pass, unbroken-append}
 use Rattle.laws.proofs.WordsReversed.{Fine, fine, fine-sound, fine-whole, fine-words, lengths-are, modelOf}
 use Rattle.laws.proofs.WordsReversed.{sixLengths}
 use Rattle.words.specs.Keys.{nameBefore}
-use Rattle.words.specs.Rows.{all, any, joined}
+use Rattle.words.specs.Rows.{all, any}
 use Rattle.words.proofs.Scans.{left-on, right-on}
 use Rattle.rules.specs.ByRow.{Linked, listedAt, numbersAt}
 use Rattle.rules.proofs.Counts.{few, sized-few}
 use Rattle.rules.proofs.Forms.{lanes-listed, roads-once, sections-ascend}
-use Rattle.tables.specs.Verdicts.{refusalOf}
-use Rattle.tables.specs.declared.verdict.Verdict.{Verdict}
-use Rattle.tables.specs.declared.verdict.Verdict.the-variants.{OutputShort}
-use Rattle.tables.proofs.Order.{first-stays, marks-count, not-none}
-use Rattle.reversal.specs.Answers.{outcomeOf, sixOf}
-use Rattle.reversal.specs.Turned.{Kept, Ready, Writable, markOf, turnedConnection, turnedEdges}
-use Rattle.reversal.specs.Turned.{turnedLane, turnedPairs, turnedRoad, turnedSections}
-use Rattle.reversal.specs.declared.call.Counts.{Counts}
-use Rattle.reversal.specs.declared.call.Reversed.the-variants.{Refused, Written}
+use Rattle.tables.proofs.Order.{marks-count, not-none}
+use Rattle.reversal.specs.Answers.{outputs}
+use Rattle.reversal.specs.Turned.{Kept, Ready, Room, Writable, markOf}
+use Rattle.reversal.specs.Turned.{turnedTables}
 use Rattle.reversal.proofs.EdgeWords.{edges-are}
 use Rattle.reversal.proofs.LaneWords.{kept-at, lane-mark, lanes-are}
 use Rattle.reversal.proofs.LinkWords.{all-turned, connections-are, pairs-are}
 use Rattle.reversal.proofs.MarkLaws.{mark-is}
 use Rattle.reversal.proofs.RoadWords.{roads-are, sections-are}
 
--- ---- refusals
-module _ (t : Tables) (marks : List ℕ) (o : ReversalOutputs) where
-  pub reversal-refused : (v : Verdict) → (refusalOf v ≡ none → ⊥)
-      → refusalOf v ≡ firstBroken (reversalRules t marks) → outcomeOf (Refused v) o ≡ reversalCall t marks o
-  unfolding reversalCall reversalRefusal
-  reversal-refused v n e =
-      go (refusalOf v) n (first-stays (reversalRules t marks)
-      (longEnough (reversalLengths (reversalContent t marks)) (reversalLengths o)) (refusalOf v) n e)
-    where
-      go : (r : Option ℕ) → (r ≡ none → ⊥)
-          → r
-          ≡ firstBroken
-          (reversalRules t marks ++ longEnough (reversalLengths (reversalContent t marks)) (reversalLengths o)) →
-          record { answer = refused (refusalWord r); outs = o } ≡ settled (firstBroken (reversalRules t marks ++ longEnough (reversalLengths (reversalContent t marks)) (reversalLengths o))) (reversalCounts (reversalContent t marks)) (putReversed (reversalContent t marks) o) o
-      go none n e = absurd (n refl)
-      go (some k) n e =
-          ap (λ r.
-          settled r (reversalCounts (reversalContent t marks)) (putReversed (reversalContent t marks) o) o) e
-
-  module _ (e : none ≡ firstBroken (reversalRules t marks)) where
-    tables-fine : Fine t
-    unfolding reversalRules
-    tables-fine = fine t (unbroken-append (tableRules t) (markRules t marks) (sym e) .0)
-
-    -- what is written has the lengths of what is read
-    pub lengths-six : reversalLengths (reversalContent t marks) ≡ sixLengths t
-    lengths-six =
-        subst (λ (u : Tables). reversalLengths (reversalContent u marks) ≡ sixLengths u)
-        (fine-words t tables-fine) (lengths-are (t .text) (modelOf t) (fine-sound t tables-fine) marks)
-
-    nine : (b : Bool) → fits (sixLengths t) (reversalLengths o) ≡ b
-        → reversalCall t marks o
-        ≡ settled (cond b none (some 9)) (reversalCounts (reversalContent t marks))
-        (putReversed (reversalContent t marks) o) o
-    unfolding reversalCall reversalRefusal
-    nine b f =
-        ap
-        (λ r. settled r (reversalCounts (reversalContent t marks)) (putReversed (reversalContent t marks) o) o)
-        (broken-append (reversalRules t marks)
-        (longEnough (reversalLengths (reversalContent t marks)) (reversalLengths o)) (sym e)
-        ∙ ap (λ (c : Bool). cond c none (some 9))
-        (ap (λ (l : List ℕ). fits l (reversalLengths o)) lengths-six ∙ f))
-
-    pub reversal-short : fits (sixLengths t) (reversalLengths o) ≡ false
-        → outcomeOf (Refused OutputShort) o ≡ reversalCall t marks o
-    reversal-short f = sym (nine false f)
-
-    pub reversal-written : {n : Counts} {o′ : ReversalOutputs} → fits (sixLengths t) (reversalLengths o) ≡ true
-        → n .roads ∷ n .sections ∷ n .connections ∷ n .pairs ∷ n .lanes ∷ n .edges ∷ []
-        ≡ reversalCounts (reversalContent t marks) → o′ ≡ putReversed (reversalContent t marks) o →
-        outcomeOf (Written n) o′ ≡ reversalCall t marks o
-    reversal-written f g h = (λ i. record { answer = wrote (g i); outs = h i }) ∙ sym (nine true f)
-
+-- ---- the lengths of what is written
 -- the counts by the lengths
 counts-by : (c : ReversalOutputs) (t : Tables) → reversalLengths c ≡ sixLengths t
-    → reversalCounts c
-    ≡ length (t .roads) / 20 ∷ length (t .sections) ∷ length (t .connections) / 7 ∷ length (t .pairs) / 2
+    → length (t .roads) / 20 ∷ length (t .sections) ∷ length (t .connections) / 7 ∷ length (t .pairs) / 2
     ∷ length (t .lanes) / 10 ∷ length (t .edges) / 12 ∷ []
+    ≡ reversalCounts c
 unfolding reversalLengths sixLengths reversalCounts
-counts-by c t e =
+counts-by c t even =
     ap (λ (l : List ℕ).
-    getD l 0 0 / 20 ∷ getD l 1 0 ∷ getD l 2 0 / 7 ∷ getD l 3 0 / 2 ∷ getD l 4 0 / 10 ∷ getD l 5 0 / 12 ∷ []) e
+    getD l 0 0 / 20 ∷ getD l 1 0 ∷ getD l 2 0 / 7 ∷ getD l 3 0 / 2 ∷ getD l 4 0 / 10 ∷ getD l 5 0 / 12 ∷ [])
+    (sym even)
+
+module _ (t : Tables) (marks : List ℕ) (clear : none ≡ firstBroken (reversalRules t marks)) where
+  tables-fine : Fine t
+  unfolding reversalRules
+  tables-fine = fine t (unbroken-append (tableRules t) (markRules t marks) (sym clear) .0)
+
+  -- what is written has the lengths of what is read
+  pub lengths-even : reversalLengths (reversalContent t marks) ≡ sixLengths t
+  lengths-even =
+      subst (λ (u : Tables). reversalLengths (reversalContent u marks) ≡ sixLengths u)
+      (fine-words t tables-fine) (lengths-are (t .text) (modelOf t) (fine-sound t tables-fine) marks)
+
+  pub counted : length (t .roads) / 20 ∷ length (t .sections) ∷ length (t .connections) / 7
+      ∷ length (t .pairs) / 2 ∷ length (t .lanes) / 10 ∷ length (t .edges) / 12 ∷ []
+      ≡ reversalCounts (reversalContent t marks)
+  counted = counts-by (reversalContent t marks) t lengths-even
+
+  -- so the content fits where a table as long as each does
+  pub room-is : (outs : List ℕ) {enough : Bool} → enough ≡ fits (sixLengths t) outs
+      → enough ≡ fits (reversalLengths (reversalContent t marks)) outs
+  room-is outs e = e ∙ ap (λ (l : List ℕ). fits l outs) (sym lengths-even)
 
 -- ---- what an admission says of the tables
 pub record Facts (t : Tables) (marks : List ℕ) : Type 0 where
@@ -169,7 +132,7 @@ facts t marks e =
       whole = fine-whole t f .of-junctions;
     }
 
-module _ (t : Tables) (marks : List ℕ) (f : Facts t marks) (heads next owner kheads knext : List ℕ)
+module _ (t : Tables) (marks : List ℕ) (f : Facts t marks) {heads next owner kheads knext : List ℕ}
     (linked : Linked (t .text) (t .roads) (t .lanes) heads next owner kheads knext) where
   pub ready : length heads ≡ 16384 → length next ≡ 16384 → Ready (t .text) (t .roads) marks heads next
   ready a b = record { few = f .few-roads; even = f .even-marks; buckets = a; links = b; named = linked .named }
@@ -193,7 +156,7 @@ module _ (t : Tables) (marks : List ℕ) (f : Facts t marks) (heads next owner k
 
   contentBy : (Span → Bool) → ReversalOutputs
   contentBy mk =
-      sixOf (roadWords (map (reverseRoad mk) (roadsOf t))) (sectionWords (map (reverseRoad mk) (roadsOf t)))
+      outputs (roadWords (map (reverseRoad mk) (roadsOf t))) (sectionWords (map (reverseRoad mk) (roadsOf t)))
       (connectionWords (map (reverseJunction mk) (Rattle.model.specs.Tables.junctionsOf t)))
       (pairWords (map (reverseJunction mk) (Rattle.model.specs.Tables.junctionsOf t)))
       (laneWords (map (reverseLane (sameIn (t .text)) mk (roadsOf t)) (lanesIn (t .lanes))))
@@ -201,14 +164,8 @@ module _ (t : Tables) (marks : List ℕ) (f : Facts t marks) (heads next owner k
 
   -- WHAT THE LOOPS WRITE is what reversal has to write
   pub content-is : reversalContent t marks
-      ≡ sixOf (joined (length (t .roads) / 20) (turnedRoad (t .text) (t .roads) marks))
-      (joined (length (t .roads) / 20) (turnedSections (t .roads) (t .sections) marks))
-      (joined (length (t .connections) / 7) (turnedConnection (t .text) (t .roads) marks (t .connections)))
-      (joined (length (t .connections) / 7)
-      (turnedPairs (t .text) (t .roads) marks (t .connections) (t .pairs)))
-      (joined (length (t .lanes) / 10) (turnedLane (t .text) (t .roads) (t .sections) marks (t .lanes) owner))
-      (joined (length (t .edges) / 12) (turnedEdges owner marks (t .edges)))
-  unfolding reversalContent reverseMap mapOf contentBy connectionWords pairWords allPairs edgedLanesOf
+      ≡ turnedTables (t .text) (t .roads) (t .sections) (t .connections) (t .pairs) (t .lanes) (t .edges) marks owner
+  unfolding reversalContent reverseMap mapOf contentBy connectionWords pairWords allPairs edgedLanesOf turnedTables
   content-is =
       let mk = markOf (t .text) (t .roads) marks in
       let turned =
@@ -255,56 +212,24 @@ module _ (t : Tables) (marks : List ℕ) (f : Facts t marks) (heads next owner k
     low = owner-low;
   }
 
-  -- the outputs after the writers
-  pub outs-are : (o : ReversalOutputs) {x y z u v : List ℕ} {w : List Float}
-      → x ≡ written (joined (length (t .roads) / 20) (turnedRoad (t .text) (t .roads) marks)) (o .roads) →
-      y ≡ written (joined (length (t .roads) / 20) (turnedSections (t .roads) (t .sections) marks)) (o .sections) →
-      z
-      ≡ written
-      (joined (length (t .connections) / 7) (turnedConnection (t .text) (t .roads) marks (t .connections)))
-      (o .connections) →
-      u
-      ≡ written (joined (length (t .connections) / 7)
-      (turnedPairs (t .text) (t .roads) marks (t .connections) (t .pairs))) (o .pairs) →
-      v
-      ≡ written
-      (joined (length (t .lanes) / 10) (turnedLane (t .text) (t .roads) (t .sections) marks (t .lanes) owner))
-      (o .lanes) →
-      w ≡ written (joined (length (t .edges) / 12) (turnedEdges owner marks (t .edges))) (o .edges)
-      → sixOf x y z u v w ≡ putReversed (reversalContent t marks) o
-  unfolding putReversed
-  outs-are o a b c d e g =
-      (λ i. sixOf (a i) (b i) (c i) (d i) (e i) (g i))
-      ∙ ap (λ (c : ReversalOutputs). putReversed c o) (sym content-is)
-
--- the counts, and room for each table
-pub counts-are : (t : Tables) (marks : List ℕ) (o : ReversalOutputs) → none ≡ firstBroken (reversalRules t marks) →
-    length (t .roads) / 20 ∷ length (t .sections) ∷ length (t .connections) / 7 ∷ length (t .pairs) / 2
-    ∷ length (t .lanes) / 10 ∷ length (t .edges) / 12 ∷ [] ≡ reversalCounts (reversalContent t marks)
-counts-are t marks o e = sym (counts-by (reversalContent t marks) t (lengths-six t marks o e))
-
+-- ---- room
 pub and-true : (b : Bool) → b ≡ (b && true)
 and-true true = refl
 and-true false = refl
 
-pub room-six : (a b c d e g a′ b′ c′ d′ e′ g′ : ℕ)
-    → fits (a ∷ b ∷ c ∷ d ∷ e ∷ g ∷ []) (a′ ∷ b′ ∷ c′ ∷ d′ ∷ e′ ∷ g′ ∷ []) ≡ true
-    → (a ≤ a′) × (b ≤ b′) × (c ≤ c′) × (d ≤ d′) × (e ≤ e′) × (g ≤ g′)
-room-six a b c d e g a′ b′ c′ d′ e′ g′ h =
-    let p6 = leb g g′ && true in
-    let p5 = leb e e′ && p6 in
-    let p4 = leb d d′ && p5 in
-    let p3 = leb c c′ && p4 in
-    let p2 = leb b b′ && p3 in
-    let h2 = right-on (leb a a′) p2 h in
-    let h3 = right-on (leb b b′) p3 h2 in
-    let h4 = right-on (leb c c′) p4 h3 in
-    let h5 = right-on (leb d d′) p5 h4 in
-    let h6 = right-on (leb e e′) p6 h5 in (
-      leb-true a a′ (left-on (leb a a′) p2 h),
-      leb-true b b′ (left-on (leb b b′) p3 h2),
-      leb-true c c′ (left-on (leb c c′) p4 h3),
-      leb-true d d′ (left-on (leb d d′) p5 h4),
-      leb-true e e′ (left-on (leb e e′) p6 h5),
-      leb-true g g′ (left-on (leb g g′) true h6),
-    )
+-- content that fits does so output by output
+fits-at : (i : ℕ) (contents outs : List ℕ) → fits contents outs ≡ true → getD contents i 0 ≤ getD outs i 0
+fits-at zero [] outs fit = omega arith
+fits-at (suc i) [] outs fit = omega arith
+fits-at zero (k ∷ ks) [] fit = absurd (false≢true fit)
+fits-at (suc i) (k ∷ ks) [] fit = absurd (false≢true fit)
+fits-at zero (k ∷ ks) (n ∷ ns) fit = leb-true k n (left-on (leb k n) (fits ks ns) fit)
+fits-at (suc i) (k ∷ ks) (n ∷ ns) fit = fits-at i ks ns (right-on (leb k n) (fits ks ns) fit)
+
+pub room : (tables outs : ReversalOutputs) → fits (reversalLengths tables) (reversalLengths outs) ≡ true
+    → Room tables outs
+unfolding reversalLengths
+room tables outs fit =
+    let each : (i : ℕ) → getD (reversalLengths tables) i 0 ≤ getD (reversalLengths outs) i 0 =
+    λ i. fits-at i (reversalLengths tables) (reversalLengths outs) fit in
+    record { roads = each 0; sections = each 1; connections = each 2; pairs = each 3; lanes = each 4; edges = each 5 }

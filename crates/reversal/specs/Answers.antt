@@ -2,7 +2,7 @@
 use Prim.Native.Nat.{ℕ}
 use mathlib.Core.List.{List, [], _∷_}
 use lib.Ieee.{Float}
-use Rattle.model.specs.Calls.{Answer, refused, wrote, Outcome, ReversalOutputs}
+use Rattle.model.specs.Calls.{Answer, refused, wrote, ReversalOutputs}
 use Rattle.model.specs.Rules.{refusalWord}
 use Rattle.tables.specs.Verdicts.{refusalOf}
 use Rattle.reversal.specs.declared.call.Reversed.{Reversed}
@@ -13,12 +13,8 @@ abbrev pub answerOf : Reversed → Answer
 answerOf (Written n) = wrote (n .roads ∷ n .sections ∷ n .connections ∷ n .pairs ∷ n .lanes ∷ n .edges ∷ [])
 answerOf (Refused v) = refused (refusalWord (refusalOf v))
 
--- six outputs
-abbrev pub sixOf : (roads sections connections pairs lanes : List ℕ) → List Float → ReversalOutputs
-sixOf roads sections connections pairs lanes edges =
+-- the six outputs, as lent or as left
+abbrev pub outputs : (roads sections connections pairs lanes : List ℕ) → List Float → ReversalOutputs
+outputs roads sections connections pairs lanes edges =
     record
     { roads = roads; sections = sections; connections = connections; pairs = pairs; lanes = lanes; edges = edges }
-
--- the answer, and the outputs after the call
-abbrev pub outcomeOf : Reversed → ReversalOutputs → Outcome ReversalOutputs
-outcomeOf q outs = record { answer = answerOf q; outs = outs }

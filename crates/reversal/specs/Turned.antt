@@ -9,6 +9,7 @@ use lib.ListN.{length, getD}
 use Rattle.geometry.specs.Edges.{endsAt}
 use Rattle.geometry.specs.Gap.{startOf, endOf, swapped}
 use Rattle.geometry.specs.declared.segment.Point.{Point}
+use Rattle.model.specs.Calls.{ReversalOutputs}
 use Rattle.model.specs.Lists.{ascends, headOr, lastOr}
 use Rattle.model.specs.Records.{Span}
 use Rattle.model.specs.Reversal.{signed, mirror, mirrored}
@@ -152,8 +153,23 @@ unfoldable pub turnedEdges : (owner marks : List ℕ) → List Float → ℕ →
 turnedEdges owner marks edges i =
     floatsOf (cond (markAt marks (getD owner i 0)) (swapped (endsAt edges i)) (endsAt edges i))
 
--- ---- what the writers ask: the roads linked by name, parts in their places, each lane's road known
-pub record Writable (text roads sections connections pairs lanes : List ℕ) (edges : List Float) (marks heads next owner : List ℕ) : Type 0 where
+-- ---- all six
+-- WHAT REVERSAL WRITES, row by row
+unfoldable pub turnedTables : (text roads sections connections pairs lanes : List ℕ) → List Float
+    → (marks owner : List ℕ) → ReversalOutputs
+turnedTables text roads sections connections pairs lanes edges marks owner = record {
+  roads = joined (length roads / 20) (turnedRoad text roads marks);
+  sections = joined (length roads / 20) (turnedSections roads sections marks);
+  connections = joined (length connections / 7) (turnedConnection text roads marks connections);
+  pairs = joined (length connections / 7) (turnedPairs text roads marks connections pairs);
+  lanes = joined (length lanes / 10) (turnedLane text roads sections marks lanes owner);
+  edges = joined (length edges / 12) (turnedEdges owner marks edges);
+}
+
+-- ---- what the writers ask
+-- the roads are linked by name, parts are in their places, each lane's road is known
+pub record Writable (text roads sections connections pairs lanes : List ℕ) (edges : List Float)
+    (marks heads next owner : List ℕ) : Type 0 where
   pub ready : Ready text roads marks heads next
   pub parts : partsFit 18 19 0 (length sections) (table 20 roads) ≡ true
   pub up : all (length roads / 20) (λ i. ascends (numbersAt roads sections i)) ≡ true
@@ -164,3 +180,12 @@ pub record Writable (text roads sections connections pairs lanes : List ℕ) (ed
   pub owners : length owner ≡ 16384
   pub kept : (i : ℕ) → i < length lanes / 10 → Kept roads sections lanes owner i
   pub low : (i : ℕ) → i < length edges / 12 → getD owner i 0 ≤ length marks
+
+-- each output is as long as the table whose rows it gets
+pub record Room (tables outs : ReversalOutputs) : Type 0 where
+  pub roads : length (tables .roads) ≤ length (outs .roads)
+  pub sections : length (tables .sections) ≤ length (outs .sections)
+  pub connections : length (tables .connections) ≤ length (outs .connections)
+  pub pairs : length (tables .pairs) ≤ length (outs .pairs)
+  pub lanes : length (tables .lanes) ≤ length (outs .lanes)
+  pub edges : length (tables .edges) ≤ length (outs .edges)

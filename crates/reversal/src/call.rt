@@ -8,15 +8,11 @@ use tables::verdict::reversal_verdict;
 use words::tests::both;
 ghost use mathlib.Core.Path.{_≡_};
 ghost use mathlib.Core.List.{[], _∷_};
-ghost use Prim.Native.Nat.{_/_, _≤_};
-ghost use lib.ListN.{length};
-ghost use Rattle.model.specs.Rows.{written};
 ghost use Rattle.model.specs.Tables.{allTables};
 ghost use Rattle.model.specs.Rules.{fits};
-ghost use Rattle.model.specs.Calls.{reversalCall};
-ghost use Rattle.words.specs.Rows.{joined};
-ghost use Rattle.reversal.specs.Turned.{Writable, turnedConnection, turnedEdges, turnedLane, turnedPairs, turnedRoad, turnedSections};
-ghost use Rattle.reversal.specs.Answers.{outcomeOf, sixOf};
+ghost use Rattle.model.specs.Calls.{ReversalOutputs, outcome, putReversed, reversalCall};
+ghost use Rattle.reversal.specs.Turned.{Room, Writable, turnedTables};
+ghost use Rattle.reversal.specs.Answers.{answerOf, outputs};
 
 // How many rows were written to each output.
 pub struct Counts {
@@ -49,7 +45,8 @@ fn enough(
     outlanes: usize,
     outedges: usize,
 ) -> bool
-    ensures { λ q. ⌜ q ≡ fits (roads ∷ sections ∷ connections ∷ pairs ∷ lanes ∷ edges ∷ []) (outroads ∷ outsections ∷ outconnections ∷ outpairs ∷ outlanes ∷ outedges ∷ []) ⌝ }
+    ensures { λ q. ⌜ q ≡ fits (roads ∷ sections ∷ connections ∷ pairs ∷ lanes ∷ edges ∷ [])
+        (outroads ∷ outsections ∷ outconnections ∷ outpairs ∷ outlanes ∷ outedges ∷ []) ⌝ }
 {
     let a = edges <= outedges;
     let b = both(lanes <= outlanes, a);
@@ -79,9 +76,17 @@ fn write_all(
     outlanes: &mut [u32],
     outedges: &mut [f32],
 )
-    requires { ⌜ Writable (now text) (now roads) (now sections) (now connections) (now pairs) (now lanes) (now edges) (now marks) (now heads) (now next) (now owner) ⌝ }
-    requires { ⌜ (length (now roads) ≤ length (now outroads)) × (length (now sections) ≤ length (now outsections)) × (length (now connections) ≤ length (now outconnections)) × (length (now pairs) ≤ length (now outpairs)) × (length (now lanes) ≤ length (now outlanes)) × (length (now edges) ≤ length (now outedges)) ⌝ }
-    ensures { λ _. ⌜ (now (outroads .exit) ≡ written (joined (length (now (roads .entry)) / 20) (turnedRoad (now (text .entry)) (now (roads .entry)) (now (marks .entry)))) (now (outroads .entry))) × (now (outsections .exit) ≡ written (joined (length (now (roads .entry)) / 20) (turnedSections (now (roads .entry)) (now (sections .entry)) (now (marks .entry)))) (now (outsections .entry))) × (now (outconnections .exit) ≡ written (joined (length (now (connections .entry)) / 7) (turnedConnection (now (text .entry)) (now (roads .entry)) (now (marks .entry)) (now (connections .entry)))) (now (outconnections .entry))) × (now (outpairs .exit) ≡ written (joined (length (now (connections .entry)) / 7) (turnedPairs (now (text .entry)) (now (roads .entry)) (now (marks .entry)) (now (connections .entry)) (now (pairs .entry)))) (now (outpairs .entry))) × (now (outlanes .exit) ≡ written (joined (length (now (lanes .entry)) / 10) (turnedLane (now (text .entry)) (now (roads .entry)) (now (sections .entry)) (now (marks .entry)) (now (lanes .entry)) (now (owner .entry)))) (now (outlanes .entry))) × (now (outedges .exit) ≡ written (joined (length (now (edges .entry)) / 12) (turnedEdges (now (owner .entry)) (now (marks .entry)) (now (edges .entry)))) (now (outedges .entry))) ⌝ }
+    ghost { ReversalOutputs }
+    requires { λ content. ⌜ turnedTables (now text) (now roads) (now sections) (now connections) (now pairs) (now lanes)
+        (now edges) (now marks) (now owner) ≡ content ⌝ }
+    requires { λ _. ⌜ Writable (now text) (now roads) (now sections) (now connections) (now pairs) (now lanes) (now edges)
+        (now marks) (now heads) (now next) (now owner) ⌝ }
+    requires { λ _. ⌜ Room (outputs (now roads) (now sections) (now connections) (now pairs) (now lanes) (now edges))
+        (outputs (now outroads) (now outsections) (now outconnections) (now outpairs) (now outlanes) (now outedges)) ⌝ }
+    ensures { λ content _. ⌜ outputs (now (outroads .exit)) (now (outsections .exit)) (now (outconnections .exit))
+        (now (outpairs .exit)) (now (outlanes .exit)) (now (outedges .exit))
+        ≡ putReversed content (outputs (now (outroads .entry)) (now (outsections .entry)) (now (outconnections .entry))
+        (now (outpairs .entry)) (now (outlanes .entry)) (now (outedges .entry))) ⌝ }
 {
     roads::put_roads(text, roads, heads, next, marks, outroads);
     roads::put_sections(roads, sections, marks, outsections);
@@ -128,7 +133,13 @@ pub fn reverse(
     outlanes: &mut [u32],
     outedges: &mut [f32],
 ) -> Reversed
-    ensures { λ q. ⌜ outcomeOf q (sixOf (now (outroads .exit)) (now (outsections .exit)) (now (outconnections .exit)) (now (outpairs .exit)) (now (outlanes .exit)) (now (outedges .exit))) ≡ reversalCall (allTables (now (text .entry)) (now (roads .entry)) (now (sections .entry)) (now (junctions .entry)) (now (connections .entry)) (now (pairs .entry)) (now (lanes .entry)) (now (edges .entry))) (now (marks .entry)) (sixOf (now (outroads .entry)) (now (outsections .entry)) (now (outconnections .entry)) (now (outpairs .entry)) (now (outlanes .entry)) (now (outedges .entry))) ⌝ }
+    ensures { λ q. ⌜ outcome (answerOf q) (outputs (now (outroads .exit)) (now (outsections .exit)) (now (outconnections .exit))
+        (now (outpairs .exit)) (now (outlanes .exit)) (now (outedges .exit)))
+        ≡ reversalCall (allTables (now (text .entry)) (now (roads .entry)) (now (sections .entry)) (now (junctions .entry))
+        (now (connections .entry)) (now (pairs .entry)) (now (lanes .entry)) (now (edges .entry)))
+        (now (marks .entry))
+        (outputs (now (outroads .entry)) (now (outsections .entry)) (now (outconnections .entry)) (now (outpairs .entry))
+        (now (outlanes .entry)) (now (outedges .entry))) ⌝ }
 {
     let mut heads = [0u32; 16384];
     let mut next = [0u32; 16384];

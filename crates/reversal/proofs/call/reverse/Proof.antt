@@ -1,19 +1,58 @@
 use Prim.Native.Nat.{ℕ}
-use mathlib.Core.Path.{sym, _∙_}
-use lib.ListN.{length, length-replicate}
+use mathlib.Core.Bool.{true, false}
+use mathlib.Core.List.{List}
+use mathlib.Core.Option.{none}
+use mathlib.Core.Path.{_≡_, sym, ap, _∙_}
+use native.Mathlib.Omega.{arith}
+use lib.ListN.{length-replicate}
 use borrow.Author.Needs.{needs}
 use borrow.Author.Tests.{not-true, not-false}
-use Rattle.model.specs.Calls.{reversalLengths}
-use Rattle.model.specs.Tables.{allTables}
+use Rattle.model.specs.Calls.{ReversalOutputs, putReversed, reversalCall, reversalContent, reversalLengths}
+use Rattle.model.specs.Calls.{reversalRules, reversalWriting}
+use Rattle.model.specs.Rules.{firstBroken}
+use Rattle.model.specs.Tables.{Tables, allTables}
 use Rattle.laws.proofs.WordsReversed.{sixLengths}
 use Rattle.words.proofs.Chains.{fresh}
-use Rattle.tables.specs.Verdicts.{refusalOf}
-use Rattle.tables.proofs.Order.{is-none, is-some}
-use Rattle.reversal.specs.Answers.{sixOf}
-use Rattle.reversal.proofs.CallLaws.{counts-are, facts, outs-are, reversal-refused, reversal-short}
-use Rattle.reversal.proofs.CallLaws.{reversal-written, room-six, writable}
+use Rattle.tables.specs.Verdicts.{admits, refusalOf}
+use Rattle.tables.specs.declared.verdict.Verdict.{Verdict}
+use Rattle.tables.proofs.Called.{all-written, call-admitted, call-refused, too-short}
+use Rattle.tables.proofs.Order.{is-none}
+use Rattle.reversal.specs.Answers.{outputs}
+use Rattle.reversal.proofs.CallLaws.{content-is, counted, facts, room, room-is, writable}
 use Rattle.reversal.proofs.call.reverse.Statement.{statement}
 use Rattle.reversal.proofs.call.reverse.Tie as tie
+
+-- ---- what is lent: the tables, the marks, the outputs
+module _ (start : tie.Start) where
+  abbrev tables : Tables
+  tables = let a = start .args in
+      allTables (a .text .now) (a .roads .now) (a .sections .now) (a .junctions .now) (a .connections .now)
+      (a .pairs .now) (a .lanes .now) (a .edges .now)
+
+  abbrev marks : List ℕ
+  marks = start .args .marks .now
+
+  abbrev content : ReversalOutputs
+  content = reversalContent tables marks
+
+  abbrev lent : ReversalOutputs
+  lent = let a = start .args in
+      outputs (a .outroads .now) (a .outsections .now) (a .outconnections .now) (a .outpairs .now)
+      (a .outlanes .now) (a .outedges .now)
+
+-- ---- what the verdict says of them
+module _ (judged : tie.After-reversal-verdict) where
+  abbrev start : tie.Start
+  start = search
+
+  abbrev verdict : Verdict
+  verdict = judged .reversal-verdict .result
+
+  first-rule : refusalOf verdict ≡ firstBroken (reversalRules (tables start) (marks start))
+  first-rule = judged .reversal-verdict .ensures .0
+
+  no-rule : admits verdict ≡ true → none ≡ firstBroken (reversalRules (tables start) (marks start))
+  no-rule free = sym (is-none (refusalOf verdict) free) ∙ first-rule
 
 slice-aggregate-reversal-verdict : tie.Need-slice-aggregate-reversal-verdict
 slice-aggregate-reversal-verdict c = search needs
@@ -31,58 +70,40 @@ slice-aggregate-reversal-verdict-5 : tie.Need-slice-aggregate-reversal-verdict-5
 slice-aggregate-reversal-verdict-5 c = search needs
 
 reversal-verdict-requires : tie.Need-reversal-verdict-requires
-reversal-verdict-requires c κs = (
-  fresh,
-  (
-    length-replicate {A = ℕ} 16384 0,
-    fresh,
-  ),
-)
+reversal-verdict-requires c κs = (fresh, (length-replicate {A = ℕ} 16384 0, fresh))
 
 admitted-requires : tie.Need-admitted-requires
 admitted-requires c κs = search needs
 
+-- refused by the verdict
 returns : tie.Need-returns
+unfolding reversalCall
 returns c =
-    let after-admitted : tie.After-admitted = search in
-    let after-reversal-verdict : tie.After-reversal-verdict = search in
-    let after-slice-known5 = after-reversal-verdict .before .before .before .before .before .before .before in
-    let after-shared-slice-known7 = after-slice-known5 .before .before .before .before .before .before .before in
-    let start = after-shared-slice-known7 .before .before .before .before .before .before .before in
-    let t = (allTables (start .args .text .now) (start .args .roads .now) (start .args .sections .now)
-    (start .args .junctions .now) (start .args .connections .now) (start .args .pairs .now)
-    (start .args .lanes .now) (start .args .edges .now)) in
-    let ms = start .args .marks .now in
-    reversal-refused t ms (sixOf (start .args .outroads .now) (start .args .outsections .now)
-    (start .args .outconnections .now) (start .args .outpairs .now) (start .args .outlanes .now)
-    (start .args .outedges .now)) (after-reversal-verdict .reversal-verdict .result)
-    (is-some (refusalOf (after-reversal-verdict .reversal-verdict .result))
-    (sym (after-admitted .admitted .ensures) ∙ not-true _ (c .if1 .taken)))
-    (after-reversal-verdict .reversal-verdict .ensures .0)
+    let asked : tie.After-admitted = search in
+    let judged : tie.After-reversal-verdict = search in
+    let begun = start judged in
+    let barred = sym (asked .admitted .ensures) ∙ not-true _ (c .if1 .taken) in
+    call-refused reversalWriting (reversalRules (tables begun) (marks begun)) (content begun) (lent begun)
+    (verdict judged) barred (first-rule judged)
 
 enough-requires : tie.Need-enough-requires
 enough-requires c κs = search needs
 
+-- 9
 returns-2 : tie.Need-returns-2
-unfolding sixLengths reversalLengths
+unfolding reversalCall reversalLengths sixLengths
 returns-2 c =
-    let after-enough : tie.After-enough = search in
-    let else1 : tie.Else1 = search in
-    let after-admitted : tie.After-admitted = search in
-    let after-reversal-verdict : tie.After-reversal-verdict = search in
-    let after-slice-known5 = after-reversal-verdict .before .before .before .before .before .before .before in
-    let after-shared-slice-known7 = after-slice-known5 .before .before .before .before .before .before .before in
-    let start = after-shared-slice-known7 .before .before .before .before .before .before .before in
-    let t = (allTables (start .args .text .now) (start .args .roads .now) (start .args .sections .now)
-    (start .args .junctions .now) (start .args .connections .now) (start .args .pairs .now)
-    (start .args .lanes .now) (start .args .edges .now)) in
-    let ms = start .args .marks .now in
-    let adm = is-none (refusalOf (after-reversal-verdict .reversal-verdict .result))
-    (sym (after-admitted .admitted .ensures) ∙ not-false _ (else1 .if1 .left)) in
-    let first = sym adm ∙ after-reversal-verdict .reversal-verdict .ensures .0 in
-    reversal-short t ms (sixOf (start .args .outroads .now) (start .args .outsections .now)
-    (start .args .outconnections .now) (start .args .outpairs .now) (start .args .outlanes .now)
-    (start .args .outedges .now)) first (sym (after-enough .enough .ensures) ∙ not-true _ (c .if2 .taken))
+    let measured : tie.After-enough = search in
+    let past : tie.Else1 = search in
+    let asked : tie.After-admitted = search in
+    let judged : tie.After-reversal-verdict = search in
+    let begun = start judged in
+    let free = sym (asked .admitted .ensures) ∙ not-false _ (past .if1 .left) in
+    let fit = room-is (tables begun) (marks begun) (no-rule judged free) (reversalLengths (lent begun))
+    (measured .enough .ensures) in
+    too-short reversalWriting (content begun) (lent begun) (sym fit ∙ not-true _ (c .if2 .taken))
+    ∙ call-admitted reversalWriting (reversalRules (tables begun) (marks begun)) (content begun) (lent begun)
+    (verdict judged) free (first-rule judged)
 
 slice-aggregate-write-all : tie.Need-slice-aggregate-write-all
 slice-aggregate-write-all c = search needs
@@ -94,42 +115,22 @@ slice-aggregate-write-all-3 : tie.Need-slice-aggregate-write-all-3
 slice-aggregate-write-all-3 c = search needs
 
 write-all-requires : tie.Need-write-all-requires
+unfolding reversalLengths
 write-all-requires c κs =
-    let else2 : tie.Else2 = search in
-    let after-enough : tie.After-enough = search in
-    let else1 : tie.Else1 = search in
-    let after-admitted : tie.After-admitted = search in
-    let after-reversal-verdict : tie.After-reversal-verdict = search in
-    let after-slice-known5 = after-reversal-verdict .before .before .before .before .before .before .before in
-    let after-shared-slice-known7 = after-slice-known5 .before .before .before .before .before .before .before in
-    let start = after-shared-slice-known7 .before .before .before .before .before .before .before in
-    let roads = start .args .roads .now in let sections = start .args .sections .now in
-    let connections = start .args .connections .now in let pairs = start .args .pairs .now in
-    let lanes = start .args .lanes .now in let edges = start .args .edges .now in
-    let t = (allTables (start .args .text .now) roads sections (start .args .junctions .now) connections
-    pairs lanes edges) in
-    let ms = start .args .marks .now in
-    let adm = is-none (refusalOf (after-reversal-verdict .reversal-verdict .result))
-    (sym (after-admitted .admitted .ensures) ∙ not-false _ (else1 .if1 .left)) in
-    let first = sym adm ∙ after-reversal-verdict .reversal-verdict .ensures .0 in (
-      writable t ms (facts t ms first)
-          (after-reversal-verdict .reversal-verdict .last .1 .1 .1 .1 .1 .1 .1 .1 .1 .0)
-          (after-reversal-verdict .reversal-verdict .last .1 .1 .1 .1 .1 .1 .1 .1 .1 .1 .0)
-          (after-reversal-verdict .reversal-verdict .last .1 .1 .1 .1 .1 .1 .1 .1 .1 .1 .1 .0)
-          (after-reversal-verdict .reversal-verdict .last .1 .1 .1 .1 .1 .1 .1 .1 .1 .1 .1 .1 .0)
-          (after-reversal-verdict .reversal-verdict .last .1 .1 .1 .1 .1 .1 .1 .1 .1 .1 .1 .1 .1 .0)
-          (after-reversal-verdict .reversal-verdict .ensures .1 adm)
-          (after-reversal-verdict .reversal-verdict .kept .1 .1 .1 .1 .1 .1 .1 .1 .1 .0
-          ∙ length-replicate {A = ℕ} 16384 0)
-          (after-reversal-verdict .reversal-verdict .kept .1 .1 .1 .1 .1 .1 .1 .1 .1 .1 .0
-          ∙ length-replicate {A = ℕ} 16384 0)
-          (after-reversal-verdict .reversal-verdict .kept .1 .1 .1 .1 .1 .1 .1 .1 .1 .1 .1 .0
-          ∙ length-replicate {A = ℕ} 16384 0),
-      (room-six (length roads) (length sections) (length connections) (length pairs) (length lanes)
-          (length edges) (length (start .args .outroads .now)) (length (start .args .outsections .now))
-          (length (start .args .outconnections .now)) (length (start .args .outpairs .now))
-          (length (start .args .outlanes .now)) (length (start .args .outedges .now))
-          (sym (after-enough .enough .ensures) ∙ not-false _ (else2 .if2 .left))),
+    let roomy : tie.Else2 = search in
+    let measured : tie.After-enough = search in
+    let past : tie.Else1 = search in
+    let asked : tie.After-admitted = search in
+    let judged : tie.After-reversal-verdict = search in
+    let begun = start judged in
+    let free = sym (asked .admitted .ensures) ∙ not-false _ (past .if1 .left) in
+    let known = facts (tables begun) (marks begun) (no-rule judged free) in
+    let linked = judged .reversal-verdict .ensures .1 (is-none _ free) in
+    let kept = judged .reversal-verdict .kept in
+    let full = length-replicate {A = ℕ} 16384 0 in (
+      writable (tables begun) (marks begun) known linked
+          (omega (arith, full, kept)) (omega (arith, full, kept)) (omega (arith, full, kept)),
+      room _ _ (sym (measured .enough .ensures) ∙ not-false _ (roomy .if2 .left)),
     )
 
 same-length : tie.Need-same-length
@@ -150,39 +151,28 @@ same-length-5 c = search needs
 same-length-6 : tie.Need-same-length-6
 same-length-6 c = search needs
 
+-- written
 returns-3 : tie.Need-returns-3
-unfolding sixLengths reversalLengths
+unfolding reversalCall reversalLengths sixLengths
 returns-3 c =
-    let after-write-all : tie.After-write-all = search in
-    let else2 : tie.Else2 = search in
-    let after-enough : tie.After-enough = search in
-    let else1 : tie.Else1 = search in
-    let after-admitted : tie.After-admitted = search in
-    let after-reversal-verdict : tie.After-reversal-verdict = search in
-    let after-slice-known5 = after-reversal-verdict .before .before .before .before .before .before .before in
-    let after-shared-slice-known7 = after-slice-known5 .before .before .before .before .before .before .before in
-    let start = after-shared-slice-known7 .before .before .before .before .before .before .before in
-    let outroads = start .args .outroads .now in let outsections = start .args .outsections .now in
-    let outconnections = start .args .outconnections .now in let outpairs = start .args .outpairs .now in
-    let outlanes = start .args .outlanes .now in let outedges = start .args .outedges .now in
-    let sixOf′ = sixOf outroads outsections outconnections outpairs outlanes outedges in
-    let t = (allTables (start .args .text .now) (start .args .roads .now) (start .args .sections .now)
-    (start .args .junctions .now) (start .args .connections .now) (start .args .pairs .now)
-    (start .args .lanes .now) (start .args .edges .now)) in
-    let ms = start .args .marks .now in
-    let adm = is-none (refusalOf (after-reversal-verdict .reversal-verdict .result))
-    (sym (after-admitted .admitted .ensures) ∙ not-false _ (else1 .if1 .left)) in
-    let first = sym adm ∙ after-reversal-verdict .reversal-verdict .ensures .0 in
-    let w = after-write-all .write-all .ensures in
-    reversal-written t ms sixOf′ first (sym (after-enough .enough .ensures) ∙ not-false _ (else2 .if2 .left))
-    (counts-are t ms sixOf′ first)
-    (outs-are t ms (facts t ms first)
-    (after-reversal-verdict .reversal-verdict .last .1 .1 .1 .1 .1 .1 .1 .1 .1 .0)
-    (after-reversal-verdict .reversal-verdict .last .1 .1 .1 .1 .1 .1 .1 .1 .1 .1 .0)
-    (after-reversal-verdict .reversal-verdict .last .1 .1 .1 .1 .1 .1 .1 .1 .1 .1 .1 .0)
-    (after-reversal-verdict .reversal-verdict .last .1 .1 .1 .1 .1 .1 .1 .1 .1 .1 .1 .1 .0)
-    (after-reversal-verdict .reversal-verdict .last .1 .1 .1 .1 .1 .1 .1 .1 .1 .1 .1 .1 .1 .0)
-    (after-reversal-verdict .reversal-verdict .ensures .1 adm) sixOf′ (w .0) (w .1) (w .2) (w .3) (w .4) (w .5))
+    let wrote : tie.After-write-all = search in
+    let roomy : tie.Else2 = search in
+    let measured : tie.After-enough = search in
+    let past : tie.Else1 = search in
+    let asked : tie.After-admitted = search in
+    let judged : tie.After-reversal-verdict = search in
+    let begun = start judged in
+    let t = tables begun in
+    let free = sym (asked .admitted .ensures) ∙ not-false _ (past .if1 .left) in
+    let clear = no-rule judged free in
+    let fit = room-is t (marks begun) clear (reversalLengths (lent begun)) (measured .enough .ensures) in
+    let linked = judged .reversal-verdict .ensures .1 (is-none _ free) in
+    let turned = content-is t (marks begun) (facts t (marks begun) clear) linked in
+    all-written reversalWriting (content begun) (lent begun) (sym fit ∙ not-false _ (roomy .if2 .left))
+    (counted t (marks begun) clear)
+    (wrote .write-all .ensures ∙ ap (λ (new : ReversalOutputs). putReversed new (lent begun)) (sym turned))
+    ∙ call-admitted reversalWriting (reversalRules t (marks begun)) (content begun) (lent begun)
+    (verdict judged) free (first-rule judged)
 
 pub reverse-spec : {M : Type 1} → statement M
 reverse-spec =
