@@ -14,10 +14,9 @@ use Rattle.model.specs.Lists.{ascends, every}
 use Rattle.model.specs.Records.{Lane}
 use Rattle.model.specs.Rows.{partsFit, table}
 use Rattle.model.specs.Rules.{connectionPartsFit, firstBroken, lanesSized, mapSized, pairPartsFit}
-use Rattle.model.specs.Rules.{sectionPartsFit, sectionsAscend}
+use Rattle.model.specs.Rules.{same, sectionPartsFit, sectionsAscend}
 use Rattle.model.specs.Succession.{exits}
-use Rattle.model.specs.Tables.{Tables, laneIn, laneTables, lanesIn, lanesOf, mapOf, roadsIn}
-use Rattle.model.specs.Text.{sameIn}
+use Rattle.model.specs.Tables.{Tables, laneIn, lanesIn, lanesOf, mapOf, roadsIn}
 use Rattle.laws.proofs.Bound.{sumOf}
 use Rattle.laws.proofs.Offsets.{exits-limit}
 use Rattle.laws.proofs.RulesReversed.{Passes, all-pass}
@@ -31,10 +30,10 @@ use Rattle.rules.proofs.Fits.{part-in}
 use Rattle.rules.proofs.Forms.{identities-once, lanes-listed, lanes-tab, roads-once, sections-ascend}
 use Rattle.rules.proofs.Places.{keys-once}
 use Rattle.succession.specs.Runs.{Rising}
-use Rattle.succession.specs.ByRow.{Sound, exitsByRow, laneAt, rowsOf, successorsByRow}
+use Rattle.succession.specs.ByRow.{Rows, Sound, exitsByRow, laneAt, rowsOf, successorsByRow}
 use Rattle.succession.specs.Named.{Ended, Named, Sided, junctionRowOf, targetRowOf}
 use Rattle.succession.specs.Finished.{exitCount}
-use Rattle.succession.specs.Outcome.{ownList}
+use Rattle.succession.specs.Answers.{ownList}
 use Rattle.succession.proofs.ByName.{owner-known}
 use Rattle.succession.proofs.Bridge.{Ruled, exits-by-row, successors-by-row}
 use Rattle.succession.proofs.Spreads.{total-plus}
@@ -99,212 +98,224 @@ unfolding tab total sumOf
 sum-tab f zero g = refl
 sum-tab f (suc n) g = sum-snoc f (tab n g) (g n) ∙ ap (λ (k : ℕ). k + f (g n)) (sum-tab f n g)
 
-module _ (text roads sections junctions connections pairs lanes : List ℕ)
-    (h : firstBroken (successionRules (laneTables text roads sections junctions connections pairs lanes)) ≡ none)
-  where
-    abbrev T : Tables
-    T = laneTables text roads sections junctions connections pairs lanes
+-- ---- tables that break no rule of the call
+module _ (t : Tables) (admitted : firstBroken (successionRules t) ≡ none) where
+  abbrev text : List ℕ
+  text = t .text
 
-    rules : Passes (successionRules T)
-    rules = all-pass (successionRules T) h
+  abbrev roads : List ℕ
+  roads = t .roads
 
-    sizes : (mapSized 16384 T ≡ true) × (lanesSized T ≡ true)
+  abbrev sections : List ℕ
+  sections = t .sections
+
+  abbrev junctions : List ℕ
+  junctions = t .junctions
+
+  abbrev connections : List ℕ
+  connections = t .connections
+
+  abbrev pairs : List ℕ
+  pairs = t .pairs
+
+  abbrev lanes : List ℕ
+  lanes = t .lanes
+
+  rules : Passes (successionRules t)
+  rules = all-pass (successionRules t) admitted
+
+  sizes : (mapSized 16384 t ≡ true) × (lanesSized t ≡ true)
+  unfolding successionRules rulesTo5 laneRules
+  sizes = (
+    left-on (mapSized 16384 t) (lanesSized t) (rules .0),
+    right-on (mapSized 16384 t) (lanesSized t) (rules .0),
+  )
+
+  pub fewer : Few roads sections connections pairs
+  fewer = few 16384 t (le-refl 16384) (sizes .0)
+
+  pub fewer-junctions : length junctions / 5 ≤ 16384
+  fewer-junctions = junctions-few 16384 t (sizes .0)
+
+  pub fewer-lanes : length lanes / 10 ≤ 16384
+  fewer-lanes = lanes-few t (sizes .1)
+
+  pub names-single : any (length roads / 20) (nameBefore text 20 0 roads) ≡ false
+  unfolding successionRules rulesTo5 laneRules
+  names-single =
+      not-true (any (length roads / 20) (nameBefore text 20 0 roads))
+      (sym (roads-once text roads sections) ∙ rules .1 .1 .0)
+
+  sections-good : (partsFit 18 19 0 (length sections) (table 20 roads) ≡ true)
+      × (all (length roads / 20) (λ i. ascends (numbersAt roads sections i)) ≡ true)
+  unfolding successionRules rulesTo5 laneRules sectionPartsFit
+  sections-good = (
+    left-on (partsFit 18 19 0 (length sections) (table 20 roads)) (sectionsAscend (roadsIn sections roads))
+        (rules .1 .1 .1 .0),
+    sym (sections-ascend roads sections)
+        ∙ right-on (partsFit 18 19 0 (length sections) (table 20 roads))
+        (sectionsAscend (roadsIn sections roads)) (rules .1 .1 .1 .0),
+  )
+
+  pub parts-good : (partsFit 3 4 0 (length connections / 7) (table 5 junctions) ≡ true)
+      × (partsFit 5 6 0 (length pairs / 2) (table 7 connections) ≡ true)
+  unfolding successionRules rulesTo5 laneRules connectionPartsFit pairPartsFit
+  parts-good = (
+    left-on (partsFit 3 4 0 (length connections / 7) (table 5 junctions))
+        (partsFit 5 6 0 (length pairs / 2) (table 7 connections)) (rules .1 .1 .1 .1 .0),
+    right-on (partsFit 3 4 0 (length connections / 7) (table 5 junctions))
+        (partsFit 5 6 0 (length pairs / 2) (table 7 connections)) (rules .1 .1 .1 .1 .0),
+  )
+
+  pub ids-single : any (length lanes / 10) (idBefore lanes) ≡ false
+  unfolding successionRules rulesTo5 laneRules
+  ids-single =
+      not-true (any (length lanes / 10) (idBefore lanes))
+      (sym (identities-once lanes) ∙ rules .1 .1 .1 .1 .1 .0)
+
+  lanes-known : all (length lanes / 10) (listedAt text roads sections lanes) ≡ true
+  unfolding successionRules rulesTo5 laneRules
+  lanes-known = sym (lanes-listed text roads sections lanes) ∙ rules .1 .1 .1 .1 .1 .1 .0
+
+  pub ends-sum : (e : Bool)
+      → total (length lanes / 10) (λ i. length (exits (same t) (mapOf t) (laneAt lanes i) e)) ≤ 32768
+  ends-sum e =
+      let a = exits-limit t admitted e in
+      let b : sumOf (λ (l : Lane). length (exits (same t) (mapOf t) l e)) (lanesOf t)
+      ≡ total (length lanes / 10) (λ i. length (exits (same t) (mapOf t) (laneAt lanes i) e)) = over in
+      omega arith
+    where
+      over : sumOf (λ (l : Lane). length (exits (same t) (mapOf t) l e)) (lanesOf t)
+          ≡ total (length lanes / 10) (λ i. length (exits (same t) (mapOf t) (laneAt lanes i) e))
+      over =
+          unfold lanesIn laneAt in (ap (sumOf (λ (l : Lane). length (exits (same t) (mapOf t) l e)))
+          (lanes-tab lanes)
+          ∙ sum-tab (λ (l : Lane). length (exits (same t) (mapOf t) l e)) (length lanes / 10)
+          (λ i. laneIn (from 10 lanes i)))
+
+  -- with what the checks left linked
+  module _ {heads next owner kheads knext : List ℕ}
+      (L : Linked text roads lanes heads next owner kheads knext) where
+    keys-single : any (length lanes / 10) (keyBefore lanes owner) ≡ false
     unfolding successionRules rulesTo5 laneRules
-    sizes = (
-      left-on (mapSized 16384 T) (lanesSized T) (rules .0),
-      right-on (mapSized 16384 T) (lanesSized T) (rules .0),
-    )
+    keys-single =
+        not-true (any (length lanes / 10) (keyBefore lanes owner))
+        (sym (keys-once text roads sections lanes owner lanes-known (L .owned)) ∙ rules .1 .1 .1 .1 .1 .1 .1 .0)
 
-    pub fewer : Few roads sections connections pairs
-    fewer = few 16384 T (le-refl 16384) (sizes .0)
+    pub ruled : Ruled text roads sections junctions connections pairs lanes owner
+    ruled = record {
+      once = names-single;
+      listed = lanes-known;
+      keys = keys-single;
+      connection-parts = part-in 5 3 4 (length connections / 7) junctions (omega arith) (omega arith) (parts-good .0);
+      pair-parts = part-in 7 5 6 (length pairs / 2) connections (omega arith) (omega arith) (parts-good .1);
+    }
 
-    pub fewer-junctions : length junctions / 5 ≤ 16384
-    fewer-junctions = junctions-few 16384 T (sizes .0)
+    -- and with the rows that connections and targets name
+    module _ {sides ends : List ℕ} (S : Sided text roads connections (length connections / 7) sides)
+        (E : Ended text roads junctions (length roads / 20) ends) (lo : length owner ≡ 16384) (lh : length kheads ≡ 16384) (ln : length knext ≡ 16384)
+        (ls : length sides ≡ 32768) (le : length ends ≡ 32768) where
+      abbrev rows : Rows
+      rows = rowsOf roads sections junctions connections pairs lanes owner sides ends
 
-    pub fewer-lanes : length lanes / 10 ≤ 16384
-    fewer-lanes = lanes-few T (sizes .1)
+      pub named : Named text roads junctions connections lanes owner sides ends
+      named = record { owned = L .owned; sided = S; ended = E }
 
-    pub names-single : any (length roads / 20) (nameBefore text 20 0 roads) ≡ false
-    unfolding successionRules rulesTo5 laneRules
-    names-single =
-        not-true (any (length roads / 20) (nameBefore text 20 0 roads))
-        (sym (roads-once text roads sections) ∙ rules .1 .1 .0)
+      road-low : (n : Rattle.model.specs.Records.Span) → roadRowOf text roads n ≤ length roads / 20
+      unfolding roadRowOf
+      road-low n = last-le (length roads / 20) (bears text 20 0 roads n)
 
-    sections-good : (partsFit 18 19 0 (length sections) (table 20 roads) ≡ true)
-        × (all (length roads / 20) (λ i. ascends (numbersAt roads sections i)) ≡ true)
-    unfolding successionRules rulesTo5 laneRules sectionPartsFit
-    sections-good = (
-      left-on (partsFit 18 19 0 (length sections) (table 20 roads)) (sectionsAscend (roadsIn sections roads))
-          (rules .1 .1 .1 .0),
-      sym (sections-ascend roads sections)
-          ∙ right-on (partsFit 18 19 0 (length sections) (table 20 roads))
-          (sectionsAscend (roadsIn sections roads)) (rules .1 .1 .1 .0),
-    )
-
-    pub parts-good : (partsFit 3 4 0 (length connections / 7) (table 5 junctions) ≡ true)
-        × (partsFit 5 6 0 (length pairs / 2) (table 7 connections) ≡ true)
-    unfolding successionRules rulesTo5 laneRules connectionPartsFit pairPartsFit
-    parts-good = (
-      left-on (partsFit 3 4 0 (length connections / 7) (table 5 junctions))
-          (partsFit 5 6 0 (length pairs / 2) (table 7 connections)) (rules .1 .1 .1 .1 .0),
-      right-on (partsFit 3 4 0 (length connections / 7) (table 5 junctions))
-          (partsFit 5 6 0 (length pairs / 2) (table 7 connections)) (rules .1 .1 .1 .1 .0),
-    )
-
-    pub ids-single : any (length lanes / 10) (idBefore lanes) ≡ false
-    unfolding successionRules rulesTo5 laneRules
-    ids-single =
-        not-true (any (length lanes / 10) (idBefore lanes))
-        (sym (identities-once lanes) ∙ rules .1 .1 .1 .1 .1 .0)
-
-    lanes-known : all (length lanes / 10) (listedAt text roads sections lanes) ≡ true
-    unfolding successionRules rulesTo5 laneRules
-    lanes-known = sym (lanes-listed text roads sections lanes) ∙ rules .1 .1 .1 .1 .1 .1 .0
-
-    pub ends-sum : (e : Bool)
-        → total (length lanes / 10) (λ i. length (exits (sameIn text) (mapOf T) (laneAt lanes i) e)) ≤ 32768
-    ends-sum e =
-        let a = exits-limit T h e in
-        let b : sumOf (λ (l : Lane). length (exits (sameIn text) (mapOf T) l e)) (lanesOf T)
-        ≡ total (length lanes / 10) (λ i. length (exits (sameIn text) (mapOf T) (laneAt lanes i) e)) = over in
-        omega arith
-      where
-        over : sumOf (λ (l : Lane). length (exits (sameIn text) (mapOf T) l e)) (lanesOf T)
-            ≡ total (length lanes / 10) (λ i. length (exits (sameIn text) (mapOf T) (laneAt lanes i) e))
-        over =
-            unfold lanesIn laneAt in (ap (sumOf (λ (l : Lane). length (exits (sameIn text) (mapOf T) l e)))
-            (lanes-tab lanes)
-            ∙ sum-tab (λ (l : Lane). length (exits (sameIn text) (mapOf T) l e)) (length lanes / 10)
-            (λ i. laneIn (from 10 lanes i)))
-
-    module _ (heads next owner kheads knext : List ℕ) (L : Linked text roads lanes heads next owner kheads knext) where
-      keys-single : any (length lanes / 10) (keyBefore lanes owner) ≡ false
-      unfolding successionRules rulesTo5 laneRules
-      keys-single =
-          not-true (any (length lanes / 10) (keyBefore lanes owner))
-          (sym (keys-once text roads sections lanes owner lanes-known (L .owned)) ∙ rules .1 .1 .1 .1 .1 .1 .1 .0)
-
-      pub ruled : Ruled text roads sections junctions connections pairs lanes owner
-      ruled = record {
-        once = names-single;
-        listed = lanes-known;
-        keys = keys-single;
-        connection-parts = part-in 5 3 4 (length connections / 7) junctions (omega arith) (omega arith) (parts-good .0);
-        pair-parts = part-in 7 5 6 (length pairs / 2) connections (omega arith) (omega arith) (parts-good .1);
+      pub sound : Sound roads sections junctions connections pairs lanes owner sides ends kheads knext
+      sound = record {
+        few = fewer-lanes;
+        few-roads = fewer .few-roads;
+        owner-long = let a = fewer-lanes in omega arith;
+        owner-low = λ l ll. positive (getD owner l 0)
+            (owner-known text roads sections lanes owner (L .owned) lanes-known l ll);
+        owner-high = λ l ll. subst (λ (k : ℕ). k ≤ length roads / 20) (sym (L .owned .at l ll)) (road-low _);
+        sides-long = let a = fewer .few-connections in omega arith;
+        sides-high = λ c lc. subst (λ (k : ℕ). k ≤ length roads / 20) (sym (S .connecting c lc)) (road-low _);
+        ends-long = let a = fewer .few-roads in omega arith;
+        road-ends = road-end;
+        junction-ends = junction-end;
+        section-parts = part-in 20 18 19 (length sections) roads (omega arith) (omega arith) (sections-good .0);
+        rising = λ r lr. ascend-rise (numbersAt roads sections r)
+            (all-at (length roads / 20) r (λ i. ascends (numbersAt roads sections i)) (sections-good .1) lr);
+        connection-parts = ruled .connection-parts;
+        pair-parts = ruled .pair-parts;
+        buckets = lh;
+        links = let a = fewer-lanes in omega arith;
+        chained = L .keyed;
       }
+        where
+          positive : (k : ℕ) → (k ≡ 0 → ⊥) → 0 < k
+          positive k n = omega arith
 
-      module _ (sides ends : List ℕ) (S : Sided text roads connections (length connections / 7) sides) (E : Ended text roads junctions (length roads / 20) ends)
-          (lo : length owner ≡ 16384) (lh : length kheads ≡ 16384) (ln : length knext ≡ 16384)
-          (ls : length sides ≡ 32768) (le : length ends ≡ 32768) where
-        pub named : Named text roads junctions connections lanes owner sides ends
-        named = record { owned = L .owned; sided = S; ended = E }
+          road-end : (r k : ℕ) → r < length roads / 20 → k < 2
+              → eqb (getD roads (r * 20 + (5 + k * 7)) 0) 1 ≡ false
+              → getD ends (r * 2 + k) 0 ≤ length roads / 20
+          road-end r zero lr lk e =
+              subst (λ (j : ℕ). j ≤ length roads / 20)
+              (sym
+              (ap (λ (j : ℕ). getD ends j 0) (let q : r * 2 + 0 ≡ r * 2 = omega arith in q) ∙ E .start r lr))
+              (target-road-low text roads junctions (r * 20 + 4)
+              (ap (λ (j : ℕ). eqb (getD roads j 0) 1) (add-assoc (r * 20) 4 1) ∙ e))
+          road-end r (suc zero) lr lk e =
+              subst (λ (j : ℕ). j ≤ length roads / 20) (sym (E .end r lr))
+              (target-road-low text roads junctions (r * 20 + 11)
+              (ap (λ (j : ℕ). eqb (getD roads j 0) 1) (add-assoc (r * 20) 11 1) ∙ e))
+          road-end r (suc (suc k)) lr lk e = absurd (omega arith)
 
-        road-low : (n : Rattle.model.specs.Records.Span) → roadRowOf text roads n ≤ length roads / 20
-        unfolding roadRowOf
-        road-low n = last-le (length roads / 20) (bears text 20 0 roads n)
+          junction-end : (r k : ℕ) → r < length roads / 20 → k < 2
+              → eqb (getD roads (r * 20 + (5 + k * 7)) 0) 1 ≡ true
+              → getD ends (r * 2 + k) 0 ≤ length junctions / 5
+          junction-end r zero lr lk e =
+              subst (λ (j : ℕ). j ≤ length junctions / 5)
+              (sym
+              (ap (λ (j : ℕ). getD ends j 0) (let q : r * 2 + 0 ≡ r * 2 = omega arith in q) ∙ E .start r lr))
+              (target-junction-low text roads junctions (r * 20 + 4)
+              (ap (λ (j : ℕ). eqb (getD roads j 0) 1) (add-assoc (r * 20) 4 1) ∙ e))
+          junction-end r (suc zero) lr lk e =
+              subst (λ (j : ℕ). j ≤ length junctions / 5) (sym (E .end r lr))
+              (target-junction-low text roads junctions (r * 20 + 11)
+              (ap (λ (j : ℕ). eqb (getD roads j 0) 1) (add-assoc (r * 20) 11 1) ∙ e))
+          junction-end r (suc (suc k)) lr lk e = absurd (omega arith)
 
-        pub sound : Sound roads sections junctions connections pairs lanes owner sides ends kheads knext
-        sound = record {
-          few = fewer-lanes;
-          few-roads = fewer .few-roads;
-          owner-long = let a = fewer-lanes in omega arith;
-          owner-low = λ l ll. positive (getD owner l 0)
-              (owner-known text roads sections lanes owner (L .owned) lanes-known l ll);
-          owner-high = λ l ll. subst (λ (k : ℕ). k ≤ length roads / 20) (sym (L .owned .at l ll)) (road-low _);
-          sides-long = let a = fewer .few-connections in omega arith;
-          sides-high = λ c lc. subst (λ (k : ℕ). k ≤ length roads / 20) (sym (S .connecting c lc)) (road-low _);
-          ends-long = let a = fewer .few-roads in omega arith;
-          road-ends = road-end;
-          junction-ends = junction-end;
-          section-parts = part-in 20 18 19 (length sections) roads (omega arith) (omega arith) (sections-good .0);
-          rising = λ r lr. ascend-rise (numbersAt roads sections r)
-              (all-at (length roads / 20) r (λ i. ascends (numbersAt roads sections i)) (sections-good .1) lr);
-          connection-parts = ruled .connection-parts;
-          pair-parts = ruled .pair-parts;
-          buckets = lh;
-          links = let a = fewer-lanes in omega arith;
-          chained = L .keyed;
-        }
-          where
-            positive : (k : ℕ) → (k ≡ 0 → ⊥) → 0 < k
-            positive k n = omega arith
+      pub own-is : (l : ℕ) → l < length lanes / 10
+          → successorsByRow rows l
+          ≡ ownList t l
+      unfolding ownList mapOf
+      own-is l ll =
+          successors-by-row text roads sections junctions connections pairs lanes owner sides ends named ruled l
+          ll
 
-            road-end : (r k : ℕ) → r < length roads / 20 → k < 2
-                → eqb (getD roads (r * 20 + (5 + k * 7)) 0) 1 ≡ false
-                → getD ends (r * 2 + k) 0 ≤ length roads / 20
-            road-end r zero lr lk e =
-                subst (λ (j : ℕ). j ≤ length roads / 20)
-                (sym
-                (ap (λ (j : ℕ). getD ends j 0) (let q : r * 2 + 0 ≡ r * 2 = omega arith in q) ∙ E .start r lr))
-                (target-road-low text roads junctions (r * 20 + 4)
-                (ap (λ (j : ℕ). eqb (getD roads j 0) 1) (add-assoc (r * 20) 4 1) ∙ e))
-            road-end r (suc zero) lr lk e =
-                subst (λ (j : ℕ). j ≤ length roads / 20) (sym (E .end r lr))
-                (target-road-low text roads junctions (r * 20 + 11)
-                (ap (λ (j : ℕ). eqb (getD roads j 0) 1) (add-assoc (r * 20) 11 1) ∙ e))
-            road-end r (suc (suc k)) lr lk e = absurd (omega arith)
+      ends-few : (e : Bool)
+          → total (length lanes / 10)
+          (λ l. length (exitsByRow rows l e)) ≤ 32768
+      ends-few e =
+          let a = ends-sum e in
+          let d : total (length lanes / 10)
+          (λ l. length (exitsByRow rows l e))
+          ≡ total (length lanes / 10) (λ i. length (exits (same t) (mapOf t) (laneAt lanes i) e)) =
+          by-row in
+          omega arith
+        where
+          by-row : total (length lanes / 10)
+              (λ l. length (exitsByRow rows l e))
+              ≡ total (length lanes / 10) (λ i. length (exits (same t) (mapOf t) (laneAt lanes i) e))
+          by-row =
+              unfold mapOf in total-same (length lanes / 10)
+              (λ l. length (exitsByRow rows l e))
+              (λ i. length (exits (same t) (mapOf t) (laneAt lanes i) e))
+              (λ l ll.
+              ap length (exits-by-row text roads sections junctions connections pairs lanes owner sides ends
+              named ruled l ll e))
 
-            junction-end : (r k : ℕ) → r < length roads / 20 → k < 2
-                → eqb (getD roads (r * 20 + (5 + k * 7)) 0) 1 ≡ true
-                → getD ends (r * 2 + k) 0 ≤ length junctions / 5
-            junction-end r zero lr lk e =
-                subst (λ (j : ℕ). j ≤ length junctions / 5)
-                (sym
-                (ap (λ (j : ℕ). getD ends j 0) (let q : r * 2 + 0 ≡ r * 2 = omega arith in q) ∙ E .start r lr))
-                (target-junction-low text roads junctions (r * 20 + 4)
-                (ap (λ (j : ℕ). eqb (getD roads j 0) 1) (add-assoc (r * 20) 4 1) ∙ e))
-            junction-end r (suc zero) lr lk e =
-                subst (λ (j : ℕ). j ≤ length junctions / 5) (sym (E .end r lr))
-                (target-junction-low text roads junctions (r * 20 + 11)
-                (ap (λ (j : ℕ). eqb (getD roads j 0) 1) (add-assoc (r * 20) 11 1) ∙ e))
-            junction-end r (suc (suc k)) lr lk e = absurd (omega arith)
-
-        pub own-is : (l : ℕ) → l < length lanes / 10
-            → successorsByRow (rowsOf roads sections junctions connections pairs lanes owner sides ends) l
-            ≡ ownList text roads sections junctions connections pairs lanes l
-        unfolding ownList mapOf
-        own-is l ll =
-            successors-by-row text roads sections junctions connections pairs lanes owner sides ends named ruled l
-            ll
-
-        ends-few : (e : Bool)
-            → total (length lanes / 10)
-            (λ l.
-            length (exitsByRow (rowsOf roads sections junctions connections pairs lanes owner sides ends) l e)) ≤
-            32768
-        ends-few e =
-            let a = ends-sum e in
-            let d : total (length lanes / 10)
-            (λ l.
-            length (exitsByRow (rowsOf roads sections junctions connections pairs lanes owner sides ends) l e))
-            ≡ total (length lanes / 10) (λ i. length (exits (sameIn text) (mapOf T) (laneAt lanes i) e)) =
-            by-row in
-            omega arith
-          where
-            by-row : total (length lanes / 10)
-                (λ l.
-                length
-                (exitsByRow (rowsOf roads sections junctions connections pairs lanes owner sides ends) l e))
-                ≡ total (length lanes / 10) (λ i. length (exits (sameIn text) (mapOf T) (laneAt lanes i) e))
-            by-row =
-                unfold mapOf in total-same (length lanes / 10)
-                (λ l.
-                length
-                (exitsByRow (rowsOf roads sections junctions connections pairs lanes owner sides ends) l e))
-                (λ i. length (exits (sameIn text) (mapOf T) (laneAt lanes i) e))
-                (λ l ll.
-                ap length (exits-by-row text roads sections junctions connections pairs lanes owner sides ends
-                named ruled l ll e))
-
-        pub exits-fit : total (length lanes / 10)
-            (exitCount (rowsOf roads sections junctions connections pairs lanes owner sides ends)) ≤ 65536
-        exits-fit = let a = ends-few true in let b = ends-few false in
-            let d = total-plus (length lanes / 10)
-            (λ l.
-            length
-            (exitsByRow (rowsOf roads sections junctions connections pairs lanes owner sides ends) l true))
-            (λ l.
-            length
-            (exitsByRow (rowsOf roads sections junctions connections pairs lanes owner sides ends) l false))
-            (exitCount (rowsOf roads sections junctions connections pairs lanes owner sides ends)) (λ l. refl) in
-            omega arith
+      pub exits-fit : total (length lanes / 10)
+          (exitCount rows) ≤ 65536
+      exits-fit = let a = ends-few true in let b = ends-few false in
+          let d = total-plus (length lanes / 10)
+          (λ l. length (exitsByRow rows l true))
+          (λ l. length (exitsByRow rows l false))
+          (exitCount rows) (λ l. refl) in
+          omega arith

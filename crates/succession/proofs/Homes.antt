@@ -12,7 +12,7 @@ use lib.ListN.{length, getD, drop, set}
 use lib.Seq.{getD-set-same, getD-set-other}
 use borrow.Author.Tests.{eqb-true, le-leb, lt-leb}
 use Rattle.model.specs.Rows.{partsFit, table}
-use Rattle.words.specs.Chain.{Chained}
+use Rattle.words.specs.Chain.{Chained, Empty}
 use Rattle.words.specs.Rows.{lastOf, total}
 use Rattle.words.proofs.Chains.{chained-none, last-hit, last-miss, link-turn}
 use Rattle.words.proofs.Laws.{total-le, total-more, total-none}
@@ -100,13 +100,12 @@ module _ (n : ℕ) (junctions : List ℕ) (fit : partsFit 3 4 0 n (table 5 junct
 
   -- ---- all parts, from the last one down
   module _ (sides : List ℕ) where
-    pub chains-begin : (heads next : List ℕ) (j : ℕ) → ((b : ℕ) → b < length heads → getD heads b 0 ≡ 0)
-        → j ≡ length junctions / 5
+    pub chains-begin : (heads next : List ℕ) (j : ℕ) → Empty heads next → j ≡ length junctions / 5
         → Chained (connectionHash junctions sides n) (n - startAt junctions j) heads next
-    chains-begin heads next j z e = subst (λ (k : ℕ). Chained (connectionHash junctions sides n) k heads next)
+    chains-begin heads next j empty e = subst (λ (k : ℕ). Chained (connectionHash junctions sides n) k heads next)
         (let a = whole-is in
         let b = ap (startAt junctions) e in let q : 0 ≡ n - startAt junctions j = omega arith in q)
-        (chained-none (connectionHash junctions sides n) heads next z)
+        (chained-none (connectionHash junctions sides n) empty)
 
     pub chains-part : (heads next : List ℕ) (j : ℕ) → 0 < j → j ≤ length junctions / 5
         → Chained (connectionHash junctions sides n) (n - startAt junctions j) heads next

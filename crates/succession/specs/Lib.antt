@@ -5,4 +5,3 @@ pub mod Named
 pub mod Packs
 pub mod Finished
 pub mod Answers
-pub mod Outcome

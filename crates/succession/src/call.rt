@@ -10,13 +10,14 @@ use tables::verdict::Verdict;
 use words::index;
 ghost use mathlib.Core.Path.{_≡_};
 ghost use mathlib.Core.Bool.{false};
+ghost use mathlib.Core.List.{List};
 ghost use mathlib.Core.Option.{none};
 ghost use Prim.Native.Nat.{ℕ, _+_, _/_, _≤_, _<_};
 ghost use lib.ListN.{length};
-ghost use Rattle.model.specs.Calls.{listLengths, longEnough, putLists, settled, successionCall, successionRules};
+ghost use Rattle.model.specs.Calls.{listWriting, outcome, successionCall, successionRules, writtenOr9};
 ghost use Rattle.model.specs.Lookup.{listPart};
 ghost use Rattle.model.specs.Rules.{firstBroken};
-ghost use Rattle.model.specs.Tables.{laneTables};
+ghost use Rattle.model.specs.Tables.{Tables, laneTables};
 ghost use Rattle.words.specs.Rows.{any, total};
 ghost use Rattle.words.specs.Chain.{Chained};
 ghost use Rattle.words.specs.Keys.{idBefore, idHash, nameHash};
@@ -26,7 +27,7 @@ ghost use Rattle.succession.specs.Runs.{Rising};
 ghost use Rattle.succession.specs.Named.{Ended, Sided};
 ghost use Rattle.succession.specs.Packs.{AsMany, Filled, listersOf, startOf};
 ghost use Rattle.succession.specs.Finished.{bothLong, finishedAt};
-ghost use Rattle.succession.specs.Outcome.{contentOf, onwardAt, outcomeOf, outputs, ownList};
+ghost use Rattle.succession.specs.Answers.{answerOf, contentOf, onwardAt, outputs, ownList};
 
 // Fills `sides` and `ends` with the rows that connections and targets name.
 fn link_rows(
@@ -39,9 +40,14 @@ fn link_rows(
     sides: &mut [u32],
     ends: &mut [u32],
 )
-    requires { ⌜ (length (now roads) / 20 ≤ 16384) × (length (now heads) ≡ 16384) × (length (now next) ≡ 16384) × (length (now junctions) / 5 ≤ 16384) × (length (now connections) / 7 ≤ 16384) × (length (now sides) ≡ 32768) × (length (now ends) ≡ 32768) ⌝ }
+    requires { ⌜ (length (now roads) / 20 ≤ 16384) × (length (now heads) ≡ 16384) × (length (now next) ≡ 16384)
+        × (length (now junctions) / 5 ≤ 16384) × (length (now connections) / 7 ≤ 16384)
+        × (length (now sides) ≡ 32768) × (length (now ends) ≡ 32768) ⌝ }
     requires { ⌜ Chained (nameHash (now text) 20 0 (now roads)) (length (now roads) / 20) (now heads) (now next) ⌝ }
-    ensures { λ _. ⌜ Sided (now (text .entry)) (now (roads .entry)) (now (connections .entry)) (length (now (connections .entry)) / 7) (now (sides .exit)) × Ended (now (text .entry)) (now (roads .entry)) (now (junctions .entry)) (length (now (roads .entry)) / 20) (now (ends .exit)) ⌝ }
+    ensures { λ _. ⌜ Sided (now (text .entry)) (now (roads .entry)) (now (connections .entry))
+        (length (now (connections .entry)) / 7) (now (sides .exit))
+        × Ended (now (text .entry)) (now (roads .entry)) (now (junctions .entry))
+        (length (now (roads .entry)) / 20) (now (ends .exit)) ⌝ }
 {
     let mut jheads = [0u32; 16384];
     let mut jnext = [0u32; 16384];
@@ -68,10 +74,15 @@ fn find_own(
     offsets: &mut [u32],
     own: &mut [u32],
 )
-    requires { ⌜ firstBroken (successionRules (laneTables (now text) (now roads) (now sections) (now junctions) (now connections) (now pairs) (now lanes))) ≡ none ⌝ }
-    requires { ⌜ Linked (now text) (now roads) (now lanes) (now heads) (now next) (now owner) (now kheads) (now knext) ⌝ }
-    requires { ⌜ (length (now heads) ≡ 16384) × (length (now next) ≡ 16384) × (length (now owner) ≡ 16384) × (length (now kheads) ≡ 16384) × (length (now knext) ≡ 16384) × (length (now offsets) ≡ 16385) × (length (now own) ≡ 65536) ⌝ }
-    ensures { λ _. ⌜ Filled (length (now (lanes .entry)) / 10) (ownList (now (text .entry)) (now (roads .entry)) (now (sections .entry)) (now (junctions .entry)) (now (connections .entry)) (now (pairs .entry)) (now (lanes .entry))) (now (offsets .entry)) (now (own .entry)) (now (offsets .exit)) (now (own .exit)) ⌝ }
+    ghost { Tables }
+    requires { λ t. ⌜ laneTables (now text) (now roads) (now sections) (now junctions) (now connections) (now pairs) (now lanes) ≡ t ⌝ }
+    requires { λ t. ⌜ firstBroken (successionRules t) ≡ none ⌝ }
+    requires { λ _. ⌜ Linked (now text) (now roads) (now lanes) (now heads) (now next) (now owner) (now kheads) (now knext) ⌝ }
+    requires { λ _. ⌜ (length (now heads) ≡ 16384) × (length (now next) ≡ 16384) × (length (now owner) ≡ 16384)
+        × (length (now kheads) ≡ 16384) × (length (now knext) ≡ 16384)
+        × (length (now offsets) ≡ 16385) × (length (now own) ≡ 65536) ⌝ }
+    ensures { λ t _. ⌜ Filled (length (t .lanes) / 10) (ownList t)
+        (now (offsets .entry)) (now (own .entry)) (now (offsets .exit)) (now (own .exit)) ⌝ }
 {
     let mut sides = [0u32; 32768];
     let mut ends = [0u32; 32768];
@@ -117,9 +128,12 @@ fn resolve_own(
     offsets: &mut [u32],
     own: &mut [u32],
 ) -> Verdict
-    requires { ⌜ (length (now offsets) ≡ 16385) × (length (now own) ≡ 65536) ⌝ }
-    ensures { λ q. ⌜ refusalOf q ≡ firstBroken (successionRules (laneTables (now (text .entry)) (now (roads .entry)) (now (sections .entry)) (now (junctions .entry)) (now (connections .entry)) (now (pairs .entry)) (now (lanes .entry)))) ⌝ }
-    ensures { λ q. ⌜ (refusalOf q ≡ none → Filled (length (now (lanes .entry)) / 10) (ownList (now (text .entry)) (now (roads .entry)) (now (sections .entry)) (now (junctions .entry)) (now (connections .entry)) (now (pairs .entry)) (now (lanes .entry))) (now (offsets .entry)) (now (own .entry)) (now (offsets .exit)) (now (own .exit))) ⌝ }
+    ghost { Tables }
+    requires { λ t. ⌜ laneTables (now text) (now roads) (now sections) (now junctions) (now connections) (now pairs) (now lanes) ≡ t ⌝ }
+    requires { λ _. ⌜ (length (now offsets) ≡ 16385) × (length (now own) ≡ 65536) ⌝ }
+    ensures { λ t q. ⌜ refusalOf q ≡ firstBroken (successionRules t) ⌝ }
+    ensures { λ t q. ⌜ (refusalOf q ≡ none → Filled (length (t .lanes) / 10) (ownList t)
+        (now (offsets .entry)) (now (own .entry)) (now (offsets .exit)) (now (own .exit))) ⌝ }
 {
     let mut heads = [0u32; 16384];
     let mut next = [0u32; 16384];
@@ -162,8 +176,8 @@ fn resolve_own(
     v
 }
 
-// Writes the finished lists and the same read the other way, or refuses by 9 where an output is too short. A lane's own list is among (starts, ids),
-// who finds it by their own among (fstarts, fids).
+// Writes the finished lists and the same read the other way, or refuses by 9 where an output is too short.
+// A lane's own list is among (starts, ids), who finds it by their own among (fstarts, fids).
 fn put_lists(
     lanes: &[u32],
     heads: &[u32],
@@ -177,12 +191,19 @@ fn put_lists(
     predecessor_offsets: &mut [u32],
     predecessor_ids: &mut [u32],
 ) -> Succession
-    requires { ⌜ (length (now lanes) / 10 ≤ 16384) × (length (now heads) ≡ 16384) × (length (now lanes) / 10 ≤ length (now next)) ⌝ }
-    requires { ⌜ Chained (idHash (now lanes)) (length (now lanes) / 10) (now heads) (now next) ⌝ }
-    requires { ⌜ any (length (now lanes) / 10) (idBefore (now lanes)) ≡ false ⌝ }
-    requires { ⌜ ((l : ℕ) → l < (length (now lanes) / 10) → Rising (listPart (now starts) (now ids) l)) × (total (length (now lanes) / 10) (bothLong (now starts) (now ids) (now fstarts) (now fids)) ≤ 131072) ⌝ }
-    requires { ⌜ AsMany (now lanes) (finishedAt (now lanes) (now starts) (now ids) (now fstarts) (now fids)) ⌝ }
-    ensures { λ q. ⌜ outcomeOf q (outputs (now («successor_offsets» .exit)) (now («successor_ids» .exit)) (now («predecessor_offsets» .exit)) (now («predecessor_ids» .exit))) ≡ settled (firstBroken (longEnough (listLengths (contentOf (length (now (lanes .entry)) / 10) (finishedAt (now (lanes .entry)) (now (starts .entry)) (now (ids .entry)) (now (fstarts .entry)) (now (fids .entry))) (listersOf (now (lanes .entry)) (finishedAt (now (lanes .entry)) (now (starts .entry)) (now (ids .entry)) (now (fstarts .entry)) (now (fids .entry)))))) (listLengths (outputs (now («successor_offsets» .entry)) (now («successor_ids» .entry)) (now («predecessor_offsets» .entry)) (now («predecessor_ids» .entry)))))) (listLengths (contentOf (length (now (lanes .entry)) / 10) (finishedAt (now (lanes .entry)) (now (starts .entry)) (now (ids .entry)) (now (fstarts .entry)) (now (fids .entry))) (listersOf (now (lanes .entry)) (finishedAt (now (lanes .entry)) (now (starts .entry)) (now (ids .entry)) (now (fstarts .entry)) (now (fids .entry)))))) (putLists (contentOf (length (now (lanes .entry)) / 10) (finishedAt (now (lanes .entry)) (now (starts .entry)) (now (ids .entry)) (now (fstarts .entry)) (now (fids .entry))) (listersOf (now (lanes .entry)) (finishedAt (now (lanes .entry)) (now (starts .entry)) (now (ids .entry)) (now (fstarts .entry)) (now (fids .entry))))) (outputs (now («successor_offsets» .entry)) (now («successor_ids» .entry)) (now («predecessor_offsets» .entry)) (now («predecessor_ids» .entry)))) (outputs (now («successor_offsets» .entry)) (now («successor_ids» .entry)) (now («predecessor_offsets» .entry)) (now («predecessor_ids» .entry))) ⌝ }
+    ghost { ℕ → List ℕ }
+    requires { λ onward. ⌜ finishedAt (now lanes) (now starts) (now ids) (now fstarts) (now fids) ≡ onward ⌝ }
+    requires { λ _. ⌜ (length (now lanes) / 10 ≤ 16384) × (length (now heads) ≡ 16384) × (length (now lanes) / 10 ≤ length (now next)) ⌝ }
+    requires { λ _. ⌜ Chained (idHash (now lanes)) (length (now lanes) / 10) (now heads) (now next) ⌝ }
+    requires { λ _. ⌜ any (length (now lanes) / 10) (idBefore (now lanes)) ≡ false ⌝ }
+    requires { λ _. ⌜ ((l : ℕ) → l < (length (now lanes) / 10) → Rising (listPart (now starts) (now ids) l))
+        × (total (length (now lanes) / 10) (bothLong (now starts) (now ids) (now fstarts) (now fids)) ≤ 131072) ⌝ }
+    requires { λ onward. ⌜ AsMany (now lanes) onward ⌝ }
+    ensures { λ onward q. ⌜ outcome (answerOf q) (outputs (now («successor_offsets» .exit)) (now («successor_ids» .exit))
+        (now («predecessor_offsets» .exit)) (now («predecessor_ids» .exit)))
+        ≡ writtenOr9 listWriting (contentOf (length (now (lanes .entry)) / 10) onward (listersOf (now (lanes .entry)) onward))
+        (outputs (now («successor_offsets» .entry)) (now («successor_ids» .entry))
+        (now («predecessor_offsets» .entry)) (now («predecessor_ids» .entry))) ⌝ }
 {
     let n = lanes.len() / 10;
     let total = back::count_lists(lanes, heads, next, starts, ids, fstarts, fids);
@@ -231,9 +252,17 @@ fn write_lists(
     predecessor_offsets: &mut [u32],
     predecessor_ids: &mut [u32],
 ) -> Succession
-    requires { ⌜ (length (now lanes) / 10 ≤ 16384) × (any (length (now lanes) / 10) (idBefore (now lanes)) ≡ false) × ((l : ℕ) → l < (length (now lanes) / 10) → Rising (listPart (now starts) (now ids) l)) × (startOf (listPart (now starts) (now ids)) (length (now lanes) / 10) ≤ 65536) ⌝ }
-    requires { ⌜ AsMany (now lanes) (onwardAt (now lanes) (now starts) (now ids)) ⌝ }
-    ensures { λ q. ⌜ outcomeOf q (outputs (now («successor_offsets» .exit)) (now («successor_ids» .exit)) (now («predecessor_offsets» .exit)) (now («predecessor_ids» .exit))) ≡ settled (firstBroken (longEnough (listLengths (contentOf (length (now (lanes .entry)) / 10) (onwardAt (now (lanes .entry)) (now (starts .entry)) (now (ids .entry))) (listersOf (now (lanes .entry)) (onwardAt (now (lanes .entry)) (now (starts .entry)) (now (ids .entry)))))) (listLengths (outputs (now («successor_offsets» .entry)) (now («successor_ids» .entry)) (now («predecessor_offsets» .entry)) (now («predecessor_ids» .entry)))))) (listLengths (contentOf (length (now (lanes .entry)) / 10) (onwardAt (now (lanes .entry)) (now (starts .entry)) (now (ids .entry))) (listersOf (now (lanes .entry)) (onwardAt (now (lanes .entry)) (now (starts .entry)) (now (ids .entry)))))) (putLists (contentOf (length (now (lanes .entry)) / 10) (onwardAt (now (lanes .entry)) (now (starts .entry)) (now (ids .entry))) (listersOf (now (lanes .entry)) (onwardAt (now (lanes .entry)) (now (starts .entry)) (now (ids .entry))))) (outputs (now («successor_offsets» .entry)) (now («successor_ids» .entry)) (now («predecessor_offsets» .entry)) (now («predecessor_ids» .entry)))) (outputs (now («successor_offsets» .entry)) (now («successor_ids» .entry)) (now («predecessor_offsets» .entry)) (now («predecessor_ids» .entry))) ⌝ }
+    ghost { ℕ → List ℕ }
+    requires { λ onward. ⌜ onwardAt (now lanes) (now starts) (now ids) ≡ onward ⌝ }
+    requires { λ _. ⌜ (length (now lanes) / 10 ≤ 16384) × (any (length (now lanes) / 10) (idBefore (now lanes)) ≡ false)
+        × ((l : ℕ) → l < (length (now lanes) / 10) → Rising (listPart (now starts) (now ids) l))
+        × (startOf (listPart (now starts) (now ids)) (length (now lanes) / 10) ≤ 65536) ⌝ }
+    requires { λ onward. ⌜ AsMany (now lanes) onward ⌝ }
+    ensures { λ onward q. ⌜ outcome (answerOf q) (outputs (now («successor_offsets» .exit)) (now («successor_ids» .exit))
+        (now («predecessor_offsets» .exit)) (now («predecessor_ids» .exit)))
+        ≡ writtenOr9 listWriting (contentOf (length (now (lanes .entry)) / 10) onward (listersOf (now (lanes .entry)) onward))
+        (outputs (now («successor_offsets» .entry)) (now («successor_ids» .entry))
+        (now («predecessor_offsets» .entry)) (now («predecessor_ids» .entry))) ⌝ }
 {
     let n = lanes.len() / 10;
     let mut heads = [0u32; 16384];
@@ -271,7 +300,12 @@ pub fn succession(
     predecessor_offsets: &mut [u32],
     predecessor_ids: &mut [u32],
 ) -> Succession
-    ensures { λ q. ⌜ outcomeOf q (outputs (now («successor_offsets» .exit)) (now («successor_ids» .exit)) (now («predecessor_offsets» .exit)) (now («predecessor_ids» .exit))) ≡ successionCall (laneTables (now (text .entry)) (now (roads .entry)) (now (sections .entry)) (now (junctions .entry)) (now (connections .entry)) (now (pairs .entry)) (now (lanes .entry))) (outputs (now («successor_offsets» .entry)) (now («successor_ids» .entry)) (now («predecessor_offsets» .entry)) (now («predecessor_ids» .entry))) ⌝ }
+    ensures { λ q. ⌜ outcome (answerOf q) (outputs (now («successor_offsets» .exit)) (now («successor_ids» .exit))
+        (now («predecessor_offsets» .exit)) (now («predecessor_ids» .exit)))
+        ≡ successionCall (laneTables (now (text .entry)) (now (roads .entry)) (now (sections .entry))
+        (now (junctions .entry)) (now (connections .entry)) (now (pairs .entry)) (now (lanes .entry)))
+        (outputs (now («successor_offsets» .entry)) (now («successor_ids» .entry))
+        (now («predecessor_offsets» .entry)) (now («predecessor_ids» .entry))) ⌝ }
 {
     let mut offsets = [0u32; 16385];
     let mut own = [0u32; 65536];

@@ -12,7 +12,7 @@ ghost use Prim.Native.Nat.{_+_, _*_, _/_, _≤_, _<_};
 ghost use lib.Dec.{eqb};
 ghost use lib.ListN.{length, getD};
 ghost use Rattle.model.specs.Lists.{pick};
-ghost use Rattle.succession.specs.ByRow.{Resolved, Took, Room, Sound, rowsOf, crossByRow, exitsByRow};
+ghost use Rattle.succession.specs.ByRow.{Resolved, Took, Room, Rows, Sound, rowsOf, crossByRow, exitsByRow};
 ghost use Rattle.succession.specs.Meeting.{Meeting};
 
 // Past the end of lane l's road at the target from word `at` on, which names the row `to` (plus 1).
@@ -38,11 +38,16 @@ fn cross(
     run: &mut [u32],
     n: usize,
 ) -> usize
-    requires { ⌜ Sound (now roads) (now sections) (now junctions) (now connections) (now pairs) (now lanes) (now owner) (now sides) (now ends) (now heads) (now next) ⌝ }
-    requires { ⌜ Meeting (now junctions) (now connections) (now sides) (now mheads) (now mnext) ⌝ }
-    requires { ⌜ (l < length (now lanes) / 10) × (at + 4 < length (now roads)) × (link + 1 < length (now lanes)) × (eqb (getD (now roads) (at + 1) 0) 1 ≡ true → to ≤ length (now junctions) / 5) × (eqb (getD (now roads) (at + 1) 0) 1 ≡ false → to ≤ length (now roads) / 20) ⌝ }
-    requires { ⌜ Room n (crossByRow (rowsOf (now roads) (now sections) (now junctions) (now connections) (now pairs) (now lanes) (now owner) (now sides) (now ends)) l at to link) (now run) ⌝ }
-    ensures { λ q. ⌜ Took both n (crossByRow (rowsOf (now (roads .entry)) (now (sections .entry)) (now (junctions .entry)) (now (connections .entry)) (now (pairs .entry)) (now (lanes .entry)) (now (owner .entry)) (now (sides .entry)) (now (ends .entry))) l at to link) (now (run .entry)) (now (run .exit)) q ⌝ }
+    ghost { Rows }
+    requires { λ R. ⌜ rowsOf (now roads) (now sections) (now junctions) (now connections) (now pairs) (now lanes) (now owner) (now sides) (now ends) ≡ R ⌝ }
+    requires { λ _. ⌜ Sound (now roads) (now sections) (now junctions) (now connections) (now pairs) (now lanes)
+        (now owner) (now sides) (now ends) (now heads) (now next) ⌝ }
+    requires { λ _. ⌜ Meeting (now junctions) (now connections) (now sides) (now mheads) (now mnext) ⌝ }
+    requires { λ _. ⌜ (l < length (now lanes) / 10) × (at + 4 < length (now roads)) × (link + 1 < length (now lanes))
+        × (eqb (getD (now roads) (at + 1) 0) 1 ≡ true → to ≤ length (now junctions) / 5)
+        × (eqb (getD (now roads) (at + 1) 0) 1 ≡ false → to ≤ length (now roads) / 20) ⌝ }
+    requires { λ R. ⌜ Room n (crossByRow R l at to link) (now run) ⌝ }
+    ensures { λ R q. ⌜ Took both n (crossByRow R l at to link) (now (run .entry)) (now (run .exit)) q ⌝ }
 {
     if roads[at] != 1 {
         return n;
@@ -111,11 +116,17 @@ fn leave(
     run: &mut [u32],
     n: usize,
 ) -> usize
-    requires { ⌜ Sound (now roads) (now sections) (now junctions) (now connections) (now pairs) (now lanes) (now owner) (now sides) (now ends) (now heads) (now next) ⌝ }
-    requires { ⌜ Meeting (now junctions) (now connections) (now sides) (now mheads) (now mnext) ⌝ }
-    requires { ⌜ (l < length (now lanes) / 10) × (r .0 < length (now roads) / 20) × (link + 1 < length (now lanes)) ⌝ }
-    requires { ⌜ Room n (crossByRow (rowsOf (now roads) (now sections) (now junctions) (now connections) (now pairs) (now lanes) (now owner) (now sides) (now ends)) l (pick forward (r .0 * 20 + 4) (r .0 * 20 + 11)) (pick forward (getD (now ends) (r .0 * 2) 0) (getD (now ends) (r .0 * 2 + 1) 0)) link) (now run) ⌝ }
-    ensures { λ q. ⌜ Took both n (crossByRow (rowsOf (now (roads .entry)) (now (sections .entry)) (now (junctions .entry)) (now (connections .entry)) (now (pairs .entry)) (now (lanes .entry)) (now (owner .entry)) (now (sides .entry)) (now (ends .entry))) l (pick forward (r .0 * 20 + 4) (r .0 * 20 + 11)) (pick forward (getD (now (ends .entry)) (r .0 * 2) 0) (getD (now (ends .entry)) (r .0 * 2 + 1) 0)) link) (now (run .entry)) (now (run .exit)) q ⌝ }
+    ghost { Rows }
+    requires { λ R. ⌜ rowsOf (now roads) (now sections) (now junctions) (now connections) (now pairs) (now lanes) (now owner) (now sides) (now ends) ≡ R ⌝ }
+    requires { λ _. ⌜ Sound (now roads) (now sections) (now junctions) (now connections) (now pairs) (now lanes)
+        (now owner) (now sides) (now ends) (now heads) (now next) ⌝ }
+    requires { λ _. ⌜ Meeting (now junctions) (now connections) (now sides) (now mheads) (now mnext) ⌝ }
+    requires { λ _. ⌜ (l < length (now lanes) / 10) × (r .0 < length (now roads) / 20) × (link + 1 < length (now lanes)) ⌝ }
+    requires { λ R. ⌜ Room n (crossByRow R l (pick forward (r .0 * 20 + 4) (r .0 * 20 + 11))
+        (pick forward (getD (R .ends) (r .0 * 2) 0) (getD (R .ends) (r .0 * 2 + 1) 0)) link) (now run) ⌝ }
+    ensures { λ R q. ⌜ Took both n (crossByRow R l (pick forward (r .0 * 20 + 4) (r .0 * 20 + 11))
+        (pick forward (getD (R .ends) (r .0 * 2) 0) (getD (R .ends) (r .0 * 2 + 1) 0)) link)
+        (now (run .entry)) (now (run .exit)) q ⌝ }
 {
     let row = r.0 as usize;
     if forward {
@@ -187,11 +198,14 @@ fn exits(
     run: &mut [u32],
     n: usize,
 ) -> usize
-    requires { ⌜ Sound (now roads) (now sections) (now junctions) (now connections) (now pairs) (now lanes) (now owner) (now sides) (now ends) (now heads) (now next) ⌝ }
-    requires { ⌜ Meeting (now junctions) (now connections) (now sides) (now mheads) (now mnext) ⌝ }
-    requires { ⌜ l < length (now lanes) / 10 ⌝ }
-    requires { ⌜ Room n (exitsByRow (rowsOf (now roads) (now sections) (now junctions) (now connections) (now pairs) (now lanes) (now owner) (now sides) (now ends)) l forward) (now run) ⌝ }
-    ensures { λ q. ⌜ Took both n (exitsByRow (rowsOf (now (roads .entry)) (now (sections .entry)) (now (junctions .entry)) (now (connections .entry)) (now (pairs .entry)) (now (lanes .entry)) (now (owner .entry)) (now (sides .entry)) (now (ends .entry))) l forward) (now (run .entry)) (now (run .exit)) q ⌝ }
+    ghost { Rows }
+    requires { λ R. ⌜ rowsOf (now roads) (now sections) (now junctions) (now connections) (now pairs) (now lanes) (now owner) (now sides) (now ends) ≡ R ⌝ }
+    requires { λ _. ⌜ Sound (now roads) (now sections) (now junctions) (now connections) (now pairs) (now lanes)
+        (now owner) (now sides) (now ends) (now heads) (now next) ⌝ }
+    requires { λ _. ⌜ Meeting (now junctions) (now connections) (now sides) (now mheads) (now mnext) ⌝ }
+    requires { λ _. ⌜ l < length (now lanes) / 10 ⌝ }
+    requires { λ R. ⌜ Room n (exitsByRow R l forward) (now run) ⌝ }
+    ensures { λ R q. ⌜ Took both n (exitsByRow R l forward) (now (run .entry)) (now (run .exit)) q ⌝ }
 {
     let r = RoadId(owner[l] - 1);
     let link = step::link_at(l, forward);
@@ -252,10 +266,13 @@ pub fn successors_of(
     l: usize,
     run: &mut [u32],
 ) -> usize
-    requires { ⌜ Sound (now roads) (now sections) (now junctions) (now connections) (now pairs) (now lanes) (now owner) (now sides) (now ends) (now heads) (now next) ⌝ }
-    requires { ⌜ Meeting (now junctions) (now connections) (now sides) (now mheads) (now mnext) ⌝ }
-    requires { ⌜ (l < length (now lanes) / 10) × (length (exitsByRow (rowsOf (now roads) (now sections) (now junctions) (now connections) (now pairs) (now lanes) (now owner) (now sides) (now ends)) l true) + length (exitsByRow (rowsOf (now roads) (now sections) (now junctions) (now connections) (now pairs) (now lanes) (now owner) (now sides) (now ends)) l false) ≤ length (now run)) ⌝ }
-    ensures { λ q. ⌜ Resolved (rowsOf (now (roads .entry)) (now (sections .entry)) (now (junctions .entry)) (now (connections .entry)) (now (pairs .entry)) (now (lanes .entry)) (now (owner .entry)) (now (sides .entry)) (now (ends .entry))) l (now (run .entry)) (now (run .exit)) q ⌝ }
+    ghost { Rows }
+    requires { λ R. ⌜ rowsOf (now roads) (now sections) (now junctions) (now connections) (now pairs) (now lanes) (now owner) (now sides) (now ends) ≡ R ⌝ }
+    requires { λ _. ⌜ Sound (now roads) (now sections) (now junctions) (now connections) (now pairs) (now lanes)
+        (now owner) (now sides) (now ends) (now heads) (now next) ⌝ }
+    requires { λ _. ⌜ Meeting (now junctions) (now connections) (now sides) (now mheads) (now mnext) ⌝ }
+    requires { λ R. ⌜ (l < length (now lanes) / 10) × (length (exitsByRow R l true) + length (exitsByRow R l false) ≤ length (now run)) ⌝ }
+    ensures { λ R q. ⌜ Resolved R l (now (run .entry)) (now (run .exit)) q ⌝ }
 {
     let direction = lanes[l * 10 + 5];
     if direction == 0 {

@@ -3,9 +3,10 @@ use crate::meeting;
 use crate::sections;
 use crate::step;
 use words::rows;
+ghost use mathlib.Core.Path.{_≡_};
 ghost use Prim.Native.Nat.{_/_, _<_};
 ghost use lib.ListN.{length};
-ghost use Rattle.succession.specs.ByRow.{Took, Room, Sound, rowsOf, pairsByRow, junctionByRow};
+ghost use Rattle.succession.specs.ByRow.{Took, Room, Rows, Sound, rowsOf, pairsByRow, junctionByRow};
 ghost use Rattle.succession.specs.Meeting.{Meeting, meetingAt};
 
 // Through the pairs of connection c that start at lane number k.
@@ -27,10 +28,13 @@ fn through_pairs(
     run: &mut [u32],
     start: usize,
 ) -> usize
-    requires { ⌜ Sound (now roads) (now sections) (now junctions) (now connections) (now pairs) (now lanes) (now owner) (now sides) (now ends) (now heads) (now next) ⌝ }
-    requires { ⌜ c < length (now connections) / 7 ⌝ }
-    requires { ⌜ Room start (pairsByRow (rowsOf (now roads) (now sections) (now junctions) (now connections) (now pairs) (now lanes) (now owner) (now sides) (now ends)) c k) (now run) ⌝ }
-    ensures { λ q. ⌜ Took both start (pairsByRow (rowsOf (now (roads .entry)) (now (sections .entry)) (now (junctions .entry)) (now (connections .entry)) (now (pairs .entry)) (now (lanes .entry)) (now (owner .entry)) (now (sides .entry)) (now (ends .entry))) c k) (now (run .entry)) (now (run .exit)) q ⌝ }
+    ghost { Rows }
+    requires { λ R. ⌜ rowsOf (now roads) (now sections) (now junctions) (now connections) (now pairs) (now lanes) (now owner) (now sides) (now ends) ≡ R ⌝ }
+    requires { λ _. ⌜ Sound (now roads) (now sections) (now junctions) (now connections) (now pairs) (now lanes)
+        (now owner) (now sides) (now ends) (now heads) (now next) ⌝ }
+    requires { λ _. ⌜ c < length (now connections) / 7 ⌝ }
+    requires { λ R. ⌜ Room start (pairsByRow R c k) (now run) ⌝ }
+    ensures { λ R q. ⌜ Took both start (pairsByRow R c k) (now (run .entry)) (now (run .exit)) q ⌝ }
 {
     let road = rows::word(sides, c * 2 + 1);
     let contact = connections[c * 7 + 4];
@@ -81,10 +85,13 @@ fn through_connection(
     run: &mut [u32],
     n: usize,
 ) -> usize
-    requires { ⌜ Sound (now roads) (now sections) (now junctions) (now connections) (now pairs) (now lanes) (now owner) (now sides) (now ends) (now heads) (now next) ⌝ }
-    requires { ⌜ (j < length (now junctions) / 5) × (c < length (now connections) / 7) ⌝ }
-    requires { ⌜ Room n (meetingAt (rowsOf (now roads) (now sections) (now junctions) (now connections) (now pairs) (now lanes) (now owner) (now sides) (now ends)) j road k c) (now run) ⌝ }
-    ensures { λ q. ⌜ Took both n (meetingAt (rowsOf (now (roads .entry)) (now (sections .entry)) (now (junctions .entry)) (now (connections .entry)) (now (pairs .entry)) (now (lanes .entry)) (now (owner .entry)) (now (sides .entry)) (now (ends .entry))) j road k c) (now (run .entry)) (now (run .exit)) q ⌝ }
+    ghost { Rows }
+    requires { λ R. ⌜ rowsOf (now roads) (now sections) (now junctions) (now connections) (now pairs) (now lanes) (now owner) (now sides) (now ends) ≡ R ⌝ }
+    requires { λ _. ⌜ Sound (now roads) (now sections) (now junctions) (now connections) (now pairs) (now lanes)
+        (now owner) (now sides) (now ends) (now heads) (now next) ⌝ }
+    requires { λ _. ⌜ (j < length (now junctions) / 5) × (c < length (now connections) / 7) ⌝ }
+    requires { λ R. ⌜ Room n (meetingAt R j road k c) (now run) ⌝ }
+    ensures { λ R q. ⌜ Took both n (meetingAt R j road k c) (now (run .entry)) (now (run .exit)) q ⌝ }
 {
     if !meeting::comes_from(junctions, sides, j, road, c) {
         return n;
@@ -131,11 +138,14 @@ pub fn through_junction(
     run: &mut [u32],
     start: usize,
 ) -> usize
-    requires { ⌜ Sound (now roads) (now sections) (now junctions) (now connections) (now pairs) (now lanes) (now owner) (now sides) (now ends) (now heads) (now next) ⌝ }
-    requires { ⌜ Meeting (now junctions) (now connections) (now sides) (now mheads) (now mnext) ⌝ }
-    requires { ⌜ (j < length (now junctions) / 5) × (road < 4294967296) ⌝ }
-    requires { ⌜ Room start (junctionByRow (rowsOf (now roads) (now sections) (now junctions) (now connections) (now pairs) (now lanes) (now owner) (now sides) (now ends)) j road k) (now run) ⌝ }
-    ensures { λ q. ⌜ Took both start (junctionByRow (rowsOf (now (roads .entry)) (now (sections .entry)) (now (junctions .entry)) (now (connections .entry)) (now (pairs .entry)) (now (lanes .entry)) (now (owner .entry)) (now (sides .entry)) (now (ends .entry))) j road k) (now (run .entry)) (now (run .exit)) q ⌝ }
+    ghost { Rows }
+    requires { λ R. ⌜ rowsOf (now roads) (now sections) (now junctions) (now connections) (now pairs) (now lanes) (now owner) (now sides) (now ends) ≡ R ⌝ }
+    requires { λ _. ⌜ Sound (now roads) (now sections) (now junctions) (now connections) (now pairs) (now lanes)
+        (now owner) (now sides) (now ends) (now heads) (now next) ⌝ }
+    requires { λ _. ⌜ Meeting (now junctions) (now connections) (now sides) (now mheads) (now mnext) ⌝ }
+    requires { λ _. ⌜ (j < length (now junctions) / 5) × (road < 4294967296) ⌝ }
+    requires { λ R. ⌜ Room start (junctionByRow R j road k) (now run) ⌝ }
+    ensures { λ R q. ⌜ Took both start (junctionByRow R j road k) (now (run .entry)) (now (run .exit)) q ⌝ }
 {
     let count = connections.len() / 7;
     let mut n = start;

@@ -39,10 +39,12 @@ fn link_part(
     heads: &mut [u32],
     next: &mut [u32],
 )
-    requires { ⌜ (n ≤ 16384) × (n * 2 ≤ length (now sides)) × (length (now heads) ≡ 16384) × (n ≤ length (now next)) × (j < length (now junctions) / 5) × (length (now junctions) / 5 ≤ 16384) ⌝ }
+    requires { ⌜ (n ≤ 16384) × (n * 2 ≤ length (now sides)) × (length (now heads) ≡ 16384) × (n ≤ length (now next))
+        × (j < length (now junctions) / 5) × (length (now junctions) / 5 ≤ 16384) ⌝ }
     requires { ⌜ (endOf (now junctions) j ≤ n) × Homes (now junctions) ⌝ }
     requires { ⌜ Chained (connectionHash (now junctions) (now sides) n) (n - endOf (now junctions) j) (now heads) (now next) ⌝ }
-    ensures { λ _. ⌜ Chained (connectionHash (now (junctions .entry)) (now (sides .entry)) n) (n - firstOf (now (junctions .entry)) j) (now (heads .exit)) (now (next .exit)) ⌝ }
+    ensures { λ _. ⌜ Chained (connectionHash (now (junctions .entry)) (now (sides .entry)) n)
+        (n - firstOf (now (junctions .entry)) j) (now (heads .exit)) (now (next .exit)) ⌝ }
 {
     let first = rows::word(junctions, j * 5 + 3);
     let mut c = first + rows::word(junctions, j * 5 + 4);
@@ -63,7 +65,8 @@ pub fn link_connections(
     heads: &mut [u32],
     next: &mut [u32],
 )
-    requires { ⌜ (length (now connections) / 7 ≤ 16384) × (length (now junctions) / 5 ≤ 16384) × (length (now sides) ≡ 32768) × (length (now heads) ≡ 16384) × (length (now next) ≡ 16384) ⌝ }
+    requires { ⌜ (length (now connections) / 7 ≤ 16384) × (length (now junctions) / 5 ≤ 16384)
+        × (length (now sides) ≡ 32768) × (length (now heads) ≡ 16384) × (length (now next) ≡ 16384) ⌝ }
     requires { ⌜ partsFit 3 4 0 (length (now connections) / 7) (table 5 (now junctions)) ≡ true ⌝ }
     ensures { λ _. ⌜ Meeting (now (junctions .entry)) (now (connections .entry)) (now (sides .entry)) (now (heads .exit)) (now (next .exit)) ⌝ }
 {

@@ -1,9 +1,10 @@
 // Every lane's own list, packed in lane row order.
 use crate::follow;
+ghost use mathlib.Core.Path.{_≡_};
 ghost use Prim.Native.Nat.{_/_, _≤_, _<_};
 ghost use lib.ListN.{length};
 ghost use Rattle.words.specs.Rows.{total};
-ghost use Rattle.succession.specs.ByRow.{Sound, rowsOf, successorsByRow};
+ghost use Rattle.succession.specs.ByRow.{Rows, Sound, rowsOf, successorsByRow};
 ghost use Rattle.succession.specs.Meeting.{Meeting};
 ghost use Rattle.succession.specs.Finished.{exitCount};
 ghost use Rattle.succession.specs.Packs.{Filled};
@@ -26,10 +27,15 @@ pub fn own_lists(
     offsets: &mut [u32],
     own: &mut [u32],
 )
-    requires { ⌜ Sound (now roads) (now sections) (now junctions) (now connections) (now pairs) (now lanes) (now owner) (now sides) (now ends) (now heads) (now next) ⌝ }
-    requires { ⌜ Meeting (now junctions) (now connections) (now sides) (now mheads) (now mnext) ⌝ }
-    requires { ⌜ (length (now lanes) / 10 < length (now offsets)) × (length (now own) ≤ 131072) × (total (length (now lanes) / 10) (exitCount (rowsOf (now roads) (now sections) (now junctions) (now connections) (now pairs) (now lanes) (now owner) (now sides) (now ends))) ≤ length (now own)) ⌝ }
-    ensures { λ _. ⌜ Filled (length (now (lanes .entry)) / 10) (successorsByRow (rowsOf (now (roads .entry)) (now (sections .entry)) (now (junctions .entry)) (now (connections .entry)) (now (pairs .entry)) (now (lanes .entry)) (now (owner .entry)) (now (sides .entry)) (now (ends .entry)))) (now (offsets .entry)) (now (own .entry)) (now (offsets .exit)) (now (own .exit)) ⌝ }
+    ghost { Rows }
+    requires { λ R. ⌜ rowsOf (now roads) (now sections) (now junctions) (now connections) (now pairs) (now lanes) (now owner) (now sides) (now ends) ≡ R ⌝ }
+    requires { λ _. ⌜ Sound (now roads) (now sections) (now junctions) (now connections) (now pairs) (now lanes)
+        (now owner) (now sides) (now ends) (now heads) (now next) ⌝ }
+    requires { λ _. ⌜ Meeting (now junctions) (now connections) (now sides) (now mheads) (now mnext) ⌝ }
+    requires { λ R. ⌜ (length (now lanes) / 10 < length (now offsets)) × (length (now own) ≤ 131072)
+        × (total (length (now lanes) / 10) (exitCount R) ≤ length (now own)) ⌝ }
+    ensures { λ R _. ⌜ Filled (length (R .lanes) / 10) (successorsByRow R)
+        (now (offsets .entry)) (now (own .entry)) (now (offsets .exit)) (now (own .exit)) ⌝ }
 {
     let n = lanes.len() / 10;
     let mut at: usize = 0;

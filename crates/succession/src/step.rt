@@ -22,7 +22,8 @@ pub fn lookup(
     section: u32,
     number: u32,
 ) -> usize
-    requires { ⌜ (road < 4294967296) × (length (now lanes) / 10 ≤ length (now owner)) × (length (now heads) ≡ 16384) × (length (now lanes) / 10 ≤ length (now next)) × (length (now lanes) / 10 ≤ 16384) ⌝ }
+    requires { ⌜ (road < 4294967296) × (length (now lanes) / 10 ≤ length (now owner))
+        × (length (now heads) ≡ 16384) × (length (now lanes) / 10 ≤ length (now next)) × (length (now lanes) / 10 ≤ 16384) ⌝ }
     requires { ⌜ Chained (laneHash (now lanes) (now owner)) (length (now lanes) / 10) (now heads) (now next) ⌝ }
     ensures { λ r. ⌜ (r ≡ laneRowOf (now (lanes .entry)) (now (owner .entry)) road section number) × (r ≤ length (now (lanes .entry)) / 10) ⌝ }
 {
@@ -54,10 +55,13 @@ pub fn through_pair(
     run: &mut [u32],
     n: usize,
 ) -> usize
-    requires { ⌜ (road < 4294967296) × (length (now lanes) / 10 ≤ length (now owner)) × (length (now heads) ≡ 16384) × (length (now lanes) / 10 ≤ length (now next)) × (length (now lanes) / 10 ≤ 16384) ⌝ }
+    requires { ⌜ (road < 4294967296) × (length (now lanes) / 10 ≤ length (now owner))
+        × (length (now heads) ≡ 16384) × (length (now lanes) / 10 ≤ length (now next)) × (length (now lanes) / 10 ≤ 16384) ⌝ }
     requires { ⌜ Chained (laneHash (now lanes) (now owner)) (length (now lanes) / 10) (now heads) (now next) ⌝ }
     requires { ⌜ (p < length (now pairs) / 2) × Room n (pairEntry (now pairs) (now lanes) (now owner) road section (flag contact) k p) (now run) ⌝ }
-    ensures { λ r. ⌜ Took both n (pairEntry (now (pairs .entry)) (now (lanes .entry)) (now (owner .entry)) road section (flag contact) k p) (now (run .entry)) (now (run .exit)) r ⌝ }
+    ensures { λ r. ⌜ Took both n
+        (pairEntry (now (pairs .entry)) (now (lanes .entry)) (now (owner .entry)) road section (flag contact) k p)
+        (now (run .entry)) (now (run .exit)) r ⌝ }
 {
     if pairs[p * 2] != k {
         return n;
@@ -101,7 +105,8 @@ pub fn within_road(
     run: &mut [u32],
     n: usize,
 ) -> usize
-    requires { ⌜ (l < length (now lanes) / 10) × (link + 1 < length (now lanes)) × (length (now lanes) / 10 ≤ length (now owner)) × (length (now heads) ≡ 16384) × (length (now lanes) / 10 ≤ length (now next)) × (length (now lanes) / 10 ≤ 16384) ⌝ }
+    requires { ⌜ (l < length (now lanes) / 10) × (link + 1 < length (now lanes)) × (length (now lanes) / 10 ≤ length (now owner))
+        × (length (now heads) ≡ 16384) × (length (now lanes) / 10 ≤ length (now next)) × (length (now lanes) / 10 ≤ 16384) ⌝ }
     requires { ⌜ Chained (laneHash (now lanes) (now owner)) (length (now lanes) / 10) (now heads) (now next) ⌝ }
     requires { ⌜ Room n (stepByRow (now lanes) (now owner) l s link (flag contact)) (now run) ⌝ }
     ensures { λ r. ⌜ Took both n (stepByRow (now (lanes .entry)) (now (owner .entry)) l s link (flag contact)) (now (run .entry)) (now (run .exit)) r ⌝ }

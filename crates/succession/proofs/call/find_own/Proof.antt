@@ -1,8 +1,9 @@
 use Rattle.succession.proofs.Packing.{filled-same}
 use Rattle.succession.proofs.Admits.{exits-fit, fewer, fewer-junctions, fewer-lanes, own-is, parts-good}
 use Rattle.succession.proofs.Admits.{sound}
-use Rattle.succession.specs.Outcome.{ownList}
+use Rattle.succession.specs.Answers.{ownList}
 use Rattle.succession.specs.ByRow.{rowsOf, successorsByRow}
+use Rattle.model.specs.Tables.{laneTables}
 use lib.ListN.{length, length-replicate}
 use native.Mathlib.Omega.{arith}
 use mathlib.Core.Path.{_∙_}
@@ -25,11 +26,11 @@ link-rows-requires c κs =
     let connections = start .args .connections .now in let pairs = start .args .pairs .now in
     let lanes = start .args .lanes .now in (
       (
-        fewer text roads sections junctions connections pairs lanes (start .pre .0) .few-roads,
+        fewer (laneTables text roads sections junctions connections pairs lanes) (start .pre .0) .few-roads,
         start .pre .1 .1 .0,
         start .pre .1 .1 .1,
-        fewer-junctions text roads sections junctions connections pairs lanes (start .pre .0),
-        fewer text roads sections junctions connections pairs lanes (start .pre .0) .few-connections,
+        fewer-junctions (laneTables text roads sections junctions connections pairs lanes) (start .pre .0),
+        fewer (laneTables text roads sections junctions connections pairs lanes) (start .pre .0) .few-connections,
         length-replicate {A = ℕ} 32768 0,
         length-replicate {A = ℕ} 32768 0,
       ),
@@ -50,13 +51,13 @@ link-connections-requires c κs =
     let connections = start .args .connections .now in let pairs = start .args .pairs .now in
     let lanes = start .args .lanes .now in (
       (
-        fewer text roads sections junctions connections pairs lanes (start .pre .0) .few-connections,
-        fewer-junctions text roads sections junctions connections pairs lanes (start .pre .0),
+        fewer (laneTables text roads sections junctions connections pairs lanes) (start .pre .0) .few-connections,
+        fewer-junctions (laneTables text roads sections junctions connections pairs lanes) (start .pre .0),
         (after-link-rows .link-rows .kept .1 .1 .1 .1 .1 .1 .0 ∙ length-replicate {A = ℕ} 32768 0),
         start .pre .1 .1 .0,
         start .pre .1 .1 .1,
       ),
-      parts-good text roads sections junctions connections pairs lanes (start .pre .0) .0,
+      parts-good (laneTables text roads sections junctions connections pairs lanes) (start .pre .0) .0,
     )
 
 slice-aggregate-own-lists : tie.Need-slice-aggregate-own-lists
@@ -78,9 +79,8 @@ own-lists-requires c κs =
     let lanes = start .args .lanes .now in let heads = start .args .heads .now in
     let next = start .args .next .now in let owner = start .args .owner .now in
     let kheads = start .args .kheads .now in let knext = start .args .knext .now in (
-      sound text roads sections junctions connections pairs lanes (start .pre .0) heads next owner kheads knext
-          (start .pre .1 .0) (after-link-rows .link-rows .last .1 .1 .1 .1 .1 .1 .0)
-          (after-link-rows .link-rows .last .1 .1 .1 .1 .1 .1 .1 .0) (after-link-rows .link-rows .ensures .0)
+      sound (laneTables text roads sections junctions connections pairs lanes) (start .pre .0)
+          (start .pre .1 .0) (after-link-rows .link-rows .ensures .0)
           (after-link-rows .link-rows .ensures .1) (start .pre .1 .1 .2) (start .pre .1 .1 .3)
           (start .pre .1 .1 .4)
           (after-link-rows .link-rows .kept .1 .1 .1 .1 .1 .1 .0 ∙ length-replicate {A = ℕ} 32768 0)
@@ -91,16 +91,13 @@ own-lists-requires c κs =
           omega (
             arith,
             start .pre .1 .1 .5,
-            fewer-lanes text roads sections junctions connections pairs lanes (start .pre .0),
+            fewer-lanes (laneTables text roads sections junctions connections pairs lanes) (start .pre .0),
           ),
           omega (arith, start .pre .1 .1 .6),
           omega (
             arith,
             start .pre .1 .1 .6,
-            exits-fit text roads sections junctions connections pairs lanes (start .pre .0) heads
-                next owner kheads knext (start .pre .1 .0)
-                (after-link-rows .link-rows .last .1 .1 .1 .1 .1 .1 .0)
-                (after-link-rows .link-rows .last .1 .1 .1 .1 .1 .1 .1 .0)
+            exits-fit (laneTables text roads sections junctions connections pairs lanes) (start .pre .0) (start .pre .1 .0)
                 (after-link-rows .link-rows .ensures .0) (after-link-rows .link-rows .ensures .1)
                 (start .pre .1 .1 .2) (start .pre .1 .1 .3) (start .pre .1 .1 .4)
                 (after-link-rows .link-rows .kept .1 .1 .1 .1 .1 .1 .0
@@ -140,11 +137,8 @@ returns c =
     filled-same (successorsByRow (rowsOf roads sections junctions connections pairs lanes owner
     (after-link-rows .link-rows .last .1 .1 .1 .1 .1 .1 .0)
     (after-link-rows .link-rows .last .1 .1 .1 .1 .1 .1 .1 .0)))
-    (ownList text roads sections junctions connections pairs lanes) (length lanes / 10)
-    (own-is text roads sections junctions connections pairs lanes (start .pre .0) (start .args .heads .now)
-    (start .args .next .now) owner (start .args .kheads .now) (start .args .knext .now) (start .pre .1 .0)
-    (after-link-rows .link-rows .last .1 .1 .1 .1 .1 .1 .0)
-    (after-link-rows .link-rows .last .1 .1 .1 .1 .1 .1 .1 .0) (after-link-rows .link-rows .ensures .0)
+    (ownList (laneTables text roads sections junctions connections pairs lanes)) (length lanes / 10)
+    (own-is (laneTables text roads sections junctions connections pairs lanes) (start .pre .0) (start .pre .1 .0) (after-link-rows .link-rows .ensures .0)
     (after-link-rows .link-rows .ensures .1) (start .pre .1 .1 .2) (start .pre .1 .1 .3) (start .pre .1 .1 .4)
     (after-link-rows .link-rows .kept .1 .1 .1 .1 .1 .1 .0 ∙ length-replicate {A = ℕ} 32768 0)
     (after-link-rows .link-rows .kept .1 .1 .1 .1 .1 .1 .1 .0 ∙ length-replicate {A = ℕ} 32768 0))

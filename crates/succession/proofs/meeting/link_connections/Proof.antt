@@ -1,7 +1,7 @@
 use Rattle.succession.proofs.Homes.{chains-begin, chains-end, chains-on, chains-part, end-in, homes-are}
 use Rattle.succession.proofs.Homes.{startAt}
 use Rattle.succession.specs.Meeting.{connectionHash}
-use Rattle.words.specs.Chain.{Chained}
+use Rattle.words.specs.Chain.{Chained, Empty}
 use lib.ListN.{length}
 use borrow.Author.Needs.{needs}
 use native.Mathlib.Omega.{arith}
@@ -28,13 +28,16 @@ loop-holds : tie.Need-loop-holds Inv-loop μ-loop
 loop-holds c =
     let after-clear : tie.After-clear Inv-loop μ-loop = search in
     let start : tie.Start Inv-loop μ-loop = search in
-    let junctions = start .args .junctions .now in (
+    let junctions = start .args .junctions .now in
+    let buckets = after-clear .clear .kept .0 ∙ start .pre .0 .3 in
+    let empty : Empty (after-clear .clear .last .0) (start .args .next .now) =
+    record { buckets = buckets; rows = start .pre .0 .4; clear = after-clear .clear .ensures } in (
       le-refl _,
-      after-clear .clear .kept .0 ∙ start .pre .0 .3,
+      buckets,
       start .pre .0 .4,
       chains-begin (length (start .args .connections .now) / 7) junctions (start .pre .1)
           (start .args .sides .now) (after-clear .clear .last .0) (start .args .next .now)
-          (length junctions / 5) (after-clear .clear .ensures) refl,
+          (length junctions / 5) empty refl,
     )
 
 sub-j : tie.Need-sub-j Inv-loop μ-loop
