@@ -32,7 +32,8 @@ sized12 edges = sized 12 16384 (length edges)
 pub small : (a b : ℕ) → a ≤ 131072 → b ≤ 20 → a * b ≤ 2621440
 small a b h l = mul-le-mul h l
 
-pub few : (most : ℕ) (t : Tables) → most ≤ 16384 → mapSized most t ≡ true → Few (t .roads) (t .sections) (t .connections) (t .pairs)
+pub few : (most : ℕ) (t : Tables) → most ≤ 16384 → mapSized most t ≡ true
+    → Few (t .roads) (t .sections) (t .connections) (t .pairs)
 unfolding mapSized
 few most t m e =
     let a = leb (length (t .text)) 1048576 in
@@ -68,4 +69,5 @@ junctions-few most t e =
     let j = sized 5 16384 (length (t .junctions)) in
     let c = sized 7 most (length (t .connections)) in
     let p = sized 2 most (length (t .pairs)) in
-    sized-few 5 16384 (length (t .junctions)) (right-on (a && r && s) j (left-on (a && r && s && j) c (left-on (a && r && s && j && c) p e)))
+    sized-few 5 16384 (length (t .junctions))
+    (right-on (a && r && s) j (left-on (a && r && s && j) c (left-on (a && r && s && j && c) p e)))

@@ -31,35 +31,55 @@ fit-over kf kc i n rs h = go (partsFit kf kc i n rs) refl
 
 module _ (w kf kc n : ℕ) (ws : List ℕ) (lf : kf < w) (lc : kc < w) where
   pub fit-step : (at i : ℕ) → i < length ws / w
-      → partsFit kf kc at n (drop i (table w ws)) ≡ eqb (getD ws (i * w + kf) 0) at && partsFit kf kc (at + getD ws (i * w + kc) 0) n (drop (i + 1) (table w ws))
+      → partsFit kf kc at n (drop i (table w ws))
+      ≡ eqb (getD ws (i * w + kf) 0) at && partsFit kf kc (at + getD ws (i * w + kc) 0) n
+      (drop (i + 1) (table w ws))
   fit-step at i h =
       let len : i < length (table w ws) = subst (λ (m : ℕ). i < m) (sym (length-table w ws)) h in
       ap (partsFit kf kc at n) (drop-cons (table w ws) i [] len)
-      ∙ ap₂ (λ (f c : ℕ). eqb f at && partsFit kf kc (at + c) n (drop (suc i) (table w ws))) (word-at w ws i kf h lf) (word-at w ws i kc h lc)
-      ∙ ap (λ (k : ℕ). eqb (getD ws (i * w + kf) 0) at && partsFit kf kc (at + getD ws (i * w + kc) 0) n (drop k (table w ws))) (sym (add-one i))
+      ∙ ap₂ (λ (f c : ℕ). eqb f at && partsFit kf kc (at + c) n (drop (suc i) (table w ws)))
+      (word-at w ws i kf h lf) (word-at w ws i kc h lc)
+      ∙ ap (λ (k : ℕ).
+      eqb (getD ws (i * w + kf) 0) at && partsFit kf kc (at + getD ws (i * w + kc) 0) n (drop k (table w ws)))
+      (sym (add-one i))
 
   pub fit-end : (at i : ℕ) → length ws / w ≤ i → partsFit kf kc at n (drop i (table w ws)) ≡ eqb at n
-  fit-end at i h = ap (partsFit kf kc at n) (drop-of-length-le (table w ws) (subst (λ (m : ℕ). m ≤ i) (sym (length-table w ws)) h))
+  fit-end at i h =
+      ap (partsFit kf kc at n)
+      (drop-of-length-le (table w ws) (subst (λ (m : ℕ). m ≤ i) (sym (length-table w ws)) h))
 
 -- ---- parts that follow one another, by their rows
 module _ (w kf kc n : ℕ) (ws : List ℕ) (lf : kf < w) (lc : kc < w) (e : partsFit kf kc 0 n (table w ws) ≡ true) where
   left : (r : ℕ) → r ≤ length ws / w → partsFit kf kc (total r (counts w kc ws)) n (drop r (table w ws)) ≡ true
   left zero h = ap (λ (k : ℕ). partsFit kf kc k n (table w ws)) (sym (total-none (counts w kc ws))) ∙ e
   left (suc r) h =
-      let a : partsFit kf kc (total r (counts w kc ws) + counts w kc ws r) n (drop (r + 1) (table w ws)) ≡ true = right-on (eqb (getD ws (r * w + kf) 0) (total r (counts w kc ws))) (partsFit kf kc (total r (counts w kc ws) + counts w kc ws r) n (drop (r + 1) (table w ws))) (sym (fit-step w kf kc n ws lf lc (total r (counts w kc ws)) r h) ∙ left r (omega arith)) in
-      ap₂ (λ (i k : ℕ). partsFit kf kc i n (drop k (table w ws))) (ap (λ (k : ℕ). total k (counts w kc ws)) (sym (add-one r)) ∙ total-more r (counts w kc ws)) (sym (add-one r)) ∙ a
+      let a : partsFit kf kc (total r (counts w kc ws) + counts w kc ws r) n (drop (r + 1) (table w ws)) ≡ true =
+      right-on (eqb (getD ws (r * w + kf) 0) (total r (counts w kc ws)))
+      (partsFit kf kc (total r (counts w kc ws) + counts w kc ws r) n (drop (r + 1) (table w ws)))
+      (sym (fit-step w kf kc n ws lf lc (total r (counts w kc ws)) r h) ∙ left r (omega arith)) in
+      ap₂ (λ (i k : ℕ). partsFit kf kc i n (drop k (table w ws)))
+      (ap (λ (k : ℕ). total k (counts w kc ws)) (sym (add-one r)) ∙ total-more r (counts w kc ws))
+      (sym (add-one r))
+      ∙ a
 
   pub fit-of : Fit w kf kc ws n
   fit-of = record {
-    begins = λ r h. eqb-true _ _ (left-on (eqb (getD ws (r * w + kf) 0) (total r (counts w kc ws))) (partsFit kf kc (total r (counts w kc ws) + counts w kc ws r) n (drop (r + 1) (table w ws))) (sym (fit-step w kf kc n ws lf lc (total r (counts w kc ws)) r h) ∙ left r (omega arith)));
-    whole = eqb-true _ _ (sym (fit-end w kf kc n ws lf lc (total (length ws / w) (counts w kc ws)) (length ws / w) (omega arith)) ∙ left (length ws / w) (omega arith));
+    begins = λ r h. eqb-true _ _
+        (left-on (eqb (getD ws (r * w + kf) 0) (total r (counts w kc ws)))
+        (partsFit kf kc (total r (counts w kc ws) + counts w kc ws r) n (drop (r + 1) (table w ws)))
+        (sym (fit-step w kf kc n ws lf lc (total r (counts w kc ws)) r h) ∙ left r (omega arith)));
+    whole = eqb-true _ _ (sym
+        (fit-end w kf kc n ws lf lc (total (length ws / w) (counts w kc ws)) (length ws / w) (omega arith))
+        ∙ left (length ws / w) (omega arith));
   }
 
 -- a part ends where the next begins, and lies in its table
-pub fit-next : (w kc : ℕ) (ws : List ℕ) (r : ℕ) → total (r + 1) (counts w kc ws) ≡ total r (counts w kc ws) + counts w kc ws r
+pub fit-next : (w kc : ℕ) (ws : List ℕ) (r : ℕ)
+    → total (r + 1) (counts w kc ws) ≡ total r (counts w kc ws) + counts w kc ws r
 fit-next w kc ws r = total-more r (counts w kc ws)
 
-pub fit-in : (w kf kc : ℕ) (ws : List ℕ) (n : ℕ) → Fit w kf kc ws n → (r : ℕ) → r < length ws / w → getD ws (r * w + kf) 0 + getD ws (r * w + kc) 0 ≤ n
+pub fit-in : (w kf kc : ℕ) (ws : List ℕ) (n : ℕ) → Fit w kf kc ws n → (r : ℕ) → r < length ws / w
+    → getD ws (r * w + kf) 0 + getD ws (r * w + kc) 0 ≤ n
 fit-in w kf kc ws n f r h =
     let a = f .begins r h in
     let b = f .whole in
@@ -67,7 +87,8 @@ fit-in w kf kc ws n f r h =
     let d = total-le (r + 1) (length ws / w) (counts w kc ws) (omega arith) in
     omega arith
 
-pub part-in : (w kf kc n : ℕ) (ws : List ℕ) → kf < w → kc < w → partsFit kf kc 0 n (table w ws) ≡ true → (r : ℕ) → r < length ws / w → getD ws (r * w + kf) 0 + getD ws (r * w + kc) 0 ≤ n
+pub part-in : (w kf kc n : ℕ) (ws : List ℕ) → kf < w → kc < w → partsFit kf kc 0 n (table w ws) ≡ true → (r : ℕ)
+    → r < length ws / w → getD ws (r * w + kf) 0 + getD ws (r * w + kc) 0 ≤ n
 part-in w kf kc n ws lf lc e = fit-in w kf kc ws n (fit-of w kf kc n ws lf lc e)
 
 -- ---- numbers that ascend
@@ -86,7 +107,9 @@ ascend-on (x ∷ y ∷ ys) h =
     and-step (and-step (lt-ltb x y lt) (lower x y ys lt (left-on (every (ltb y) ys) (ascends ys) ih))) ih
   where
     later : (k : ℕ) → k + 1 < length (y ∷ ys) → getD (y ∷ ys) k 0 < getD (y ∷ ys) (k + 1) 0
-    later k l = subst (λ (m : ℕ). getD (y ∷ ys) k 0 < getD (x ∷ y ∷ ys) m 0) (move k) (h (suc k) (subst (λ (m : ℕ). m < length (x ∷ y ∷ ys)) (sym (move k)) (Prim.Native.Nat.suc-le-suc l)))
+    later k l =
+        subst (λ (m : ℕ). getD (y ∷ ys) k 0 < getD (x ∷ y ∷ ys) m 0) (move k)
+        (h (suc k) (subst (λ (m : ℕ). m < length (x ∷ y ∷ ys)) (sym (move k)) (Prim.Native.Nat.suc-le-suc l)))
       where
         move : (k : ℕ) → suc k + 1 ≡ suc (k + 1)
         move k = omega arith
@@ -97,14 +120,18 @@ ascend-off (x ∷ []) k h e = absurd (omega arith)
 ascend-off (x ∷ y ∷ ys) zero h e = ap (λ b. b && every (ltb x) ys && ascends (y ∷ ys)) (le-ltb x y e)
 ascend-off (x ∷ y ∷ ys) (suc k) h e =
     and-off (every (ltb x) (y ∷ ys)) (ascends (y ∷ ys))
-    (ascend-off (y ∷ ys) k (le-of-suc-le-suc (subst (λ (m : ℕ). m < length (x ∷ y ∷ ys)) (move k) h)) (subst (λ (m : ℕ). getD (x ∷ y ∷ ys) m 0 ≤ getD (y ∷ ys) k 0) (move k) e))
+    (ascend-off (y ∷ ys) k (le-of-suc-le-suc (subst (λ (m : ℕ). m < length (x ∷ y ∷ ys)) (move k) h))
+    (subst (λ (m : ℕ). getD (x ∷ y ∷ ys) m 0 ≤ getD (y ∷ ys) k 0) (move k) e))
   where
     move : (k : ℕ) → suc k + 1 ≡ suc (k + 1)
     move k = omega arith
 
 -- ---- a number among others
-pub member-step : (n : ℕ) (xs : List ℕ) (k : ℕ) → k < length xs → member n (drop k xs) ≡ eqb n (getD xs k 0) || member n (drop (k + 1) xs)
-member-step n xs k h = ap (member n) (drop-cons xs k 0 h) ∙ ap (λ (m : ℕ). eqb n (getD xs k 0) || member n (drop m xs)) (sym (add-one k))
+pub member-step : (n : ℕ) (xs : List ℕ) (k : ℕ) → k < length xs
+    → member n (drop k xs) ≡ eqb n (getD xs k 0) || member n (drop (k + 1) xs)
+member-step n xs k h =
+    ap (member n) (drop-cons xs k 0 h)
+    ∙ ap (λ (m : ℕ). eqb n (getD xs k 0) || member n (drop m xs)) (sym (add-one k))
 
 pub member-end : (n : ℕ) (xs : List ℕ) (k : ℕ) → length xs ≤ k → member n (drop k xs) ≡ false
 member-end n xs k h = ap (member n) (drop-of-length-le xs h)

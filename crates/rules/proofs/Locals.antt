@@ -51,15 +51,19 @@ pub road-words : (text ws : List ℕ) (at : ℕ) → roadWorded text (drop at ws
 unfolding roadWorded
 road-words text ws at = simp (getD-drop at ws, add-zero, add-assoc)
 
-pub junction-words : (text ws : List ℕ) (at : ℕ) → junctionWorded text (drop at ws) ≡ placedAt text ws at && leb (getD ws (at + 2) 0) 2
+pub junction-words : (text ws : List ℕ) (at : ℕ)
+    → junctionWorded text (drop at ws) ≡ placedAt text ws at && leb (getD ws (at + 2) 0) 2
 unfolding junctionWorded
 junction-words text ws at = simp (getD-drop at ws, add-zero, add-assoc)
 
-pub connection-words : (text ws : List ℕ) (at : ℕ) → connectionWorded text (drop at ws) ≡ placedAt text ws at && placedAt text ws (at + 2) && leb (getD ws (at + 4) 0) 1
+pub connection-words : (text ws : List ℕ) (at : ℕ)
+    → connectionWorded text (drop at ws)
+    ≡ placedAt text ws at && placedAt text ws (at + 2) && leb (getD ws (at + 4) 0) 1
 unfolding connectionWorded
 connection-words text ws at = simp (getD-drop at ws, add-zero, add-assoc)
 
-pub lane-words : (text ws : List ℕ) (at : ℕ) → laneWorded text (drop at ws) ≡ placedAt text ws (at + 1) && leb (getD ws (at + 5) 0) 2
+pub lane-words : (text ws : List ℕ) (at : ℕ)
+    → laneWorded text (drop at ws) ≡ placedAt text ws (at + 1) && leb (getD ws (at + 5) 0) 2
     && linkFits ws (at + 6) && linkFits ws (at + 8)
 unfolding laneWorded
 lane-words text ws at = simp (getD-drop at ws, add-zero, add-assoc)

@@ -42,10 +42,14 @@ kind-is zero = refl
 kind-is (suc zero) = refl
 kind-is (suc (suc n)) = sym (ne-eqb (suc (suc n)) 1 (λ z. omega arith))
 
-junction-named : (same : Span → Span → Bool) (j : Span) (p k s n c g a : ℕ) → namesJunction same j (targetOf p k s n c g a) ≡ ((eqb p 1 && eqb k 1) && same (span s n) j)
+junction-named : (same : Span → Span → Bool) (j : Span) (p k s n c g a : ℕ)
+    → namesJunction same j (targetOf p k s n c g a) ≡ ((eqb p 1 && eqb k 1) && same (span s n) j)
 junction-named same j p k s n c g a = go (eqb p 1)
   where
-    go : (b : Bool) → namesJunction same j (cond b (some (record { isJunction = eqb k 1; name = span s n; contact = eqb c 1; given = eqb g 1; along = eqb a 1 })) none) ≡ ((b && eqb k 1) && same (span s n) j)
+    go : (b : Bool)
+        → namesJunction same j (cond b (some
+        (record { isJunction = eqb k 1; name = span s n; contact = eqb c 1; given = eqb g 1; along = eqb a 1 }))
+        none) ≡ ((b && eqb k 1) && same (span s n) j)
     go true = refl
     go false = refl
 
@@ -57,7 +61,9 @@ equal-sym a b = go (equalBytes a b) refl
     go false e = sym (equal-off b a (λ z. true≢false (sym (equal-on a b (sym z)) ∙ e)))
 
 -- one junction: both ends name it, or they name each other's and one of them it
-pairwise : (text : List ℕ) (P S N : Span) (D a b : Bool) → (D && ((a && sameIn text P N) && (b && sameIn text S N))) ≡ (((a && b) && sameIn text S P) && (D && sameIn text N P))
+pairwise : (text : List ℕ) (P S N : Span) (D a b : Bool)
+    → (D && ((a && sameIn text P N) && (b && sameIn text S N)))
+    ≡ (((a && b) && sameIn text S P) && (D && sameIn text N P))
 unfolding sameIn
 pairwise text P S N D a b = go (equalBytes (bytesOf text P) (bytesOf text N)) refl
   where
@@ -81,47 +87,76 @@ pairwise text P S N D a b = go (equalBytes (bytesOf text P) (bytesOf text N)) re
     none-of false true false y e = refl
     none-of false false b y e = refl
 
-    go : (x : Bool) → equalBytes (bytesOf text P) (bytesOf text N) ≡ x → (D && ((a && equalBytes (bytesOf text P) (bytesOf text N)) && (b && equalBytes (bytesOf text S) (bytesOf text N)))) ≡ (((a && b) && equalBytes (bytesOf text S) (bytesOf text P)) && (D && equalBytes (bytesOf text N) (bytesOf text P)))
+    go : (x : Bool) → equalBytes (bytesOf text P) (bytesOf text N) ≡ x
+        → (D && ((a && equalBytes (bytesOf text P) (bytesOf text N)) &&
+        (b && equalBytes (bytesOf text S) (bytesOf text N))))
+        ≡ (((a && b) && equalBytes (bytesOf text S) (bytesOf text P)) &&
+        (D && equalBytes (bytesOf text N) (bytesOf text P)))
     go true e =
-        ap₂ (λ u v. D && ((a && u) && (b && v))) e (ap (equalBytes (bytesOf text S)) (sym (equal-sound (bytesOf text P) (bytesOf text N) e)))
+        ap₂ (λ u v. D && ((a && u) && (b && v))) e
+        (ap (equalBytes (bytesOf text S)) (sym (equal-sound (bytesOf text P) (bytesOf text N) e)))
         ∙ flat D a b (equalBytes (bytesOf text S) (bytesOf text P))
-        ∙ ap (λ u. ((a && b) && equalBytes (bytesOf text S) (bytesOf text P)) && (D && u)) (sym (sym (equal-sym (bytesOf text P) (bytesOf text N)) ∙ e))
+        ∙ ap (λ u. ((a && b) && equalBytes (bytesOf text S) (bytesOf text P)) && (D && u))
+        (sym (sym (equal-sym (bytesOf text P) (bytesOf text N)) ∙ e))
     go false e =
         ap (λ u. D && ((a && u) && (b && equalBytes (bytesOf text S) (bytesOf text N)))) e
         ∙ none-of D a b (equalBytes (bytesOf text S) (bytesOf text N)) (equalBytes (bytesOf text S) (bytesOf text P))
-        ∙ ap (λ u. ((a && b) && equalBytes (bytesOf text S) (bytesOf text P)) && (D && u)) (sym (sym (equal-sym (bytesOf text P) (bytesOf text N)) ∙ e))
+        ∙ ap (λ u. ((a && b) && equalBytes (bytesOf text S) (bytesOf text P)) && (D && u))
+        (sym (sym (equal-sym (bytesOf text P) (bytesOf text N)) ∙ e))
 
 -- ---- the mark of road i is its own
-marked-at : (same : Span → Span → Bool) → ((a : Span) → same a a ≡ true) → (rs : List Road) (ks : List ℕ) (i : ℕ) (d : Road) → length rs ≡ length ks → i < length rs → distinct (λ a b. same (a .name) (b .name)) rs ≡ true → marked same rs ks (getD rs i d .name) ≡ eqb (getD ks i 0) 1
+marked-at : (same : Span → Span → Bool) → ((a : Span) → same a a ≡ true)
+    → (rs : List Road) (ks : List ℕ) (i : ℕ) (d : Road) → length rs ≡ length ks → i < length rs
+    → distinct (λ a b. same (a .name) (b .name)) rs ≡ true
+    → marked same rs ks (getD rs i d .name) ≡ eqb (getD ks i 0) 1
 marked-at same own [] ks i d len h e = absurd (not-suc-le-zero h)
 marked-at same own (r ∷ rs) [] i d len h e = absurd (omega arith)
-marked-at same own (r ∷ rs) (k ∷ ks) zero d len h e = ap (λ b. cond b (eqb k 1) (marked same rs ks (r .name))) (own (r .name))
+marked-at same own (r ∷ rs) (k ∷ ks) zero d len h e =
+    ap (λ b. cond b (eqb k 1) (marked same rs ks (r .name))) (own (r .name))
 marked-at same own (r ∷ rs) (k ∷ ks) (suc i) d len h e =
     ap (λ b. cond b (eqb k 1) (marked same rs ks (getD rs i d .name))) off
-    ∙ marked-at same own rs ks i d (omega arith) (le-of-suc-le-suc h) (right-on (not (some? (λ b. same (r .name) (b .name)) rs)) (distinct (λ a b. same (a .name) (b .name)) rs) e)
+    ∙ marked-at same own rs ks i d (omega arith) (le-of-suc-le-suc h)
+    (right-on (not (some? (λ b. same (r .name) (b .name)) rs)) (distinct (λ a b. same (a .name) (b .name)) rs)
+    e)
   where
     none-like : some? (λ b. same (r .name) (b .name)) rs ≡ false
-    none-like = not-true _ (left-on (not (some? (λ b. same (r .name) (b .name)) rs)) (distinct (λ a b. same (a .name) (b .name)) rs) e)
+    none-like =
+        not-true _ (left-on (not (some? (λ b. same (r .name) (b .name)) rs))
+        (distinct (λ a b. same (a .name) (b .name)) rs) e)
 
     off : same (r .name) (getD rs i d .name) ≡ false
     off = go (same (r .name) (getD rs i d .name)) refl
       where
         go : (x : Bool) → same (r .name) (getD rs i d .name) ≡ x → x ≡ false
         go false q = refl
-        go true q = absurd (true≢false (sym (some-found (λ b. same (r .name) (b .name)) rs i d (le-of-suc-le-suc h) q) ∙ none-like))
+        go true q =
+            absurd (true≢false
+            (sym (some-found (λ b. same (r .name) (b .name)) rs i d (le-of-suc-le-suc h) q) ∙ none-like))
 
 pub junction-in-local : (C : List Connection) → Local 5 (junctionIn C)
 unfolding junctionIn
 junction-in-local C l = simp (short 5 l)
 
 module _ (text roads junctions : List ℕ) (C : List Connection) (sections : List ℕ) where
-  first-names : (at : ℕ) (j : Span) → namesJunction (sameIn text) j (roadIn sections (drop at roads) .predecessor) ≡ (toJunction roads (at + 4) && sameIn text (nameFrom roads (at + 6)) j)
+  first-names : (at : ℕ) (j : Span)
+      → namesJunction (sameIn text) j (roadIn sections (drop at roads) .predecessor)
+      ≡ (toJunction roads (at + 4) && sameIn text (nameFrom roads (at + 6)) j)
   unfolding roadIn
-  first-names at j = junction-named (sameIn text) j (getD (drop at roads) 4 0) (getD (drop at roads) 5 0) (getD (drop at roads) 6 0) (getD (drop at roads) 7 0) (getD (drop at roads) 8 0) (getD (drop at roads) 9 0) (getD (drop at roads) 10 0) ∙ simp (getD-drop at roads, add-assoc)
+  first-names at j =
+      junction-named (sameIn text) j (getD (drop at roads) 4 0) (getD (drop at roads) 5 0)
+      (getD (drop at roads) 6 0) (getD (drop at roads) 7 0) (getD (drop at roads) 8 0)
+      (getD (drop at roads) 9 0) (getD (drop at roads) 10 0)
+      ∙ simp (getD-drop at roads, add-assoc)
 
-  last-names : (at : ℕ) (j : Span) → namesJunction (sameIn text) j (roadIn sections (drop at roads) .successor) ≡ (toJunction roads (at + 11) && sameIn text (nameFrom roads (at + 13)) j)
+  last-names : (at : ℕ) (j : Span)
+      → namesJunction (sameIn text) j (roadIn sections (drop at roads) .successor)
+      ≡ (toJunction roads (at + 11) && sameIn text (nameFrom roads (at + 13)) j)
   unfolding roadIn
-  last-names at j = junction-named (sameIn text) j (getD (drop at roads) 11 0) (getD (drop at roads) 12 0) (getD (drop at roads) 13 0) (getD (drop at roads) 14 0) (getD (drop at roads) 15 0) (getD (drop at roads) 16 0) (getD (drop at roads) 17 0) ∙ simp (getD-drop at roads, add-assoc)
+  last-names at j =
+      junction-named (sameIn text) j (getD (drop at roads) 11 0) (getD (drop at roads) 12 0)
+      (getD (drop at roads) 13 0) (getD (drop at roads) 14 0) (getD (drop at roads) 15 0)
+      (getD (drop at roads) 16 0) (getD (drop at roads) 17 0)
+      ∙ simp (getD-drop at roads, add-assoc)
 
   direct-is : (q : ℕ) → isDirect (junctionIn C (from 5 junctions q) .kind) ≡ eqb (getD junctions (q * 5 + 2) 0) 1
   unfolding junctionIn
@@ -131,30 +166,47 @@ module _ (text roads junctions : List ℕ) (C : List Connection) (sections : Lis
   unfolding junctionIn
   called q = name-at 5 0 junctions q
 
-  one-junction : (at q : ℕ) → (isDirect (junctionIn C (from 5 junctions q) .kind) && namesTwice (sameIn text) (junctionIn C (from 5 junctions q) .name) (roadIn sections (drop at roads)))
-      ≡ (((toJunction roads (at + 4) && toJunction roads (at + 11)) && sameIn text (nameFrom roads (at + 13)) (nameFrom roads (at + 6))) && isDirectOf text junctions (nameFrom roads (at + 6)) q)
+  one-junction : (at q : ℕ)
+      → (isDirect (junctionIn C (from 5 junctions q) .kind) && namesTwice (sameIn text)
+      (junctionIn C (from 5 junctions q) .name) (roadIn sections (drop at roads)))
+      ≡ (((toJunction roads (at + 4) && toJunction roads (at + 11)) && sameIn text (nameFrom roads (at + 13))
+      (nameFrom roads (at + 6))) && isDirectOf text junctions (nameFrom roads (at + 6)) q)
   unfolding namesTwice isDirectOf
   one-junction at q =
-      ap₂ _&&_ (direct-is q) (ap₂ _&&_ (first-names at (junctionIn C (from 5 junctions q) .name)) (last-names at (junctionIn C (from 5 junctions q) .name)))
-      ∙ ap (λ (n : Span). eqb (getD junctions (q * 5 + 2) 0) 1 && ((toJunction roads (at + 4) && sameIn text (nameFrom roads (at + 6)) n) && (toJunction roads (at + 11) && sameIn text (nameFrom roads (at + 13)) n))) (called q)
-      ∙ pairwise text (nameFrom roads (at + 6)) (nameFrom roads (at + 13)) (nameAt 5 0 junctions q) (eqb (getD junctions (q * 5 + 2) 0) 1) (toJunction roads (at + 4)) (toJunction roads (at + 11))
+      ap₂ _&&_ (direct-is q) (ap₂ _&&_ (first-names at (junctionIn C (from 5 junctions q) .name))
+      (last-names at (junctionIn C (from 5 junctions q) .name)))
+      ∙ ap (λ (n : Span).
+      eqb (getD junctions (q * 5 + 2) 0) 1 &&
+      ((toJunction roads (at + 4) && sameIn text (nameFrom roads (at + 6)) n) &&
+      (toJunction roads (at + 11) && sameIn text (nameFrom roads (at + 13)) n))) (called q)
+      ∙ pairwise text (nameFrom roads (at + 6)) (nameFrom roads (at + 13)) (nameAt 5 0 junctions q)
+      (eqb (getD junctions (q * 5 + 2) 0) 1) (toJunction roads (at + 4)) (toJunction roads (at + 11))
 
-  some-direct : (at : ℕ) → some? (λ j. isDirect (j .kind) && namesTwice (sameIn text) (j .name) (roadIn sections (drop at roads))) (map (junctionIn C) (table 5 junctions)) ≡ twiceFrom text roads junctions at
+  some-direct : (at : ℕ)
+      → some? (λ j. isDirect (j .kind) && namesTwice (sameIn text) (j .name) (roadIn sections (drop at roads)))
+      (map (junctionIn C) (table 5 junctions)) ≡ twiceFrom text roads junctions at
   unfolding twiceFrom
   some-direct at =
-      let F : Junction → Bool = λ j. isDirect (j .kind) && namesTwice (sameIn text) (j .name) (roadIn sections (drop at roads)) in
-      let c = (toJunction roads (at + 4) && toJunction roads (at + 11)) && sameIn text (nameFrom roads (at + 13)) (nameFrom roads (at + 6)) in
+      let F : Junction → Bool =
+      λ j. isDirect (j .kind) && namesTwice (sameIn text) (j .name) (roadIn sections (drop at roads)) in
+      let c =
+      (toJunction roads (at + 4) && toJunction roads (at + 11)) && sameIn text (nameFrom roads (at + 13))
+      (nameFrom roads (at + 6)) in
       ap (some? F) (map-rows 5 junctions (junctionIn C) (junction-in-local C))
       ∙ some-tab F (length junctions / 5) (λ q. junctionIn C (from 5 junctions q))
-      ∙ any-same (length junctions / 5) (λ q. F (junctionIn C (from 5 junctions q))) (λ q. c && isDirectOf text junctions (nameFrom roads (at + 6)) q) (λ q lt. one-junction at q)
+      ∙ any-same (length junctions / 5) (λ q. F (junctionIn C (from 5 junctions q)))
+      (λ q. c && isDirectOf text junctions (nameFrom roads (at + 6)) q) (λ q lt. one-junction at q)
       ∙ any-factor c (length junctions / 5) (isDirectOf text junctions (nameFrom roads (at + 6)))
 
 own-name : (text : List ℕ) (a : Span) → sameIn text a a ≡ true
 unfolding sameIn
 own-name text a = equal-refl (bytesOf text a)
 
-pub one-ended : (text roads sections junctions connections pairs marks : List ℕ) → namesOnce (sameIn text) (roadsIn sections roads) ≡ true → length roads / 20 ≡ length marks →
-    oneEndedIn (sameIn text) (marked (sameIn text) (roadsIn sections roads) marks) (junctionsIn pairs connections junctions) (roadsIn sections roads) ≡ all (length roads / 20) (turnsTwice text roads junctions marks)
+pub one-ended : (text roads sections junctions connections pairs marks : List ℕ)
+    → namesOnce (sameIn text) (roadsIn sections roads) ≡ true → length roads / 20 ≡ length marks →
+    oneEndedIn (sameIn text) (marked (sameIn text) (roadsIn sections roads) marks)
+    (junctionsIn pairs connections junctions) (roadsIn sections roads)
+    ≡ all (length roads / 20) (turnsTwice text roads junctions marks)
 unfolding oneEndedIn namesDirectTwice junctionsIn turnsTwice
 one-ended text roads sections junctions connections pairs marks once len =
     let same = sameIn text in
@@ -162,16 +214,27 @@ one-ended text roads sections junctions connections pairs marks once len =
     let js = map (junctionIn (connectionsIn pairs connections)) (table 5 junctions) in
     let road : ℕ → Road = λ i. roadIn sections (from 20 roads i) in
     let n = length roads / 20 in
-    let G : Road → Bool = λ r. not (marked same rs marks (r .name) && some? (λ j. isDirect (j .kind) && namesTwice same (j .name) r) js) in
+    let G : Road → Bool =
+    λ r.
+    not
+    (marked same rs marks (r .name) && some? (λ j. isDirect (j .kind) && namesTwice same (j .name) r) js) in
     ap (every G) (roads-tab roads sections)
     ∙ every-tab G n road
     ∙ all-same n (λ i. G (road i)) (λ i. not (eqb (getD marks i 0) 1 && twiceFrom text roads junctions (i * 20)))
-    (λ i lt. ap₂ (λ a b. not (a && b)) (mark i lt) (some-direct text roads junctions (connectionsIn pairs connections) sections (i * 20)))
+    (λ i lt.
+    ap₂ (λ a b. not (a && b)) (mark i lt)
+    (some-direct text roads junctions (connectionsIn pairs connections) sections (i * 20)))
   where
-    mark : (i : ℕ) → i < length roads / 20 → marked (sameIn text) (roadsIn sections roads) marks (roadIn sections (from 20 roads i) .name) ≡ eqb (getD marks i 0) 1
+    mark : (i : ℕ) → i < length roads / 20
+        → marked (sameIn text) (roadsIn sections roads) marks (roadIn sections (from 20 roads i) .name)
+        ≡ eqb (getD marks i 0) 1
     mark i lt =
         let d = roadIn [] [] in
-        let at : getD (roadsIn sections roads) i d ≡ roadIn sections (from 20 roads i) = ap (λ (l : List Road). getD l i d) (roads-tab roads sections) ∙ tab-at (length roads / 20) (λ i. roadIn sections (from 20 roads i)) i d lt in
-        let count : length (roadsIn sections roads) ≡ length roads / 20 = ap length (roads-tab roads sections) ∙ tab-length (length roads / 20) _ in
+        let at : getD (roadsIn sections roads) i d ≡ roadIn sections (from 20 roads i) =
+        ap (λ (l : List Road). getD l i d) (roads-tab roads sections)
+        ∙ tab-at (length roads / 20) (λ i. roadIn sections (from 20 roads i)) i d lt in
+        let count : length (roadsIn sections roads) ≡ length roads / 20 =
+        ap length (roads-tab roads sections) ∙ tab-length (length roads / 20) _ in
         ap (λ (r : Road). marked (sameIn text) (roadsIn sections roads) marks (r .name)) (sym at)
-        ∙ marked-at (sameIn text) (own-name text) (roadsIn sections roads) marks i d (count ∙ len) (subst (λ (k : ℕ). i < k) (sym count) lt) (unfold namesOnce in once)
+        ∙ marked-at (sameIn text) (own-name text) (roadsIn sections roads) marks i d (count ∙ len)
+        (subst (λ (k : ℕ). i < k) (sym count) lt) (unfold namesOnce in once)

@@ -1,4 +1,5 @@
--- The rules by row numbers: what the code's loops and indexes answer. proofs/ has each as the rule of the model. Definitions only.
+-- The rules by row numbers: what the code's loops and indexes answer. proofs/ has each as the rule of the
+-- model. Definitions only.
 use Prim.Native.Nat.{ℕ, zero, suc, _+_, _*_, _/_, _<_, _≤_}
 use mathlib.Core.Path.{_≡_}
 use mathlib.Core.List.{List, [], _∷_, map}
@@ -21,7 +22,9 @@ abbrev pub placedAt : List ℕ → List ℕ → ℕ → Bool
 placedAt text ws a = placed text (nameFrom ws a)
 
 abbrev pub targetFits : List ℕ → List ℕ → ℕ → Bool
-targetFits text ws a = targetWorded text (getD ws a 0) (getD ws (a + 1) 0) (getD ws (a + 2) 0) (getD ws (a + 3) 0) (getD ws (a + 4) 0) (getD ws (a + 5) 0) (getD ws (a + 6) 0)
+targetFits text ws a =
+    targetWorded text (getD ws a 0) (getD ws (a + 1) 0) (getD ws (a + 2) 0) (getD ws (a + 3) 0)
+    (getD ws (a + 4) 0) (getD ws (a + 5) 0) (getD ws (a + 6) 0)
 
 abbrev pub linkFits : List ℕ → ℕ → Bool
 linkFits ws a = linkWorded (getD ws a 0) (getD ws (a + 1) 0)
@@ -57,7 +60,9 @@ toJunction ws a = eqb (getD ws a 0) 1 && eqb (getD ws (a + 1) 0) 1
 
 -- the road whose row begins at word a names one direct junction at both ends
 unfoldable pub twiceFrom : List ℕ → List ℕ → List ℕ → ℕ → Bool
-twiceFrom text roads junctions a = toJunction roads (a + 4) && toJunction roads (a + 11) && sameIn text (nameFrom roads (a + 13)) (nameFrom roads (a + 6))
+twiceFrom text roads junctions a =
+    toJunction roads (a + 4) && toJunction roads (a + 11) && sameIn text (nameFrom roads (a + 13))
+    (nameFrom roads (a + 6))
     && any (length junctions / 5) (isDirectOf text junctions (nameFrom roads (a + 6)))
 
 -- road i is not marked, or does not
@@ -71,7 +76,8 @@ pub record Few (roads sections connections pairs : List ℕ) : Type 0 where
   pub few-connections : length connections / 7 ≤ 16384
   pub few-pairs : length pairs / 2 ≤ 16384
 
--- what the checks of 1 to 8 leave in the arrays that they are lent: the roads linked by name, each lane's road, the lanes linked by road, section and number
+-- what the checks of 1 to 8 leave in the arrays that they are lent: the roads linked by name, each lane's road,
+-- the lanes linked by road, section and number
 pub record Linked (text roads lanes heads next owner keyHeads keyNext : List ℕ) : Type 0 where
   pub named : Chained (nameHash text 20 0 roads) (length roads / 20) heads next
   pub owned : Owned text roads lanes (length lanes / 10) owner

@@ -200,9 +200,9 @@ module _ (hash : ℕ → ℕ) (p : ℕ → Bool) (b n : ℕ) (heads next : List 
   seek-none at s z = sym (last-none p) ∙ ap (λ (k : ℕ). lastOf k p) (sym z) ∙ s .rest
 
 -- a link loop's turn: the chains with row i put in front of its bucket
-pub link-turn : (hash : ℕ → ℕ) (i : ℕ) (heads next : List ℕ) {heads′ next′ : List ℕ} {h : ℕ}
-    → Chained hash i heads next → h ≡ hash i → h < length heads → i < length next →
-    heads′ ≡ set heads h (i + 1) → next′ ≡ set next i (getD heads h 0) → Chained hash (i + 1) heads′ next′
-link-turn hash i heads next {heads′} {next′} {h} k e l m p q = subst₂ (λ (x y : List ℕ). Chained hash (i + 1) x y)
-    (sym (p ∙ ap (λ (b : ℕ). set heads b (i + 1)) e)) (sym (q ∙ ap (λ (b : ℕ). set next i (getD heads b 0)) e))
-    (chained-more hash i heads next k (subst (λ (b : ℕ). b < length heads) e l) m)
+pub link-turn : (hash : ℕ → ℕ) (i : ℕ) (heads next : List ℕ) {newHeads newNext : List ℕ} {h : ℕ}
+    → Chained hash i heads next → h ≡ hash i → h < length heads → i < length next
+    → newHeads ≡ set heads h (i + 1) → newNext ≡ set next i (getD heads h 0)
+    → Chained hash (i + 1) newHeads newNext
+link-turn hash i heads next chains is inside room heads-are next-is =
+    rw (heads-are, next-is, is) (chained-more hash i heads next chains (rw is at inside) room)

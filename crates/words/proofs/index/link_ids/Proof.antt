@@ -1,69 +1,58 @@
-use borrow.Author.Needs.{needs}
-use lib.ListN.{length, getD, set}
+-- `link_ids` puts each lane in front of its bucket's chain, as `link_names` does.
+use lib.ListN.{length}
+use Prim.Native.Nat.{ℕ, _+_, _*_, _-_, _<_}
 use native.Mathlib.Omega.{arith}
-use mathlib.Core.List.{List}
-use mathlib.Core.Path.{_≡_, refl, sym, ap, _∙_, subst, subst₂}
-use Prim.Native.Nat.{ℕ, _+_, _-_, _*_, _%_, _≤_}
-use Rattle.words.specs.Chain.{Chained}
-use Rattle.words.specs.Keys.{idBefore, idHash, isId}
-use Rattle.words.specs.Rows.{any}
-use Rattle.words.proofs.Chains.{chained-more, chained-none}
-use Rattle.words.proofs.KeyLaws.{met-more, row-in, rows-le}
-use Rattle.words.proofs.Laws.{any-none}
+use borrow.Author.Needs.{needs}
+use mathlib.Core.Path.{refl}
+use Rattle.words.specs.Keys.{idBefore, idHash}
+use Rattle.words.proofs.KeyLaws.{row-in, rows-le}
+use Rattle.words.proofs.Loops.{Linking, all-linked, linking-more, linking-none}
 use Rattle.words.proofs.index.link_ids.Statement.{statement}
 use Rattle.words.proofs.index.link_ids.Tie as tie
 
 abbrev Inv-loop : tie.InvT-loop
 Inv-loop lanes n heads₀ next₀ twice₀ i₀ heads next twice i =
-    (i ≤ n)
-    × (twice ≡ any i (idBefore (lanes)))
-    × (length heads ≡ 16384)
-    × (length next ≡ 16384)
-    × Chained (idHash (lanes)) i heads next
+    Linking (idHash lanes) (idBefore lanes) n heads next twice i
 
 abbrev μ-loop : tie.MeasureT-loop
 μ-loop lanes n heads₀ next₀ twice₀ i₀ heads next twice i = n - i
 
+-- ---- the places
+abbrev Start : Type 0
+Start = tie.Start Inv-loop μ-loop
+
+abbrev Head : Type 0
+Head = tie.At-loop Inv-loop μ-loop
+
+abbrev Turn : Type 0
+Turn = tie.In-loop Inv-loop μ-loop
+
+-- lane i has all its words
+row-fits : (start : Start) (i : ℕ) → i < start .args .n → i * 10 + 9 < length (start .args .lanes .now)
+row-fits start i h = row-in _ 10 9 _ _ h (start .pre .0 .0) (omega arith)
+
 loop-holds : tie.Need-loop-holds Inv-loop μ-loop
 loop-holds c =
-    let start : tie.Start Inv-loop μ-loop = search in
-    let empty = start .pre .1 in (omega arith, sym (any-none _), empty .buckets, empty .rows, chained-none _ empty)
+    let start : Start = search in
+    linking-none (start .pre .1)
 
 mul-id : tie.Need-mul-id Inv-loop μ-loop
-mul-id c =
-    let at-loop : tie.At-loop Inv-loop μ-loop = search in
-    let start : tie.Start Inv-loop μ-loop = search in
-    omega (
-      arith,
-      row-in (start .args .n) 10 9 (at-loop .loop .i) (length (start .args .lanes .now)) (c .loop-test .taken)
-          (start .pre .0 .0) (omega arith),
-    )
+mul-id c = let turn : Turn = search in omega (arith, row-fits (search) _ (turn .loop-test .taken))
 
 mul-id-2 : tie.Need-mul-id-2 Inv-loop μ-loop
 mul-id-2 c = search needs
 
 shared-slice-read-id : tie.Need-shared-slice-read-id Inv-loop μ-loop
-shared-slice-read-id c =
-    let in-loop : tie.In-loop Inv-loop μ-loop = search in
-    let at-loop : tie.At-loop Inv-loop μ-loop = search in
-    let start : tie.Start Inv-loop μ-loop = search in
-    omega (
-      arith,
-      row-in (start .args .n) 10 9 (at-loop .loop .i) (length (start .args .lanes .now))
-          (in-loop .loop-test .taken) (start .pre .0 .0) (omega arith),
-    )
+shared-slice-read-id c = let turn : Turn = search in omega (arith, row-fits (search) _ (turn .loop-test .taken))
 
 find-id-requires : tie.Need-find-id-requires Inv-loop μ-loop
 find-id-requires c κs =
-    let at-loop : tie.At-loop Inv-loop μ-loop = search in
-    let start : tie.Start Inv-loop μ-loop = search in (
-      (
-        rows-le (at-loop .loop .i) (start .args .n) 10 (length (start .args .lanes .now))
-            (at-loop .loop .inv .0) (start .pre .0 .0),
-        at-loop .loop .inv .2,
-        omega (arith, start .pre .0 .1, at-loop .loop .inv .3, at-loop .loop .inv .0),
-      ),
-      at-loop .loop .inv .4,
+    let head : Head = search in
+    let start : Start = search in
+    let pre = start .pre .0 in
+    let inv = head .loop .inv in (
+      (rows-le _ _ _ _ (inv .below) (pre .0), inv .buckets, omega (arith, pre .1, inv .rows, inv .below)),
+      inv .chains,
     )
 
 met-requires : tie.Need-met-requires Inv-loop μ-loop
@@ -74,53 +63,32 @@ cast-link c = omega arith
 
 link-requires : tie.Need-link-requires Inv-loop μ-loop
 link-requires c κs =
-    let in-loop : tie.In-loop Inv-loop μ-loop = search in
-    let at-loop : tie.At-loop Inv-loop μ-loop = search in
-    let start : tie.Start Inv-loop μ-loop = search in (
-      omega (arith, at-loop .loop .inv .2),
-      omega (arith, start .pre .0 .1, at-loop .loop .inv .3, in-loop .loop-test .taken),
-      omega (arith, start .pre .0 .1, in-loop .loop-test .taken),
+    let turn : Turn = search in
+    let head : Head = search in
+    let start : Start = search in
+    let inv = head .loop .inv in (
+      omega (arith, inv .buckets),
+      omega (arith, start .pre .0 .1, inv .rows, turn .loop-test .taken),
+      omega (arith, start .pre .0 .1, turn .loop-test .taken),
     )
 
 add-i : tie.Need-add-i Inv-loop μ-loop
-add-i c =
-    let in-loop : tie.In-loop Inv-loop μ-loop = search in
-    omega (arith, in-loop .loop-test .taken)
+add-i c = let turn : Turn = search in omega (arith, turn .loop-test .taken)
 
 loop-less : tie.Need-loop-less Inv-loop μ-loop
-loop-less c =
-    let in-loop : tie.In-loop Inv-loop μ-loop = search in
-    omega (arith, in-loop .loop-test .taken)
+loop-less c = let turn : Turn = search in omega (arith, turn .loop-test .taken)
 
 loop-again : tie.Need-loop-again Inv-loop μ-loop
 unfolding idHash idBefore
 loop-again c =
-    let after-link : tie.After-link Inv-loop μ-loop = search in
-    let after-met : tie.After-met Inv-loop μ-loop = search in
-    let after-find-id : tie.After-find-id Inv-loop μ-loop = search in
-    let in-loop : tie.In-loop Inv-loop μ-loop = search in
-    let at-loop : tie.At-loop Inv-loop μ-loop = search in
-    let start : tie.Start Inv-loop μ-loop = search in
-    let lanes = start .args .lanes .now in
-    let getD′ = getD lanes (at-loop .loop .i * 10) 0 in
-    let l = at-loop .loop in
-    let h : getD′ % 16384 ≡ getD′ % 16384 = refl in
-    let e = after-link .link .ensures in
-    let heads-is : after-link .link .last .0 ≡ set (l .heads) ((idHash lanes) (l .i)) (l .i + 1) =
-    e .0 ∙ ap (λ (k : ℕ). set (l .heads) k (l .i + 1)) h in
-    let next-is : after-link .link .last .1 .0
-    ≡ set (l .next) (l .i) (getD (l .heads) ((idHash lanes) (l .i)) 0) =
-    e .1 ∙ ap (λ (k : ℕ). set (l .next) (l .i) (getD (l .heads) k 0)) h in (
-      omega (arith, in-loop .loop-test .taken),
-      met-more (l .i) (idBefore lanes) (isId lanes getD′) (after-met .met .ensures) (l .inv .1)
-          (after-find-id .find-id .ensures) refl,
-      after-link .link .kept .0 ∙ l .inv .2,
-      after-link .link .kept .1 .0 ∙ l .inv .3,
-      subst₂ (λ (x y : List ℕ). Chained (idHash lanes) (l .i + 1) x y) (sym heads-is) (sym next-is)
-          (chained-more (idHash lanes) (l .i) (l .heads) (l .next) (l .inv .4)
-          (omega (arith, h, at-loop .loop .inv .3, l .inv .2))
-          (omega (arith, start .pre .0 .1, l .inv .3, in-loop .loop-test .taken))),
-    )
+    let linked : tie.After-link Inv-loop μ-loop = search in
+    let met : tie.After-met Inv-loop μ-loop = search in
+    let found : tie.After-find-id Inv-loop μ-loop = search in
+    let turn : Turn = search in
+    let head : Head = search in
+    let start : Start = search in
+    linking-more (head .loop .inv) _ (turn .loop-test .taken) (start .pre .0 .1) (met .met .ensures)
+    (found .find-id .ensures) refl refl (omega arith) (linked .link .ensures .0) (linked .link .ensures .1)
 
 same-length : tie.Need-same-length Inv-loop μ-loop
 same-length c = omega arith
@@ -130,14 +98,8 @@ same-length-2 c = omega arith
 
 returns : tie.Need-returns Inv-loop μ-loop
 returns c =
-    let at-loop : tie.At-loop Inv-loop μ-loop = search in
-    let start : tie.Start Inv-loop μ-loop = search in
-    let lanes = start .args .lanes .now in
-    let l = at-loop .loop in
-    let past : l .i ≡ start .args .n = omega arith in (
-      l .inv .1 ∙ ap (λ (k : ℕ). any k (idBefore lanes)) past,
-      subst (λ (k : ℕ). Chained (idHash lanes) k (l .heads) (l .next)) past (l .inv .4),
-    )
+    let head : Head = search in
+    all-linked (head .loop .inv) (omega arith)
 
 pub link-ids-spec : {M : Type 1} → statement M
 link-ids-spec =

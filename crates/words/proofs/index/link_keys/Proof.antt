@@ -1,27 +1,19 @@
--- `link_keys` puts each lane in front of its bucket's chain. Before turn `i` the chains are those of the first
--- `i` lanes, and
--- `twice` says whether two of them have one key.
+-- `link_keys` puts each lane in front of its bucket's chain, as `link_names` does.
 use lib.ListN.{length, getD}
-use Prim.Native.Nat.{ℕ, _+_, _*_, _-_, _≤_, _<_}
+use Prim.Native.Nat.{ℕ, _+_, _*_, _-_, _<_}
 use native.Mathlib.Omega.{arith}
 use borrow.Author.Needs.{needs}
-use mathlib.Core.Path.{_≡_, refl, sym, ap, _∙_}
-use Rattle.words.specs.Chain.{Chained}
+use mathlib.Core.Path.{_≡_, refl, ap, _∙_}
 use Rattle.words.specs.Keys.{isKey, keyBefore, keyHash, laneHash}
-use Rattle.words.specs.Rows.{any, lastOf}
-use Rattle.words.proofs.Chains.{chained-none, link-turn}
-use Rattle.words.proofs.KeyLaws.{met-more, row-in, rows-le}
-use Rattle.words.proofs.Laws.{any-none}
+use Rattle.words.specs.Rows.{lastOf}
+use Rattle.words.proofs.KeyLaws.{row-in, rows-le}
+use Rattle.words.proofs.Loops.{Linking, all-linked, linking-more, linking-none}
 use Rattle.words.proofs.index.link_keys.Statement.{statement}
 use Rattle.words.proofs.index.link_keys.Tie as tie
 
 abbrev Inv-loop : tie.InvT-loop
 Inv-loop lanes owner n heads₀ next₀ twice₀ i₀ heads next twice i =
-    (i ≤ n)
-    × (twice ≡ any i (keyBefore lanes owner))
-    × (length heads ≡ 16384)
-    × (length next ≡ 16384)
-    × Chained (laneHash lanes owner) i heads next
+    Linking (laneHash lanes owner) (keyBefore lanes owner) n heads next twice i
 
 abbrev μ-loop : tie.MeasureT-loop
 μ-loop lanes owner n heads₀ next₀ twice₀ i₀ heads next twice i = n - i
@@ -43,7 +35,7 @@ row-fits start i h = row-in _ 10 9 _ _ h (start .pre .0 .0) (omega arith)
 loop-holds : tie.Need-loop-holds Inv-loop μ-loop
 loop-holds c =
     let start : Start = search in
-    let empty = start .pre .1 in (omega arith, sym (any-none _), empty .buckets, empty .rows, chained-none _ empty)
+    linking-none (start .pre .1)
 
 word-requires : tie.Need-word-requires Inv-loop μ-loop
 word-requires c κs =
@@ -83,14 +75,14 @@ find-key-requires c κs =
     let pre = start .pre .0 in
     let inv = head .loop .inv in (
       (
-        rows-le _ _ _ _ (inv .0) (pre .0),
-        omega (arith, pre .1, inv .0),
-        omega (arith, pre .2, inv .0),
-        inv .2,
-        omega (arith, pre .1, inv .3, inv .0),
+        rows-le _ _ _ _ (inv .below) (pre .0),
+        omega (arith, pre .1, inv .below),
+        omega (arith, pre .2, inv .below),
+        inv .buckets,
+        omega (arith, pre .1, inv .rows, inv .below),
         read .word .ensures .1,
       ),
-      inv .4,
+      inv .chains,
     )
 
 met-requires : tie.Need-met-requires Inv-loop μ-loop
@@ -108,8 +100,8 @@ link-requires c κs =
     let head : Head = search in
     let start : Start = search in
     let inv = head .loop .inv in (
-      omega (arith, bucket .key-bucket .ensures .1, inv .2),
-      omega (arith, start .pre .0 .1, inv .3, turn .loop-test .taken),
+      omega (arith, bucket .key-bucket .ensures .1, inv .buckets),
+      omega (arith, start .pre .0 .1, inv .rows, turn .loop-test .taken),
       omega (arith, start .pre .0 .1, turn .loop-test .taken),
     )
 
@@ -132,22 +124,15 @@ loop-again c =
     let start : Start = search in
     let lanes = start .args .lanes .now in
     let owner = start .args .owner .now in
-    let inv = head .loop .inv in
     let i = head .loop .i in
     let section = getD lanes (i * 10 + 3) 0 in
     let number = getD lanes (i * 10 + 4) 0 in
     let road-is : read .word .result ≡ getD owner i 0 = read .word .ensures .0 in
     let bucket-is = bucket .key-bucket .ensures .0 ∙ ap (λ (r : ℕ). keyHash r section number) road-is in
     let last-is = found .find-key .ensures
-    ∙ ap (λ (r : ℕ). lastOf i (isKey lanes owner r section number)) road-is in (
-      omega (arith, turn .loop-test .taken),
-      met-more i _ _ (met .met .ensures) (inv .1) last-is refl,
-      linked .link .kept .0 ∙ inv .2,
-      linked .link .kept .1 .0 ∙ inv .3,
-      link-turn _ i _ _ (inv .4) bucket-is (omega (arith, bucket .key-bucket .ensures .1, inv .2))
-          (omega (arith, start .pre .0 .1, inv .3, turn .loop-test .taken)) (linked .link .ensures .0)
-          (linked .link .ensures .1),
-    )
+    ∙ ap (λ (r : ℕ). lastOf i (isKey lanes owner r section number)) road-is in
+    linking-more (head .loop .inv) _ (turn .loop-test .taken) (start .pre .0 .1) (met .met .ensures) last-is refl
+    bucket-is (bucket .key-bucket .ensures .1) (linked .link .ensures .0) (linked .link .ensures .1)
 
 same-length : tie.Need-same-length Inv-loop μ-loop
 same-length c = omega arith
@@ -158,10 +143,7 @@ same-length-2 c = omega arith
 returns : tie.Need-returns Inv-loop μ-loop
 returns c =
     let head : Head = search in
-    let start : Start = search in
-    let inv = head .loop .inv in
-    let past : head .loop .i ≡ start .args .n = omega arith in
-    (rw past at (inv .1), rw past at (inv .4))
+    all-linked (head .loop .inv) (omega arith)
 
 pub link-keys-spec : {M : Type 1} → statement M
 link-keys-spec =

@@ -1,28 +1,21 @@
 -- `link_names` puts each row in front of its bucket's chain. Before turn `i` the chains are those of the first
--- `i` rows, and `twice` says whether
--- two of them bear one name.
+-- `i` rows, and `twice` says whether two of them bear one name: `Linking`, whose laws answer the needs.
 use borrow.Author.Needs.{needs}
 use lib.ListN.{length}
 use native.Mathlib.Omega.{arith}
 use mathlib.Core.Bool.{Bool}
-use mathlib.Core.Path.{_≡_, refl, sym, ap, ap₂, _∙_}
-use Prim.Native.Nat.{ℕ, _+_, _*_, _-_, _≤_, _<_}
-use Rattle.words.specs.Chain.{Chained}
+use mathlib.Core.Path.{refl, ap₂, _∙_}
+use Prim.Native.Nat.{ℕ, _+_, _*_, _-_, _<_}
 use Rattle.words.specs.Keys.{bears, hashName, nameBefore, nameHash}
-use Rattle.words.specs.Rows.{any, lastOf, nameAt, span}
-use Rattle.words.proofs.Chains.{chained-none, link-turn}
-use Rattle.words.proofs.KeyLaws.{met-more, row-in, rows-le}
-use Rattle.words.proofs.Laws.{any-none}
+use Rattle.words.specs.Rows.{lastOf, span}
+use Rattle.words.proofs.KeyLaws.{row-in, rows-le}
+use Rattle.words.proofs.Loops.{Linking, all-linked, linking-more, linking-none}
 use Rattle.words.proofs.index.link_names.Statement.{statement}
 use Rattle.words.proofs.index.link_names.Tie as tie
 
 abbrev Inv-loop : tie.InvT-loop
 Inv-loop text ws w k n heads₀ next₀ twice₀ i₀ heads next twice i =
-    (i ≤ n)
-    × (twice ≡ any i (nameBefore text w k ws))
-    × (length heads ≡ 16384)
-    × (length next ≡ 16384)
-    × Chained (nameHash text w k ws) i heads next
+    Linking (nameHash text w k ws) (nameBefore text w k ws) n heads next twice i
 
 abbrev μ-loop : tie.MeasureT-loop
 μ-loop text ws w k n heads₀ next₀ twice₀ i₀ heads next twice i = n - i
@@ -50,7 +43,7 @@ module _ (start : Start) where
 loop-holds : tie.Need-loop-holds Inv-loop μ-loop
 loop-holds c =
     let start : Start = search in
-    let empty = start .pre .1 in (omega arith, sym (any-none _), empty .buckets, empty .rows, chained-none _ empty)
+    linking-none (start .pre .1)
 
 mul-word : tie.Need-mul-word Inv-loop μ-loop
 mul-word c = let turn : Turn = search in omega (arith, row-fits (search) _ (turn .loop-test .taken))
@@ -84,14 +77,14 @@ find-name-requires c κs =
       (
         pre .0,
         pre .1,
-        rows-le _ _ _ _ (inv .0) (pre .2),
-        omega (arith, pre .3, inv .0),
-        inv .2,
-        omega (arith, pre .3, inv .3, inv .0),
+        rows-le _ _ _ _ (inv .below) (pre .2),
+        omega (arith, pre .3, inv .below),
+        inv .buckets,
+        omega (arith, pre .3, inv .rows, inv .below),
         first .word .ensures .1,
         second .word2 .ensures .1,
       ),
-      inv .4,
+      inv .chains,
     )
 
 met-requires : tie.Need-met-requires Inv-loop μ-loop
@@ -110,8 +103,8 @@ link-requires c κs =
     let head : Head = search in
     let start : Start = search in
     let inv = head .loop .inv in (
-      omega (arith, bucket .bucket .ensures .1, inv .2),
-      omega (arith, start .pre .0 .3, inv .3, turn .loop-test .taken),
+      omega (arith, bucket .bucket .ensures .1, inv .buckets),
+      omega (arith, start .pre .0 .3, inv .rows, turn .loop-test .taken),
       omega (arith, start .pre .0 .3, turn .loop-test .taken),
     )
 
@@ -133,19 +126,11 @@ loop-again c =
     let turn : Turn = search in
     let head : Head = search in
     let start : Start = search in
-    let inv = head .loop .inv in
-    let i = head .loop .i in
     let words : (f : ℕ → ℕ → ℕ) → _ = λ f. ap₂ f (first .word .ensures .0) (second .word2 .ensures .0) in
     let bucket-is = bucket .bucket .ensures .0 ∙ words (λ s l. hashName (start .args .text .now) (span s l)) in
-    let last-is = found .find-name .ensures ∙ words (λ s l. lastOf i (bearers start s l)) in (
-      omega (arith, turn .loop-test .taken),
-      met-more i _ _ (met .met .ensures) (inv .1) last-is refl,
-      linked .link .kept .0 ∙ inv .2,
-      linked .link .kept .1 .0 ∙ inv .3,
-      link-turn _ i _ _ (inv .4) bucket-is (omega (arith, bucket .bucket .ensures .1, inv .2))
-          (omega (arith, start .pre .0 .3, inv .3, turn .loop-test .taken))
-          (linked .link .ensures .0) (linked .link .ensures .1),
-    )
+    let last-is = found .find-name .ensures ∙ words (λ s l. lastOf (head .loop .i) (bearers start s l)) in
+    linking-more (head .loop .inv) _ (turn .loop-test .taken) (start .pre .0 .3) (met .met .ensures) last-is refl
+    bucket-is (bucket .bucket .ensures .1) (linked .link .ensures .0) (linked .link .ensures .1)
 
 same-length : tie.Need-same-length Inv-loop μ-loop
 same-length c = omega arith
@@ -156,10 +141,7 @@ same-length-2 c = omega arith
 returns : tie.Need-returns Inv-loop μ-loop
 returns c =
     let head : Head = search in
-    let start : Start = search in
-    let inv = head .loop .inv in
-    let past : head .loop .i ≡ start .args .n = omega arith in
-    (rw past at (inv .1), rw past at (inv .4))
+    all-linked (head .loop .inv) (omega arith)
 
 pub link-names-spec : {M : Type 1} → statement M
 link-names-spec =
