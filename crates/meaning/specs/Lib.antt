@@ -1,0 +1,3 @@
+pub mod Meaning
+pub mod Implied
+pub mod Confirmed
