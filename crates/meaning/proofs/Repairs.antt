@@ -1,8 +1,9 @@
--- All of repair: every target that it adds is one that a connection implies and the roads lacked, and none lacks after.
+-- All of repair: every target that it adds is one that a connection implies and the roads lacked, and none lacks
+-- after it.
 use mathlib.Core.Path.{_≡_, refl, sym, _∙_, ap, ap₂, subst}
 use mathlib.Core.Bool.{Bool, true, false, not, _&&_, _||_, cond, true≢false, false≢true}
 use mathlib.Core.Option.{Option, none, some}
-use mathlib.Core.List.{List, [], _∷_, map, List·Memᴰ·head, List·Memᴰ·tail, List·Memᴰ·not-nil, List·Memᴰ·cases-cons}
+use mathlib.Core.List.{List, [], _∷_, List·Memᴰ·head, List·Memᴰ·tail, List·Memᴰ·not-nil, List·Memᴰ·cases-cons}
 use mathlib.Core.Logic.{_⊎_, inl, inr}
 use Rattle.model.specs.Lists.{bindO, distinct, first, isSome, some?}
 use Rattle.model.specs.Records.{Connection, Junction, JunctionKind, Map, Road, Span, Target, common, direct, virtual}
@@ -35,107 +36,108 @@ record Grew (r r′ : Road) : Type 0 where
   no-new-road : (e : Bool) (t : Target) → targetAt e r′ ≡ some t → t .isJunction ≡ false → targetAt e r ≡ some t
 
 grew-refl : (r : Road) → Grew r r
-grew-refl r = record { name = refl; kept-target = λ e t q. q; no-new-road = λ e t q j. q }
+grew-refl r = record { name = refl; kept-target = λ e t there. there; no-new-road = λ e t there kind. there }
 
 grew-trans : (a b c : Road) → Grew a b → Grew b c → Grew a c
-grew-trans a b c h k = record {
-  name = k .name ∙ h .name;
-  kept-target = λ e t q. k .kept-target e t (h .kept-target e t q);
-  no-new-road = λ e t q j. h .no-new-road e t (k .no-new-road e t q j) j;
+grew-trans a b c one other = record {
+  name = other .name ∙ one .name;
+  kept-target = λ e t there. other .kept-target e t (one .kept-target e t there);
+  no-new-road = λ e t there kind. one .no-new-road e t (other .no-new-road e t there kind) kind;
 }
 
 -- either end is this one or the other
 at-end : (P : Bool → Type 0) (e d : Bool) → P e → P (not e) → P d
-at-end P true true h k = h
-at-end P true false h k = k
-at-end P false true h k = k
-at-end P false false h k = h
+at-end P true true here there = here
+at-end P true false here there = there
+at-end P false true here there = there
+at-end P false false here there = here
 
 vacant-before : (r r′ : Road) (e : Bool) → Grew r r′ → targetAt e r′ ≡ none → targetAt e r ≡ none
-vacant-before r r′ e g q = go (targetAt e r) refl
+vacant-before r r′ e grew vacant = go (targetAt e r) refl
   where
     go : (o : Option Target) → targetAt e r ≡ o → o ≡ none
-    go none w = refl
-    go (some t) w = absurd (no-some t (sym q ∙ g .kept-target e t w))
+    go none there = refl
+    go (some t) there = absurd (no-some t (sym vacant ∙ grew .kept-target e t there))
 
 module _ (same : Span → Span → Bool) where
   names-grow : (n : Span) (e : Bool) (r r′ : Road) → Grew r r′ → NamesAt same n e r → NamesAt same n e r′
-  names-grow n e r r′ g h = record {
-    target = h .target;
-    linked = g .kept-target e (h .target) (h .linked);
-    junction = h .junction;
-    named = h .named;
+  names-grow n e r r′ grew names = record {
+    target = names .target;
+    linked = grew .kept-target e (names .target) (names .linked);
+    junction = names .junction;
+    named = names .named;
   }
 
   among-grew : (rs rs′ : List Road) (n : Span) (r r′ : Road) → r ∈ rs → Grew r r′ → RoadAmong same rs′ n r′ →
       RoadAmong same rs n r
-  among-grew rs rs′ n r r′ listed g h =
-      record { listed = listed; named = ap (λ x. same x n) (sym (g .name)) ∙ h .named }
+  among-grew rs rs′ n r r′ listed grew there =
+      record { listed = listed; named = ap (λ x. same x n) (sym (grew .name)) ∙ there .named }
 
   -- ---- what lacks later lacked before
   implies-before : (rs rs′ : List Road) (k : Connection) (e : Bool) → Pairwise Grew rs rs′ → Implies same rs′ k e →
       Implies same rs k e
-  implies-before rs rs′ k e p h =
-      let before = pair-left Grew rs rs′ p (h .known .listed) in
+  implies-before rs rs′ k e grown later =
+      let before = pair-left Grew rs rs′ grown (later .known .listed) in
       record {
         connecting = before .0;
-        known = among-grew rs rs′ (k .connecting) (before .0) (h .connecting) (before .1) (before .2) (h .known);
-        link = h .link;
-        linked = before .2 .no-new-road (k .contact) (h .link) (h .linked) (h .toRoad);
-        toRoad = h .toRoad;
-        toIncoming = h .toIncoming;
-        stated = h .stated;
-        meets = h .meets;
+        known = among-grew rs rs′ (k .connecting) (before .0) (later .connecting) (before .1) (before .2)
+            (later .known);
+        link = later .link;
+        linked = before .2 .no-new-road (k .contact) (later .link) (later .linked) (later .toRoad);
+        toRoad = later .toRoad;
+        toIncoming = later .toIncoming;
+        stated = later .stated;
+        meets = later .meets;
       }
 
   lacks-before : (rs rs′ : List Road) (n : Span) (k : Connection) (r r′ : Road) (e : Bool) → Pairwise Grew rs rs′ →
       r ∈ rs → Grew r r′ → Lacks same rs′ n k r′ e → Lacks same rs n k r e
-  lacks-before rs rs′ n k r r′ e p listed g h = record {
-    incoming = among-grew rs rs′ (k .incoming) r r′ listed g (h .incoming);
-    nowhere = λ d named. h .nowhere d (names-grow n d r r′ g named);
-    implied = implies-before rs rs′ k e p (h .implied);
-    vacant = vacant-before r r′ e g (h .vacant);
+  lacks-before rs rs′ n k r r′ e grown listed grew later = record {
+    incoming = among-grew rs rs′ (k .incoming) r r′ listed grew (later .incoming);
+    nowhere = λ d named. later .nowhere d (names-grow n d r r′ grew named);
+    implied = implies-before rs rs′ k e grown (later .implied);
+    vacant = vacant-before r r′ e grew (later .vacant);
   }
 
   -- ---- one step
   mended-grew : (rs : List Road) (n : Span) (k : Connection) (r r′ : Road) → Mended same rs n k r r′ → Grew r r′
-  mended-grew rs n k r r′ (kept h q) = subst (Grew r) (sym q) (grew-refl r)
-  mended-grew rs n k r r′ (given e lacks w) = record {
-    name = w .name;
-    kept-target = λ d. at-end (λ d. (t : Target) → targetAt d r ≡ some t → targetAt d r′ ≡ some t) e d there other;
+  mended-grew rs n k r r′ (kept none-lacks there) = subst (Grew r) (sym there) (grew-refl r)
+  mended-grew rs n k r r′ (given e lacks made) = record {
+    name = made .name;
+    kept-target = λ d. at-end (λ d. (t : Target) → targetAt d r ≡ some t → targetAt d r′ ≡ some t) e d here other;
     no-new-road = new;
   }
     where
-      there : (t : Target) → targetAt e r ≡ some t → targetAt e r′ ≡ some t
-      there t q = absurd (no-some t (sym (lacks .vacant) ∙ q))
+      here : (t : Target) → targetAt e r ≡ some t → targetAt e r′ ≡ some t
+      here t there = absurd (no-some t (sym (lacks .vacant) ∙ there))
 
       other : (t : Target) → targetAt (not e) r ≡ some t → targetAt (not e) r′ ≡ some t
-      other t q = w .other ∙ q
+      other t there = made .other ∙ there
 
       new : (d : Bool) (t : Target) → targetAt d r′ ≡ some t → t .isJunction ≡ false → targetAt d r ≡ some t
       new d = at-end (λ d. (t : Target) → targetAt d r′ ≡ some t → t .isJunction ≡ false → targetAt d r ≡ some t) e d
-          (λ t q j. let same-target : some (toJunction n e) ≡ some t = sym (w .target) ∙ q in
-          let is : toJunction n e ≡ t = cc in absurd (true≢false (ap (λ (x : Target). x .isJunction) is ∙ j)))
-          (λ t q j. sym (w .other) ∙ q)
+          (λ t there kind. let same-target : some (toJunction n e) ≡ some t = sym (made .target) ∙ there in
+          let is : toJunction n e ≡ t = cc in absurd (true≢false (ap (λ (x : Target). x .isJunction) is ∙ kind)))
+          (λ t there kind. sym (made .other) ∙ there)
 
   -- after it, the connection's link is lacking no more
-  step-complete : (A : Alike same) (rs : List Road) → NamesOnce same rs → (n : Span) (k : Connection) (r′ : Road) (e : Bool) →
-      Lacks same (missingLink same n k rs) n k r′ e → ⊥
-  step-complete A rs once n k r′ e h = go (before .2)
+  step-complete : (A : Alike same) (rs : List Road) → NamesOnce same rs → (n : Span) (k : Connection) (r′ : Road)
+      (e : Bool) → Lacks same (missingLink same n k rs) n k r′ e → ⊥
+  step-complete A rs once n k r′ e lacking = go (before .2)
     where
       step : Pairwise (Mended same rs n k) rs (missingLink same n k rs)
       step = step-means same A rs once n k
 
       before : (r : Road) × (r ∈ rs) × Mended same rs n k r r′
-      before = pair-left (Mended same rs n k) rs (missingLink same n k rs) step (h .incoming .listed)
+      before = pair-left (Mended same rs n k) rs (missingLink same n k rs) step (lacking .incoming .listed)
 
       go : Mended same rs n k (before .0) r′ → ⊥
-      go (kept none-lacks q) = none-lacks e (lacks-before rs (missingLink same n k rs) n k (before .0) r′ e
+      go (kept none-lacks is) = none-lacks e (lacks-before rs (missingLink same n k rs) n k (before .0) r′ e
           (pairs-weaken (Mended same rs n k) Grew (mended-grew rs n k) rs (missingLink same n k rs) step) (before .1)
-          (mended-grew rs n k (before .0) r′ (before .2)) h)
-      go (given d lacks w) = h .nowhere d (record {
+          (mended-grew rs n k (before .0) r′ (before .2)) lacking)
+      go (given d lacks made) = lacking .nowhere d (record {
         target = toJunction n d;
-        linked = w .target;
+        linked = made .target;
         junction = refl;
         named = A .same-refl n;
       })
@@ -146,22 +148,24 @@ module _ (same : Span → Span → Bool) where
 
   some-named : (r r′ : Road) → SameName r r′ → (rs rs′ : List Road) → Pairwise SameName rs rs′ →
       some? (alike-names r′) rs′ ≡ some? (alike-names r) rs
-  some-named r r′ q [] [] p = refl
-  some-named r r′ q [] (x ∷ xs) p = absurd p
-  some-named r r′ q (x ∷ xs) [] p = absurd p
-  some-named r r′ q (x ∷ xs) (y ∷ ys) p =
-      let both : alike-names r′ y ≡ alike-names r x = ap₂ same q (p .0) in
-      ap₂ (λ a b. a || b) both (some-named r r′ q xs ys (p .1))
+  some-named r r′ name-kept [] [] kept-names = refl
+  some-named r r′ name-kept [] (x ∷ xs) kept-names = absurd kept-names
+  some-named r r′ name-kept (x ∷ xs) [] kept-names = absurd kept-names
+  some-named r r′ name-kept (x ∷ xs) (y ∷ ys) kept-names =
+      let both : alike-names r′ y ≡ alike-names r x = ap₂ same name-kept (kept-names .0) in
+      ap₂ (λ a b. a || b) both (some-named r r′ name-kept xs ys (kept-names .1))
 
   once-named : (rs rs′ : List Road) → Pairwise SameName rs rs′ → distinct alike-names rs′ ≡ distinct alike-names rs
-  once-named [] [] p = refl
-  once-named [] (x ∷ xs) p = absurd p
-  once-named (x ∷ xs) [] p = absurd p
-  once-named (x ∷ xs) (y ∷ ys) p =
-      ap₂ (λ a b. not a && b) (some-named x y (p .0) xs ys (p .1)) (once-named xs ys (p .1))
+  once-named [] [] kept-names = refl
+  once-named [] (x ∷ xs) kept-names = absurd kept-names
+  once-named (x ∷ xs) [] kept-names = absurd kept-names
+  once-named (x ∷ xs) (y ∷ ys) kept-names =
+      ap₂ (λ a b. not a && b) (some-named x y (kept-names .0) xs ys (kept-names .1))
+      (once-named xs ys (kept-names .1))
 
   once-grew : (rs rs′ : List Road) → Pairwise Grew rs rs′ → NamesOnce same rs → NamesOnce same rs′
-  once-grew rs rs′ p once = once-named rs rs′ (pairs-weaken Grew SameName (λ r r′ g. g .name) rs rs′ p) ∙ once
+  once-grew rs rs′ grown once =
+      once-named rs rs′ (pairs-weaken Grew SameName (λ r r′ grew. grew .name) rs rs′ grown) ∙ once
 
   -- ---- all connections, and all junctions, from the roads base on
   module _ (A : Alike same) (m : Map) (base : List Road) (once : NamesOnce same base) where
@@ -170,56 +174,58 @@ module _ (same : Span → Span → Bool) where
       after : After same m base r r′
 
     came-grew : (rs : List Road) → Pairwise Came base rs → Pairwise Grew base rs
-    came-grew rs p = pairs-weaken Came Grew (λ r r′ c. c .grew) base rs p
+    came-grew rs came = pairs-weaken Came Grew (λ r r′ one. one .grew) base rs came
 
     now-once : (rs : List Road) → Pairwise Came base rs → NamesOnce same rs
-    now-once rs p = once-grew base rs (came-grew rs p) once
+    now-once rs came = once-grew base rs (came-grew rs came) once
 
     came-step : (rs : List Road) → Pairwise Grew base rs → (n : Span) (k : Connection) → OfCommon m n k →
         (r r′ r″ : Road) → r ∈ base → Came r r′ → Mended same rs n k r′ r″ → Came r r″
-    came-step rs p n k of r r′ r″ listed c (kept none-lacks q) = subst (Came r) (sym q) c
-    came-step rs p n k of r r′ r″ listed c (given e lacks w) = record {
-      grew = grew-trans r r′ r″ (c .grew) (mended-grew rs n k r′ r″ (given e lacks w));
+    came-step rs grown n k own r r′ r″ listed came (kept none-lacks is) = subst (Came r) (sym is) came
+    came-step rs grown n k own r r′ r″ listed came (given e lacks made) = record {
+      grew = grew-trans r r′ r″ (came .grew) (mended-grew rs n k r′ r″ (given e lacks made));
       after = record {
         ends = λ d. at-end (EndAfter same m base r r″) e d
-            (implied n k of (lacks-before base rs n k r r′ e p listed (c .grew) lacks) (w .target))
-            (other (c .after .ends (not e)));
-        name = w .name ∙ c .after .name;
-        junction = w .junction ∙ c .after .junction;
-        sections = w .sections ∙ c .after .sections;
+            (implied n k own (lacks-before base rs n k r r′ e grown listed (came .grew) lacks) (made .target))
+            (other (came .after .ends (not e)));
+        name = made .name ∙ came .after .name;
+        junction = made .junction ∙ came .after .junction;
+        sections = made .sections ∙ came .after .sections;
       };
     }
       where
         other : EndAfter same m base r r′ (not e) → EndAfter same m base r r″ (not e)
-        other (asWas q) = asWas (w .other ∙ q)
-        other (implied x y of lacks q) = implied x y of lacks (w .other ∙ q)
+        other (asWas is) = asWas (made .other ∙ is)
+        other (implied x y own lacks is) = implied x y own lacks (made .other ∙ is)
 
     came-links : (n : Span) (ks : List Connection) → ((k : Connection) → k ∈ ks → OfCommon m n k) →
         (rs : List Road) → Pairwise Came base rs → Pairwise Came base (missingLinks same n ks rs)
-    came-links n [] of rs p = p
-    came-links n (k ∷ ks) of rs p = came-links n ks (λ x h. of x (List·Memᴰ·tail h)) (missingLink same n k rs)
+    came-links n [] own rs came = came
+    came-links n (k ∷ ks) own rs came =
+        came-links n ks (λ x later. own x (List·Memᴰ·tail later)) (missingLink same n k rs)
         (pairs-trans Came (Mended same rs n k) Came base rs (missingLink same n k rs)
-        (came-step rs (came-grew rs p) n k (of k (List·Memᴰ·head refl))) p
-        (step-means same A rs (now-once rs p) n k))
+        (came-step rs (came-grew rs came) n k (own k (List·Memᴰ·head refl))) came
+        (step-means same A rs (now-once rs came) n k))
 
     -- a common junction's connections, and those of the others
     came-junction : (j : Junction) → j ∈ m .junctions → (rs : List Road) → Pairwise Came base rs →
         Pairwise Came base (repairRoads same j rs)
     unfolding repairRoads
-    came-junction j listed rs p = go (j .kind) refl
+    came-junction j listed rs came = go (j .kind) refl
       where
         go : (x : JunctionKind) → j .kind ≡ x →
             Pairwise Came base (roadsAfter same x (j .name) (j .connections) rs)
         go common kind = came-links (j .name) (j .connections)
-            (λ k among. record { junction = j; listed = listed; kind = kind; named = refl; among = among }) rs p
-        go direct kind = p
-        go virtual kind = p
+            (λ k among. record { junction = j; listed = listed; kind = kind; named = refl; among = among }) rs came
+        go direct kind = came
+        go virtual kind = came
 
     came-over : (js : List Junction) → ((j : Junction) → j ∈ js → j ∈ m .junctions) → (rs : List Road) →
         Pairwise Came base rs → Pairwise Came base (roadsOver same js rs)
-    came-over [] inside rs p = p
-    came-over (j ∷ js) inside rs p = came-over js (λ x h. inside x (List·Memᴰ·tail h)) (repairRoads same j rs)
-        (came-junction j (inside j (List·Memᴰ·head refl)) rs p)
+    came-over [] inside rs came = came
+    came-over (j ∷ js) inside rs came =
+        came-over js (λ x later. inside x (List·Memᴰ·tail later)) (repairRoads same j rs)
+        (came-junction j (inside j (List·Memᴰ·head refl)) rs came)
 
     came-start : Pairwise Came base base
     came-start = pairs-same Came (λ r. record {
@@ -230,23 +236,25 @@ module _ (same : Span → Span → Bool) where
     -- the junctions, each with the roads as repaired so far
     came-rows : (js : List Junction) → ((j : Junction) → j ∈ js → j ∈ m .junctions) → (rs : List Road) →
         Pairwise Came base rs → Pairwise (RowAfter same m base) js (junctionsOver same js rs)
-    came-rows [] inside rs p = tt
-    came-rows (j ∷ js) inside rs p = (
+    came-rows [] inside rs came = tt
+    came-rows (j ∷ js) inside rs came = (
       record {
         now = rs;
-        so-far = pairs-weaken Came (After same m base) (λ r r′ c. c .after) base rs p;
-        after = junction-means same A rs (now-once rs p) j;
+        so-far = pairs-weaken Came (After same m base) (λ r r′ one. one .after) base rs came;
+        after = junction-means same A rs (now-once rs came) j;
       },
-      came-rows js (λ x h. inside x (List·Memᴰ·tail h)) (repairRoads same j rs)
-          (came-junction j (inside j (List·Memᴰ·head refl)) rs p),
+      came-rows js (λ x later. inside x (List·Memᴰ·tail later)) (repairRoads same j rs)
+          (came-junction j (inside j (List·Memᴰ·head refl)) rs came),
     )
 
     pub rows-mean : Pairwise (RowAfter same m base) (m .junctions) (junctionsOver same (m .junctions) base)
-    rows-mean = came-rows (m .junctions) (λ j h. h) base came-start
+    rows-mean = came-rows (m .junctions) (λ j listed. listed) base came-start
 
     pub over-means : Pairwise (After same m base) base (roadsOver same (m .junctions) base)
-    over-means = pairs-weaken Came (After same m base) (λ r r′ c. c .after) base (roadsOver same (m .junctions) base)
-        (came-over (m .junctions) (λ j h. h) base came-start)
+    over-means =
+        pairs-weaken Came (After same m base) (λ r r′ came. came .after) base
+        (roadsOver same (m .junctions) base)
+        (came-over (m .junctions) (λ j listed. listed) base came-start)
 
   -- ---- none lacks after
   module _ (A : Alike same) where
@@ -261,7 +269,8 @@ module _ (same : Span → Span → Bool) where
     grew-links n (k ∷ ks) rs once =
         pairs-trans Grew Grew Grew rs (missingLink same n k rs) (missingLinks same n ks (missingLink same n k rs))
         (λ a b c l. grew-trans a b c) (grew-step rs once n k)
-        (grew-links n ks (missingLink same n k rs) (once-grew rs (missingLink same n k rs) (grew-step rs once n k) once))
+        (grew-links n ks (missingLink same n k rs)
+        (once-grew rs (missingLink same n k rs) (grew-step rs once n k) once))
 
     grew-junction : (j : Junction) (rs : List Road) → NamesOnce same rs → Pairwise Grew rs (repairRoads same j rs)
     unfolding repairRoads
@@ -282,15 +291,15 @@ module _ (same : Span → Span → Bool) where
     -- what lacks among roads that grew from these lacks among these, for some road
     lacked : (rs rs′ : List Road) (n : Span) (k : Connection) (r′ : Road) (e : Bool) → Pairwise Grew rs rs′ →
         Lacks same rs′ n k r′ e → (r : Road) × Lacks same rs n k r e
-    lacked rs rs′ n k r′ e p h =
-        let before = pair-left Grew rs rs′ p (h .incoming .listed) in
-        (before .0, lacks-before rs rs′ n k (before .0) r′ e p (before .1) (before .2) h)
+    lacked rs rs′ n k r′ e grown lacking =
+        let before = pair-left Grew rs rs′ grown (lacking .incoming .listed) in
+        (before .0, lacks-before rs rs′ n k (before .0) r′ e grown (before .1) (before .2) lacking)
 
-    links-complete : (n : Span) (ks : List Connection) (rs : List Road) → NamesOnce same rs → (k : Connection) → k ∈ ks →
-        (r : Road) (e : Bool) → Lacks same (missingLinks same n ks rs) n k r e → ⊥
-    links-complete n [] rs once k among r e h = List·Memᴰ·not-nil among
-    links-complete n (c ∷ cs) rs once k among r e h = go (List·Memᴰ·cases-cons among)
-        (λ l. links-complete n cs mid mid-once k l r e h)
+    links-complete : (n : Span) (ks : List Connection) (rs : List Road) → NamesOnce same rs → (k : Connection) →
+        k ∈ ks → (r : Road) (e : Bool) → Lacks same (missingLinks same n ks rs) n k r e → ⊥
+    links-complete n [] rs once k among r e lacking = List·Memᴰ·not-nil among
+    links-complete n (c ∷ cs) rs once k among r e lacking = go (List·Memᴰ·cases-cons among)
+        (λ later. links-complete n cs mid mid-once k later r e lacking)
       where
         mid : List Road
         mid = missingLink same n c rs
@@ -299,18 +308,18 @@ module _ (same : Span → Span → Bool) where
         mid-once = once-grew rs mid (grew-step rs once n c) once
 
         go : (k ≡ c) ⊎ (k ∈ cs) → (k ∈ cs → ⊥) → ⊥
-        go (inr l) f = f l
-        go (inl q) f =
+        go (inr later) rest = rest later
+        go (inl is) rest =
             let before = lacked mid (missingLinks same n cs mid) n c r e (grew-links n cs mid mid-once)
-            (subst (λ x. Lacks same (missingLinks same n cs mid) n x r e) q h) in
+            (subst (λ x. Lacks same (missingLinks same n cs mid) n x r e) is lacking) in
             step-complete A rs once n c (before .0) e (before .1)
 
     over-complete : (js : List Junction) (rs : List Road) → NamesOnce same rs → (j : Junction) → j ∈ js →
         j .kind ≡ common → (k : Connection) → k ∈ j .connections → (r : Road) (e : Bool) →
         Lacks same (roadsOver same js rs) (j .name) k r e → ⊥
-    over-complete [] rs once j listed kind k among r e h = List·Memᴰ·not-nil listed
-    over-complete (i ∷ js) rs once j listed kind k among r e h =
-        go (List·Memᴰ·cases-cons listed) (λ l. over-complete js mid mid-once j l kind k among r e h)
+    over-complete [] rs once j listed kind k among r e lacking = List·Memᴰ·not-nil listed
+    over-complete (i ∷ js) rs once j listed kind k among r e lacking =
+        go (List·Memᴰ·cases-cons listed) (λ later. over-complete js mid mid-once j later kind k among r e lacking)
       where
         mid : List Road
         mid = repairRoads same i rs
@@ -319,26 +328,28 @@ module _ (same : Span → Span → Bool) where
         mid-once = once-grew rs mid (grew-junction i rs once) once
 
         its : j ≡ i → repairRoads same j rs ≡ missingLinks same (j .name) (j .connections) rs
-        its q = unfold repairRoads in ap (λ x. roadsAfter same x (j .name) (j .connections) rs) kind
+        its is = unfold repairRoads in ap (λ x. roadsAfter same x (j .name) (j .connections) rs) kind
 
         go : (j ≡ i) ⊎ (j ∈ js) → (j ∈ js → ⊥) → ⊥
-        go (inr l) f = f l
-        go (inl q) f =
-            let before = lacked mid (roadsOver same js mid) (j .name) k r e (grew-over js mid mid-once) h in
+        go (inr later) rest = rest later
+        go (inl is) rest =
+            let before = lacked mid (roadsOver same js mid) (j .name) k r e (grew-over js mid mid-once) lacking in
             links-complete (j .name) (j .connections) rs once k among (before .0) e
-            (subst (λ rs. Lacks same rs (j .name) k (before .0) e) (ap (λ x. repairRoads same x rs) (sym q) ∙ its q)
+            (subst (λ rs. Lacks same rs (j .name) k (before .0) e) (ap (λ x. repairRoads same x rs) (sym is) ∙ its is)
             (before .1))
 
     pub complete : (m : Map) (rs : List Road) → NamesOnce same rs → Complete same m (roadsOver same (m .junctions) rs)
-    complete m rs once n k of r e h = over-complete (m .junctions) rs once (of .junction) (of .listed) (of .kind) k
-        (of .among) r e (subst (λ x. Lacks same (roadsOver same (m .junctions) rs) x k r e) (sym (of .named)) h)
+    complete m rs once n k own r e lacking =
+        over-complete (m .junctions) rs once (own .junction) (own .listed) (own .kind) k
+        (own .among) r e
+        (subst (λ x. Lacks same (roadsOver same (m .junctions) rs) x k r e) (sym (own .named)) lacking)
 
   -- ---- before the first junction
   module _ (m : Map) (r : Road) where
     virtual-is : (x : JunctionKind) → isVirtual x ≡ true → x ≡ virtual
-    virtual-is common h = absurd (false≢true h)
-    virtual-is direct h = absurd (false≢true h)
-    virtual-is virtual h = refl
+    virtual-is common test-passed = absurd (false≢true test-passed)
+    virtual-is direct test-passed = absurd (false≢true test-passed)
+    virtual-is virtual test-passed = refl
 
     is-virtual : (x : JunctionKind) → x ≡ virtual → isVirtual x ≡ true
     is-virtual x q = ap isVirtual q
@@ -348,20 +359,20 @@ module _ (same : Span → Span → Bool) where
 
     in-virtual : inVirtual same (m .junctions) r ≡ true → InVirtual same m r
     unfolding inVirtual
-    in-virtual h = go (r .junction) refl h
+    in-virtual test-passed = go (r .junction) refl test-passed
       where
         go : (o : Option Span) → r .junction ≡ o → isSome (bindO o (λ n. first (test n) (m .junctions))) ≡ true →
             InVirtual same m r
-        go none q h = absurd (false≢true h)
-        go (some n) q h = found (first (test n) (m .junctions)) refl h
+        go none belongs-to test-passed = absurd (false≢true test-passed)
+        go (some n) belongs-to test-passed = found (first (test n) (m .junctions)) refl test-passed
           where
             found : (o : Option Junction) → first (test n) (m .junctions) ≡ o → isSome o ≡ true → InVirtual same m r
-            found none w h = absurd (false≢true h)
-            found (some j) w h =
-                let there = first-in (test n) (m .junctions) w in
+            found none first-found test-passed = absurd (false≢true test-passed)
+            found (some j) first-found test-passed =
+                let there = first-in (test n) (m .junctions) first-found in
                 record {
                   of = n;
-                  belongs = q;
+                  belongs = belongs-to;
                   junction = j;
                   listed = there .0;
                   kind = virtual-is (j .kind) (and-left (isVirtual (j .kind)) (same (j .name) n) (there .1));
@@ -370,39 +381,39 @@ module _ (same : Span → Span → Bool) where
 
     not-in-virtual : inVirtual same (m .junctions) r ≡ false → InVirtual same m r → ⊥
     unfolding inVirtual
-    not-in-virtual h v = go (first (test (v .of)) (m .junctions)) refl
-        (sym (ap (λ o. isSome (bindO o (λ n. first (test n) (m .junctions)))) (v .belongs)) ∙ h)
+    not-in-virtual test-failed inside = go (first (test (inside .of)) (m .junctions)) refl
+        (sym (ap (λ o. isSome (bindO o (λ n. first (test n) (m .junctions)))) (inside .belongs)) ∙ test-failed)
       where
-        go : (o : Option Junction) → first (test (v .of)) (m .junctions) ≡ o → isSome o ≡ false → ⊥
-        go (some j) w q = true≢false q
-        go none w q = first-none (test (v .of)) (m .junctions) w (v .listed)
-            (and-both (isVirtual (v .junction .kind)) (same (v .junction .name) (v .of))
-            (is-virtual (v .junction .kind) (v .kind)) (v .named))
+        go : (o : Option Junction) → first (test (inside .of)) (m .junctions) ≡ o → isSome o ≡ false → ⊥
+        go (some j) first-found none-found = true≢false none-found
+        go none first-found none-found = first-none (test (inside .of)) (m .junctions) first-found (inside .listed)
+            (and-both (isVirtual (inside .junction .kind)) (same (inside .junction .name) (inside .of))
+            (is-virtual (inside .junction .kind) (inside .kind)) (inside .named))
 
     left-inside : InVirtual same m r → (o : Option Target) → Left same m r o (dropAlong o)
-    left-inside v none = absent
-    left-inside v (some t) = go (t .along) refl
+    left-inside inside none = absent
+    left-inside inside (some t) = go (t .along) refl
       where
         go : (b : Bool) → t .along ≡ b → Left same m r (some t) (cond b none (some t))
-        go true q = dropped t q v
-        go false q = stays t (λ along x. true≢false (sym along ∙ q))
+        go true is = dropped t is inside
+        go false is = stays t (λ along x. true≢false (sym along ∙ is))
 
     left-outside : (InVirtual same m r → ⊥) → (o : Option Target) → Left same m r o o
-    left-outside v none = absent
-    left-outside v (some t) = stays t (λ along x. v x)
+    left-outside outside none = absent
+    left-outside outside (some t) = stays t (λ along x. outside x)
 
     pub start-cleared : Cleared same m r (withoutAlong same (m .junctions) r)
     unfolding withoutAlong
     start-cleared = go (inVirtual same (m .junctions) r) refl
       where
         inside : InVirtual same m r → (e : Bool) → Left same m r (targetAt e r) (targetAt e (cleared r))
-        inside v true = left-inside v (r .successor)
-        inside v false = left-inside v (r .predecessor)
+        inside in-one true = left-inside in-one (r .successor)
+        inside in-one false = left-inside in-one (r .predecessor)
 
         go : (b : Bool) → inVirtual same (m .junctions) r ≡ b → Cleared same m r (cond b (cleared r) r)
-        go true q = record { left = inside (in-virtual q); name = refl; junction = refl; sections = refl }
-        go false q = record {
-          left = λ e. left-outside (not-in-virtual q) (targetAt e r);
+        go true is = record { left = inside (in-virtual is); name = refl; junction = refl; sections = refl }
+        go false is = record {
+          left = λ e. left-outside (not-in-virtual is) (targetAt e r);
           name = refl;
           junction = refl;
           sections = refl;
@@ -415,4 +426,6 @@ module _ (same : Span → Span → Bool) where
 
   pub start-once : (m : Map) → NamesOnce same (m .roads) → NamesOnce same (startRoads same m)
   start-once m once = once-named (m .roads) (startRoads same m)
-      (pairs-weaken (Cleared same m) SameName (λ r r′ c. c .name) (m .roads) (startRoads same m) (start-means m)) ∙ once
+      (pairs-weaken (Cleared same m) SameName (λ r r′ clear. clear .name) (m .roads) (startRoads same m)
+      (start-means m))
+      ∙ once

@@ -1,7 +1,7 @@
 -- What ASAM OpenDRIVE 1.8.0 says of the two sides of a joint: each has a link of its own, and they belong together. The
 -- Rust reads the side that is left alone. Definitions only; ends and names as in Meaning.
 use mathlib.Core.Path.{_≡_}
-use mathlib.Core.Bool.{Bool, true, false}
+use mathlib.Core.Bool.{Bool, true}
 use mathlib.Core.Option.{some}
 use Rattle.model.specs.Records.{Span, Target, JunctionKind, Junction, Map, Lane, Road, common, direct, virtual}
 use Rattle.meaning.specs.Meaning.{_∈_, LeadsTo, LinkedTo, OntoRoad, Stated, ThroughJunction, WithinRoad}

@@ -117,8 +117,8 @@ module _ (same : Span → Span → Bool) where
   abbrev pub Complete : Map → List Road → Type 0
   Complete m roads = (n : Span) (k : Connection) → OfCommon m n k → (r : Road) (e : Bool) → Lacks roads n k r e → ⊥
 
-  -- ---- Direct junctions: a connection joins the incoming road to the linked road; for the way back it is read the
-  -- other way, which OpenDRIVE leaves to the reader
+  -- ---- Direct junctions: a <connection> joins @incomingRoad to @linkedRoad. That it holds the other way round too is
+  -- the Rust's reading (DIFFERENCES A13)
   -- k′ is connection k of junction n the other way: it enters the incoming road where that is linked to the junction,
   -- at its end where it is so at both (01)
   pub record OtherWay (roads : List Road) (n : Span) (k k′ : Connection) : Type 0 where

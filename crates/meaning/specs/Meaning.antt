@@ -26,8 +26,7 @@ abbrev pub Total : {A : Type 0} → (A → ℕ → Type 0) → List A → ℕ �
 Total R [] n = n ≡ 0
 Total R (x ∷ xs) n = (k : ℕ) × (l : ℕ) × R x k × Total R xs l × (n ≡ k + l)
 
--- ---- Lane sections: a road has them one after the other along its reference line, from its start to its end.
--- Sections are numbered in that order.
+-- ---- Lane sections: they follow one another along the road, in ascending order from its start; so are they numbered
 -- seen from section s, section t lies towards end e of the road
 abbrev pub Towards : Bool → ℕ → ℕ → Type 0
 Towards true s t = s < t
@@ -48,7 +47,8 @@ pub record Adjacent (sections : List ℕ) (e : Bool) (s t : ℕ) : Type 0 where
   pub beyond : Towards e s t
   pub nearest : (u : ℕ) → u ∈ sections → Towards e s u → Towards e u t → ⊥
 
--- ---- Driving direction: along the road (forward), against it (backward), or, by a lane's @direction "both", either.
+-- ---- Lanes: by its side, the road's @rule and its own @direction a lane is driven along its road (forward), against
+-- it (backward), or both ways
 -- a lane is left at the end of its road in its direction of travel, a two-way lane at both
 abbrev pub LeftAt : Direction → Bool → Type 0
 LeftAt Forward e = e ≡ true
@@ -131,7 +131,8 @@ module _ (same : Span → Span → Bool) (m : Map) where
     pub entered : c ≡ target .contact
 
   -- Junctions: a <connection> leads from @incomingRoad into @connectingRoad (in a direct junction @linkedRoad), which
-  -- is met at the end that @contactPoint says; its <laneLink> leads from lane @from of the one to lane @to of the other.
+  -- is met at the end that @contactPoint says; a <laneLink> of it leads from lane @from of the one to lane @to of the
+  -- other.
   -- Here: connection k is from a's road, and its pair p from a's number to b's, at the connecting road's contact point
   pub record PairLeads (a : Lane) (k : Connection) (p : Pair) (b : Lane) : Type 0 where
     pub incoming : same (k .incoming) (a .road) ≡ true
