@@ -8,8 +8,8 @@ use native.Mathlib.Omega.{arith}
 use lib.ListN.{length, take, drop, length-append, take-append-drop}
 use Rattle.model.specs.Rows.{written}
 use Rattle.words.specs.Rows.{spliced}
-use Rattle.words.proofs.Laws.{put-all, spliced-length, spliced-twice}
-use Rattle.gaps.specs.Links.{putIf}
+use Rattle.words.proofs.Laws.{put-all, spliced-twice}
+use Rattle.gaps.specs.Links.{Put, Room, putIf}
 
 pub put-none : (write : Bool) (at : ℕ) (out : List ℕ) → putIf write at [] out ≡ out
 unfolding putIf spliced
@@ -23,28 +23,28 @@ pub put-twice : (write : Bool) (at : ℕ) (xs ys out : List ℕ)
     → (write ≡ true → at + length (xs ++ ys) ≤ length out)
     → putIf write (at + length xs) ys (putIf write at xs out) ≡ putIf write at (xs ++ ys) out
 unfolding putIf
-put-twice true at xs ys out h =
-    spliced-twice at xs ys out (let a = h refl in let b = length-append xs ys in omega arith)
-put-twice false at xs ys out h = refl
+put-twice true at xs ys out room =
+    let fits = room refl in
+    let joined = length-append xs ys in
+    spliced-twice at xs ys out (omega arith)
+put-twice false at xs ys out room = refl
 
-pub put-length : (write : Bool) (at : ℕ) (xs out : List ℕ) → (write ≡ true → at + length xs ≤ length out)
-    → length (putIf write at xs out) ≡ length out
-unfolding putIf
-put-length true at xs out h = spliced-length at xs out (h refl)
-put-length false at xs out h = refl
+-- nothing put yet
+pub put-nothing : {write : Bool} {at : ℕ} {out : List ℕ} → Put write at [] out out at
+put-nothing {write} {at} {out} = record { end-is = sym (add-zero at); words-are = sym (put-none write at out) }
 
--- a turn of a loop: what was put, and then ys
-pub put-turn : (write : Bool) (at : ℕ) (xs ys out₀ : List ℕ) {all out out′ : List ℕ} {place q : ℕ}
-    → place ≡ at + length xs → out ≡ putIf write at xs out₀ → all ≡ xs ++ ys
-    → (write ≡ true → at + length all ≤ length out₀) →
-    q ≡ place + length ys → out′ ≡ putIf write place ys out → (q ≡ at + length all) × (out′ ≡ putIf write at all out₀)
-put-turn write at xs ys out₀ {all} {out} {out′} {place} {q} e f g h a b = (
-  let l = length-append xs ys in let m = ap length g in omega arith,
-  b
-      ∙ ap₂ (λ (p : ℕ) (o : List ℕ). putIf write p ys o) e f
-      ∙ put-twice write at xs ys out₀ (λ w. subst (λ (l : List ℕ). at + length l ≤ length out₀) g (h w))
-      ∙ ap (λ (l : List ℕ). putIf write at l out₀) (sym g),
-)
+-- a turn of a loop: xs were put, and now ys
+pub put-turn : {write : Bool} {at : ℕ} {xs ys all out₀ out after : List ℕ} {place end : ℕ}
+    → all ≡ xs ++ ys → Room write at all out₀ → Put write at xs out₀ out place → Put write place ys out after end
+    → Put write at all out₀ after end
+put-turn {write} {at} {xs} {ys} {all} {out₀} more room below now = record {
+  end-is = let joined = length-append xs ys in let longer = ap length more in
+      omega (arith, joined, longer, below .end-is, now .end-is);
+  words-are = now .words-are
+      ∙ ap₂ (λ (p : ℕ) (o : List ℕ). putIf write p ys o) (below .end-is) (below .words-are)
+      ∙ put-twice write at xs ys out₀ (λ w. subst (λ (l : List ℕ). at + length l ≤ length out₀) more (room w))
+      ∙ ap (λ (l : List ℕ). putIf write at l out₀) (sym more);
+}
 
 pub put-begin : (content out : List ℕ) → putIf true 0 content out ≡ written content out
 unfolding putIf

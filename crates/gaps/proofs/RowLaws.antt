@@ -3,7 +3,6 @@ use Prim.Native.Nat.{ℕ, zero, suc, _+_, _≤_}
 use mathlib.Core.Path.{_≡_, refl, sym, ap, _∙_, subst}
 use mathlib.Core.List.{List, [], _∷_}
 use mathlib.Core.Bool.{Bool, true, false, not, cond}
-use native.Mathlib.Nat.{add-zero}
 use native.Mathlib.Omega.{arith}
 use lib.Dec.{T}
 use lib.ListN.{length}
@@ -17,8 +16,8 @@ use Rattle.geometry.specs.declared.segment.Point.{Point}
 use Rattle.geometry.proofs.Promises.{gap-never-nan}
 use Rattle.model.specs.Tables.{directionOf}
 use Rattle.words.specs.Rows.{spliced}
-use Rattle.gaps.specs.Links.{isNumber, putIf, rowOf}
-use Rattle.gaps.proofs.Puts.{put-none}
+use Rattle.gaps.specs.Links.{Put, Room, isNumber, putIf, rowOf}
+use Rattle.gaps.proofs.Puts.{put-nothing}
 
 pub other-word : (w : ℕ) → (w ≡ 0 → ⊥) → (w ≡ 1 → ⊥) → Both ≡ directionOf w
 other-word zero a b = absurd (a refl)
@@ -46,24 +45,24 @@ decision-is {d} {g} from leaves to enters e f =
 pub wide-number : (d : Decision) (w : Float) → d ≡ Wide w → T (isNumber d) → T (not (isNan w))
 wide-number d w e h = subst (λ (x : Decision). T (isNumber x)) e h
 
-module _ (write : Bool) (out : List ℕ) (at lane next : ℕ) (d : Decision) where
-  pub passed-row : d ≡ Passed
-      → (at ≡ at + length (rowOf lane next d)) × (out ≡ putIf write at (rowOf lane next d) out)
-  passed-row e = rw e (sym (add-zero at), sym (put-none write at out))
+-- ---- the row of a decision, put or counted
+module _ (lane next : ℕ) {write : Bool} {out : List ℕ} {at : ℕ} {d : Decision} where
+  pub passed-row : d ≡ Passed → Put write at (rowOf lane next d) out out at
+  passed-row passed = rw passed put-nothing
 
-  module _ (w : Float) (e : d ≡ Wide w) where
-    pub wide-counted : write ≡ false
-        → (at + 3 ≡ at + length (rowOf lane next d)) × (out ≡ putIf write at (rowOf lane next d) out)
+  module _ {w : Float} (wide : d ≡ Wide w) where
+    pub wide-counted : write ≡ false → Put write at (rowOf lane next d) out out (at + 3)
     unfolding putIf
-    wide-counted f = rw (e, f) (refl, refl)
+    wide-counted counts = rw (wide, counts) (record { end-is = refl; words-are = refl })
 
-    pub wide-put : {out′ : List ℕ} → write ≡ true → out′ ≡ spliced at (lane ∷ next ∷ toBits binary32 w ∷ []) out
-        → (at + 3 ≡ at + length (rowOf lane next d)) × (out′ ≡ putIf write at (rowOf lane next d) out)
+    pub wide-put : {after : List ℕ} → write ≡ true → after ≡ spliced at (lane ∷ next ∷ toBits binary32 w ∷ []) out
+        → Put write at (rowOf lane next d) out after (at + 3)
     unfolding putIf
-    wide-put f p = rw (e, f) (refl, p)
+    wide-put writes put = rw (wide, writes) (record { end-is = refl; words-are = put })
 
-    pub wide-room : write ≡ true → (write ≡ true → at + length (rowOf lane next d) ≤ length out) → at + 3 ≤ length out
-    wide-room f h = rw e at (h f)
+pub wide-room : (lane next at : ℕ) (out : List ℕ) {write : Bool} {d : Decision} {w : Float} → d ≡ Wide w
+    → write ≡ true → Room write at (rowOf lane next d) out → at + 3 ≤ length out
+wide-room lane next at out wide writes room = rw wide at (room writes)
 
 pub row-most : (lane next : ℕ) (d : Decision) → length (rowOf lane next d) ≤ 3
 row-most lane next Passed = omega arith

@@ -2,7 +2,8 @@
 -- rows. Definitions only.
 use mathlib.Core.Bool.{Bool, true, not, _&&_, cond}
 use mathlib.Core.List.{List, [], _∷_}
-use Prim.Native.Nat.{ℕ, suc, _+_, _*_, _-_, _/_}
+use mathlib.Core.Path.{_≡_}
+use Prim.Native.Nat.{ℕ, suc, _+_, _*_, _-_, _/_, _≤_}
 use lib.Dec.{eqb}
 use lib.Ieee.{Float, isNan}
 use lib.ListN.{length, getD}
@@ -13,12 +14,22 @@ use Rattle.geometry.specs.Gap.{gapOf, decisionOf, rowBits}
 use Rattle.model.specs.Lists.{every}
 use Rattle.model.specs.Tables.{directionOf, lanesIn}
 use Rattle.model.specs.Rules.{climbs, borne}
+use Rattle.words.specs.Chain.{Chained}
 use Rattle.words.specs.Rows.{joined, lastOf, spliced}
-use Rattle.words.specs.Keys.{isId}
+use Rattle.words.specs.Keys.{idHash, isId}
 
 -- an output with words put in from word at on, if it is to be written
 unfoldable pub putIf : Bool → ℕ → List ℕ → List ℕ → List ℕ
 putIf write at ws out = cond write (spliced at ws out) out
+
+-- rows put so, and the place after them, whether they are written or only counted
+pub record Put (write : Bool) (at : ℕ) (rows before after : List ℕ) (end : ℕ) : Type 0 where
+  pub end-is : end ≡ at + length rows
+  pub words-are : after ≡ putIf write at rows before
+
+-- room for them, if they are to be written
+abbrev pub Room : Bool → ℕ → List ℕ → List ℕ → Type 0
+Room write at rows out = write ≡ true → at + length rows ≤ length out
 
 -- lane row, successor row and gap bits; no word where the gap is passed
 abbrev pub rowWith : ℕ → ℕ → List ℕ → List ℕ
@@ -65,3 +76,17 @@ abbrev pub listsRight : (lanes offsets ids : List ℕ) → Bool
 listsRight lanes offsets ids =
     eqb (length offsets) (suc (length lanes / 10)) && climbs (length ids) offsets && every
     (borne (lanesIn lanes)) ids
+
+-- ---- what the functions over links are lent
+-- few lanes, linked by identity
+pub record ById (lanes heads next : List ℕ) : Type 0 where
+  pub few : length lanes / 10 ≤ 16384
+  pub buckets : length heads ≡ 16384
+  pub rows : length next ≡ 16384
+  pub linked : Chained (idHash lanes) (length lanes / 10) heads next
+
+-- such lanes with twelve edges each, and not too many links
+pub record Lent (lanes : List ℕ) (edges : List Float) (heads next ids : List ℕ) : Type 0 where
+  pub by-id : ById lanes heads next
+  pub even : length edges ≡ 12 * (length lanes / 10)
+  pub short : length ids ≤ 131072

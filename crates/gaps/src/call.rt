@@ -10,16 +10,16 @@ use words::index;
 use words::tests::both;
 ghost use mathlib.Core.Path.{_≡_};
 ghost use mathlib.Core.Bool.{true};
+ghost use mathlib.Core.List.{List};
 ghost use mathlib.Core.Option.{none};
-ghost use Prim.Native.Nat.{ℕ, _+_, _*_, _/_, _≤_, _<_};
-ghost use lib.ListN.{length, getD, take};
-ghost use Rattle.model.specs.Tables.{allTables};
+ghost use Prim.Native.Nat.{ℕ, _/_};
+ghost use lib.ListN.{length, take};
+ghost use Rattle.model.specs.Tables.{Tables, allTables};
 ghost use Rattle.model.specs.Rules.{firstBroken};
 ghost use Rattle.model.specs.Calls.{gapRules, gapCall, gapWidth, outcome, tableWriting, writtenOr9};
-ghost use Rattle.words.specs.Chain.{Chained, Empty};
-ghost use Rattle.words.specs.Keys.{idHash};
+ghost use Rattle.words.specs.Chain.{Empty};
 ghost use Rattle.tables.specs.Verdicts.{refusalOf};
-ghost use Rattle.gaps.specs.Links.{rowsBelow, listsRight};
+ghost use Rattle.gaps.specs.Links.{Lent, rowsBelow, listsRight};
 ghost use Rattle.gaps.specs.Answers.{answerOf};
 
 // The rows written, or why the call was refused.
@@ -41,10 +41,10 @@ fn first_verdict(
     offsets: &[u32],
     ids: &[u32],
 ) -> Verdict
-    ensures { λ q. ⌜ refusalOf q ≡ firstBroken (take 9 (gapRules
-        (allTables (now (text .entry)) (now (roads .entry)) (now (sections .entry)) (now (junctions .entry))
-        (now (connections .entry)) (now (pairs .entry)) (now (lanes .entry)) (now (edges .entry)))
-        (now (offsets .entry)) (now (ids .entry)))) ⌝ }
+    ghost { Tables }
+    requires { λ t. ⌜ allTables (now text) (now roads) (now sections) (now junctions) (now connections)
+        (now pairs) (now lanes) (now edges) ≡ t ⌝ }
+    ensures { λ t q. ⌜ refusalOf q ≡ firstBroken (take 9 (gapRules t (now (offsets .entry)) (now (ids .entry)))) ⌝ }
 {
     let mut heads = [0u32; 16384];
     let mut next = [0u32; 16384];
@@ -99,12 +99,13 @@ fn gap_verdict(
     heads: &mut [u32],
     next: &mut [u32],
 ) -> Verdict
-    requires { ⌜ Empty (now heads) (now next) ⌝ }
-    ensures { λ q. ⌜ refusalOf q ≡ firstBroken (gapRules
-        (allTables (now (text .entry)) (now (roads .entry)) (now (sections .entry)) (now (junctions .entry))
-        (now (connections .entry)) (now (pairs .entry)) (now (lanes .entry)) (now (edges .entry)))
-        (now (offsets .entry)) (now (ids .entry))) ⌝ }
-    ensures { λ q. ⌜ (refusalOf q ≡ none → Chained (idHash (now (lanes .entry))) (length (now (lanes .entry)) / 10) (now (heads .exit)) (now (next .exit))) ⌝ }
+    ghost { Tables }
+    requires { λ t. ⌜ allTables (now text) (now roads) (now sections) (now junctions) (now connections)
+        (now pairs) (now lanes) (now edges) ≡ t ⌝ }
+    requires { λ _. ⌜ Empty (now heads) (now next) ⌝ }
+    ensures { λ t q. ⌜ refusalOf q ≡ firstBroken (gapRules t (now (offsets .entry)) (now (ids .entry))) ⌝ }
+    ensures { λ _ q. ⌜ (refusalOf q ≡ none → Lent (now (lanes .entry)) (now (edges .entry)) (now (heads .exit))
+        (now (next .exit)) (now (ids .entry))) ⌝ }
 {
     let first = first_verdict(
         text,
@@ -138,12 +139,12 @@ fn write_rows(
     ids: &[u32],
     out: &mut [u32],
 ) -> Gaps
-    requires { ⌜ (length (now lanes) / 10 ≤ 16384) × (length (now edges) ≡ 12 * (length (now lanes) / 10)) × (length (now heads) ≡ 16384) × (length (now next) ≡ 16384) × (length (now ids) ≤ 131072) ⌝ }
-    requires { ⌜ Chained (idHash (now lanes)) (length (now lanes) / 10) (now heads) (now next) ⌝ }
-    requires { ⌜ listsRight (now lanes) (now offsets) (now ids) ≡ true ⌝ }
-    ensures { λ q. ⌜ outcome (answerOf q) (now (out .exit)) ≡ writtenOr9 (tableWriting gapWidth)
-        (rowsBelow (now (lanes .entry)) (now (edges .entry)) (now (offsets .entry)) (now (ids .entry)) (length (now (lanes .entry)) / 10))
-        (now (out .entry)) ⌝ }
+    ghost { List ℕ }
+    requires { λ rows. ⌜ rowsBelow (now lanes) (now edges) (now offsets) (now ids) (length (now lanes) / 10) ≡ rows ⌝ }
+    requires { λ _. ⌜ Lent (now lanes) (now edges) (now heads) (now next) (now ids) ⌝ }
+    requires { λ _. ⌜ listsRight (now lanes) (now offsets) (now ids) ≡ true ⌝ }
+    ensures { λ rows q. ⌜ outcome (answerOf q) (now (out .exit))
+        ≡ writtenOr9 (tableWriting gapWidth) rows (now (out .entry)) ⌝ }
 {
     if 3 * ids.len() <= out.len() {
         let n = links::all_rows(lanes, edges, heads, next, offsets, ids, out, true);
@@ -157,7 +158,8 @@ fn write_rows(
     Gaps::Written(m / 3)
 }
 
-// The lane links whose ends do not meet, a row of three words each: the lane's row, its successor's row, and the bits of the gap.
+// The lane links whose ends do not meet, a row of three words each: the lane's row, its successor's row, and the
+// bits of the gap.
 pub fn link_gaps(
     text: &[u8],
     roads: &[u32],

@@ -9,16 +9,17 @@ use tables::lookup::RowFound;
 use words::rows;
 ghost use mathlib.Core.Path.{_≡_};
 ghost use mathlib.Core.Bool.{true};
-ghost use Prim.Native.Nat.{_+_, _*_, _/_, _≤_, _<_};
+ghost use mathlib.Core.List.{List};
+ghost use Prim.Native.Nat.{ℕ, _+_, _*_, _/_, _≤_, _<_};
 ghost use lib.ListN.{length};
 ghost use lib.Dec.{T};
 ghost use Rattle.model.specs.Tables.{directionOf, lanesIn};
 ghost use Rattle.model.specs.Lists.{every};
 ghost use Rattle.model.specs.Rules.{borne};
-ghost use Rattle.words.specs.Chain.{Chained};
-ghost use Rattle.words.specs.Keys.{idHash, isId};
+ghost use Rattle.words.specs.Keys.{isId};
 ghost use Rattle.words.specs.Rows.{lastOf};
-ghost use Rattle.gaps.specs.Links.{putIf, rowOf, isNumber, decisionAt, linkRow, laneRows, rowsBelow, listsRight};
+ghost use Rattle.gaps.specs.Links.{ById, Lent, Put, Room, rowOf, isNumber, decisionAt, linkRow, laneRows};
+ghost use Rattle.gaps.specs.Links.{rowsBelow, listsRight};
 
 // Which way a lane's traffic runs, by its word.
 fn direction(word: u32) -> Direction
@@ -33,7 +34,8 @@ fn direction(word: u32) -> Direction
 
 // The decision for a link from the lane in row `lane` to that in row `next`.
 fn link_decision(lanes: &[u32], edges: &[f32], lane: usize, next: usize) -> Decision
-    requires { ⌜ (lane < length (now lanes) / 10) × (next < length (now lanes) / 10) × (length (now edges) ≡ 12 * (length (now lanes) / 10)) ⌝ }
+    requires { ⌜ (lane < length (now lanes) / 10) × (next < length (now lanes) / 10) ⌝ }
+    requires { ⌜ length (now edges) ≡ 12 * (length (now lanes) / 10) ⌝ }
     ensures { λ q. ⌜ (q ≡ decisionAt (now (lanes .entry)) (now (edges .entry)) lane next) × T (isNumber q) ⌝ }
 {
     let leaves = direction(lanes[lane * 10 + 5]);
@@ -52,8 +54,9 @@ fn put_row(
     next: u32,
     decision: Decision,
 ) -> usize
-    requires { ⌜ (at < 1048576) × (write ≡ true → at + length (rowOf lane next decision) ≤ length (now out)) × T (isNumber decision) ⌝ }
-    ensures { λ q. ⌜ (q ≡ at + length (rowOf lane next decision)) × (now (out .exit) ≡ putIf write at (rowOf lane next decision) (now (out .entry))) ⌝ }
+    requires { ⌜ (at < 1048576) × T (isNumber decision) ⌝ }
+    requires { ⌜ Room write at (rowOf lane next decision) (now out) ⌝ }
+    ensures { λ q. ⌜ Put write at (rowOf lane next decision) (now (out .entry)) (now (out .exit)) q ⌝ }
 {
     match decision {
         Decision::Passed => at,
@@ -80,10 +83,14 @@ fn link_row(
     at: usize,
     write: bool,
 ) -> usize
-    requires { ⌜ (length (now lanes) / 10 ≤ 16384) × (length (now edges) ≡ 12 * (length (now lanes) / 10)) × (length (now heads) ≡ 16384) × (length (now next) ≡ 16384) × (lane < length (now lanes) / 10) × (at < 1048576) × (0 < lastOf (length (now lanes) / 10) (isId (now lanes) (id .0))) ⌝ }
-    requires { ⌜ Chained (idHash (now lanes)) (length (now lanes) / 10) (now heads) (now next) ⌝ }
-    requires { ⌜ (write ≡ true → at + length (linkRow (now lanes) (now edges) lane (id .0)) ≤ length (now out)) ⌝ }
-    ensures { λ q. ⌜ (q ≡ at + length (linkRow (now (lanes .entry)) (now (edges .entry)) lane (id .0))) × (now (out .exit) ≡ putIf write at (linkRow (now (lanes .entry)) (now (edges .entry)) lane (id .0)) (now (out .entry))) ⌝ }
+    ghost { List ℕ }
+    requires { λ row. ⌜ linkRow (now lanes) (now edges) lane (id .0) ≡ row ⌝ }
+    requires { λ _. ⌜ ById (now lanes) (now heads) (now next) ⌝ }
+    requires { λ _. ⌜ length (now edges) ≡ 12 * (length (now lanes) / 10) ⌝ }
+    requires { λ _. ⌜ (lane < length (now lanes) / 10) × (at < 1048576) ⌝ }
+    requires { λ _. ⌜ 0 < lastOf (length (now lanes) / 10) (isId (now lanes) (id .0)) ⌝ }
+    requires { λ row. ⌜ Room write at row (now out) ⌝ }
+    ensures { λ row q. ⌜ Put write at row (now (out .entry)) (now (out .exit)) q ⌝ }
 {
     match lookup::lane_row(lanes, heads, next, id) {
         RowFound::Row(r) => {
@@ -108,11 +115,13 @@ fn lane_rows(
     at: usize,
     write: bool,
 ) -> usize
-    requires { ⌜ (length (now lanes) / 10 ≤ 16384) × (length (now edges) ≡ 12 * (length (now lanes) / 10)) × (length (now heads) ≡ 16384) × (length (now next) ≡ 16384) × (length (now ids) ≤ 131072) × (lane < length (now lanes) / 10) × (first + count ≤ length (now ids)) × (at ≤ 3 * first) ⌝ }
-    requires { ⌜ Chained (idHash (now lanes)) (length (now lanes) / 10) (now heads) (now next) ⌝ }
-    requires { ⌜ every (borne (lanesIn (now lanes))) (now ids) ≡ true ⌝ }
-    requires { ⌜ (write ≡ true → at + length (laneRows (now lanes) (now edges) (now ids) lane first count) ≤ length (now out)) ⌝ }
-    ensures { λ q. ⌜ (q ≡ at + length (laneRows (now (lanes .entry)) (now (edges .entry)) (now (ids .entry)) lane first count)) × (now (out .exit) ≡ putIf write at (laneRows (now (lanes .entry)) (now (edges .entry)) (now (ids .entry)) lane first count) (now (out .entry))) ⌝ }
+    ghost { List ℕ }
+    requires { λ rows. ⌜ laneRows (now lanes) (now edges) (now ids) lane first count ≡ rows ⌝ }
+    requires { λ _. ⌜ Lent (now lanes) (now edges) (now heads) (now next) (now ids) ⌝ }
+    requires { λ _. ⌜ every (borne (lanesIn (now lanes))) (now ids) ≡ true ⌝ }
+    requires { λ _. ⌜ (lane < length (now lanes) / 10) × (first + count ≤ length (now ids)) × (at ≤ 3 * first) ⌝ }
+    requires { λ rows. ⌜ Room write at rows (now out) ⌝ }
+    ensures { λ rows q. ⌜ Put write at rows (now (out .entry)) (now (out .exit)) q ⌝ }
 {
     let mut place = at;
     let mut k = 0;
@@ -135,11 +144,12 @@ pub fn all_rows(
     out: &mut [u32],
     write: bool,
 ) -> usize
-    requires { ⌜ (length (now lanes) / 10 ≤ 16384) × (length (now edges) ≡ 12 * (length (now lanes) / 10)) × (length (now heads) ≡ 16384) × (length (now next) ≡ 16384) × (length (now ids) ≤ 131072) ⌝ }
-    requires { ⌜ Chained (idHash (now lanes)) (length (now lanes) / 10) (now heads) (now next) ⌝ }
-    requires { ⌜ listsRight (now lanes) (now offsets) (now ids) ≡ true ⌝ }
-    requires { ⌜ (write ≡ true → length (rowsBelow (now lanes) (now edges) (now offsets) (now ids) (length (now lanes) / 10)) ≤ length (now out)) ⌝ }
-    ensures { λ q. ⌜ (q ≡ length (rowsBelow (now (lanes .entry)) (now (edges .entry)) (now (offsets .entry)) (now (ids .entry)) (length (now (lanes .entry)) / 10))) × (now (out .exit) ≡ putIf write 0 (rowsBelow (now (lanes .entry)) (now (edges .entry)) (now (offsets .entry)) (now (ids .entry)) (length (now (lanes .entry)) / 10)) (now (out .entry))) ⌝ }
+    ghost { List ℕ }
+    requires { λ rows. ⌜ rowsBelow (now lanes) (now edges) (now offsets) (now ids) (length (now lanes) / 10) ≡ rows ⌝ }
+    requires { λ _. ⌜ Lent (now lanes) (now edges) (now heads) (now next) (now ids) ⌝ }
+    requires { λ _. ⌜ listsRight (now lanes) (now offsets) (now ids) ≡ true ⌝ }
+    requires { λ rows. ⌜ Room write 0 rows (now out) ⌝ }
+    ensures { λ rows q. ⌜ Put write 0 rows (now (out .entry)) (now (out .exit)) q ⌝ }
 {
     let n = lanes.len() / 10;
     let mut place = 0;

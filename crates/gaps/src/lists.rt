@@ -4,14 +4,10 @@ use words::rows;
 use words::tests::both;
 use words::tests::found;
 ghost use mathlib.Core.Path.{_≡_};
-ghost use Prim.Native.Nat.{_*_, _/_, _≤_};
-ghost use lib.ListN.{length};
 ghost use Rattle.model.specs.Lists.{every};
 ghost use Rattle.model.specs.Tables.{lanesIn};
 ghost use Rattle.model.specs.Rules.{climbs, borne};
-ghost use Rattle.words.specs.Chain.{Chained};
-ghost use Rattle.words.specs.Keys.{idHash};
-ghost use Rattle.gaps.specs.Links.{listsRight};
+ghost use Rattle.gaps.specs.Links.{ById, listsRight};
 
 // The offsets begin at 0, do not fall, and end at `end`.
 fn offsets_climb(offsets: &[u32], end: usize) -> bool
@@ -38,8 +34,7 @@ fn offsets_climb(offsets: &[u32], end: usize) -> bool
 
 // A lane bears each identity.
 fn all_borne(lanes: &[u32], heads: &[u32], next: &[u32], ids: &[u32]) -> bool
-    requires { ⌜ (length (now lanes) / 10 ≤ 16384) × (length (now heads) ≡ 16384) × (length (now next) ≡ 16384) ⌝ }
-    requires { ⌜ Chained (idHash (now lanes)) (length (now lanes) / 10) (now heads) (now next) ⌝ }
+    requires { ⌜ ById (now lanes) (now heads) (now next) ⌝ }
     ensures { λ q. ⌜ q ≡ every (borne (lanesIn (now (lanes .entry)))) (now (ids .entry)) ⌝ }
 {
     let n = lanes.len() / 10;
@@ -56,8 +51,7 @@ fn all_borne(lanes: &[u32], heads: &[u32], next: &[u32], ids: &[u32]) -> bool
 
 // 11
 pub fn lists_fit(lanes: &[u32], heads: &[u32], next: &[u32], offsets: &[u32], ids: &[u32]) -> bool
-    requires { ⌜ (length (now lanes) / 10 ≤ 16384) × (length (now heads) ≡ 16384) × (length (now next) ≡ 16384) ⌝ }
-    requires { ⌜ Chained (idHash (now lanes)) (length (now lanes) / 10) (now heads) (now next) ⌝ }
+    requires { ⌜ ById (now lanes) (now heads) (now next) ⌝ }
     ensures { λ q. ⌜ q ≡ listsRight (now (lanes .entry)) (now (offsets .entry)) (now (ids .entry)) ⌝ }
 {
     let sized = offsets.len() == lanes.len() / 10 + 1;

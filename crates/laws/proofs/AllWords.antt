@@ -193,7 +193,7 @@ rowsFrom-words : {X A : Type 0} (P : X → Type 0) (row : ℕ → X → List ℕ
     (i : ℕ) (xs : List X) → Each P xs → i + length (gather f xs) < 4294967296 → Each Word (rowsFrom row f i xs)
 rowsFrom-words P row f k i [] h l = tt
 rowsFrom-words P row f k i (x ∷ xs) h l =
-    let e = length-append (f x) (gather f xs) in
+    let joined = length-append (f x) (gather f xs) in
     each-append Word (row i x) (rowsFrom row f (i + length (f x)) xs) (k i x (h .0) (omega arith) (omega arith))
     (rowsFrom-words P row f k (i + length (f x)) xs (h .1) (omega arith))
 

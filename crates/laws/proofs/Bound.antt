@@ -58,10 +58,9 @@ length-keep p (x ∷ xs) = go (p x) (length-keep p xs)
 -- lists of at most k each
 pub gather-most : {A B : Type 0} (k : ℕ) (f : A → List B) (xs : List A) → ((x : A) → length (f x) ≤ k)
     → length (gather f xs) ≤ length xs * k
-gather-most k f [] h = let e = zero-mul k in omega arith
+gather-most k f [] h = omega (arith, zero-mul k)
 gather-most k f (x ∷ xs) h =
-    let a = length-append (f x) (gather f xs) in
-    let b = h x in let c = gather-most k f xs h in let d = suc-mul (length xs) k in omega arith
+    omega (arith, length-append (f x) (gather f xs), h x, gather-most k f xs h, suc-mul (length xs) k)
 
 -- each list at most as long as another, of those that are kept
 gather-kept : {A B C : Type 0} (p : A → Bool) (f : A → List B) (g : A → List C) (xs : List A)
@@ -72,9 +71,8 @@ gather-kept {B = B} p f g (x ∷ xs) h = go (p x) (gather-kept p f g xs h)
     go : (b : Bool) → length (gather f (keep p xs)) ≤ length (gather g xs)
         → length (gather f (cond b (x ∷ keep p xs) (keep p xs))) ≤ length (g x ++ gather g xs)
     go true ih =
-        let a = length-append (f x) (gather f (keep p xs)) in
-        let b = h x in let c = length-append (g x) (gather g xs) in omega arith
-    go false ih = let c = length-append (g x) (gather g xs) in omega arith
+        omega (arith, length-append (f x) (gather f (keep p xs)), h x, length-append (g x) (gather g xs))
+    go false ih = omega (arith, length-append (g x) (gather g xs))
 
 abbrev pairsOf : Junction → List Pair
 pairsOf j = gather (λ c. c .pairs) (j .connections)
@@ -87,8 +85,8 @@ final-most p g (j ∷ js) h = go (final p js) (final-most p g js h) (p j)
   where
     go : (o : Option Junction) → length (listO o g) ≤ length (gather pairsOf js) → (b : Bool)
         → length (listO (orElse o (cond b (some j) none)) g) ≤ length (pairsOf j ++ gather pairsOf js)
-    go (some k) ih b = let c = length-append (pairsOf j) (gather pairsOf js) in omega arith
-    go none ih true = let c = length-append (pairsOf j) (gather pairsOf js) in let d = h j in omega arith
+    go (some k) ih b = omega (arith, length-append (pairsOf j) (gather pairsOf js))
+    go none ih true = omega (arith, length-append (pairsOf j) (gather pairsOf js), h j)
     go none ih false = omega arith
 
 -- a lane finds at most as many successors as it has exits
@@ -102,14 +100,17 @@ successorsOf-exits same m l = go (l .direction)
 
     go : (d : Direction)
         → length (successorsBy same m l d) ≤ length (exits same m l true) + length (exits same m l false)
-    go Forward = let a = side true in omega arith
-    go Backward = let a = side false in omega arith
+    go Forward = omega (arith, side true)
+    go Backward = omega (arith, side false)
     go Both =
-        let a = length-once (sort (map entryId (keep runsAway (exits same m l true ++ exits same m l false)))) in
-        let b = length-sort (map entryId (keep runsAway (exits same m l true ++ exits same m l false))) in
-        let c = length-map (keep runsAway (exits same m l true ++ exits same m l false)) entryId in
-        let d = length-keep runsAway (exits same m l true ++ exits same m l false) in
-        let e = length-append (exits same m l true) (exits same m l false) in omega arith
+        omega (
+          arith,
+          length-once (sort (map entryId (keep runsAway (exits same m l true ++ exits same m l false)))),
+          length-sort (map entryId (keep runsAway (exits same m l true ++ exits same m l false))),
+          length-map (keep runsAway (exits same m l true ++ exits same m l false)) entryId,
+          length-keep runsAway (exits same m l true ++ exits same m l false),
+          length-append (exits same m l true) (exits same m l false),
+        )
 
 module _ (same : Span → Span → Bool) (A : Alike same) (m : Map)
     (keys : distinct (sameKey same) (m .lanes) ≡ true) where
@@ -138,12 +139,12 @@ module _ (same : Span → Span → Bool) (A : Alike same) (m : Map)
   throughPairs-few : (c : Connection) (k : ℕ) → length (throughPairs same m c k) ≤ length (c .pairs)
   unfolding throughPairs lookupAtEnd
   throughPairs-few c k =
-      let a = gather-most 1 (λ p. lookupAtEnd same m (c .connecting) (c .contact) (p .to))
+      let one-each = gather-most 1 (λ p. lookupAtEnd same m (c .connecting) (c .contact) (p .to))
       (keep (λ p. eqb (p .from) k) (c .pairs))
       (λ p.
       lookup-one (c .connecting) (endSection (sectionsOf same (m .roads) (c .connecting)) (c .contact))
       (c .contact) (p .to)) in
-      let b = length-keep (λ (p : Pair). eqb (p .from) k) (c .pairs) in omega arith
+      omega (arith, length-keep (λ (p : Pair). eqb (p .from) k) (c .pairs))
 
   throughJunction-few : (n : Span) (k : ℕ) (j : Junction) → length (throughJunction same m n k j) ≤ length (pairsOf j)
   unfolding throughJunction
@@ -160,11 +161,11 @@ module _ (same : Span → Span → Bool) (A : Alike same) (m : Map)
           (listO (junctionOf same (m .junctions) (t .name)) (throughJunction same m (l .road) (l .number)))
           (listO o (lookupAtEnd same m (t .name) (t .contact)))) ≤ suc all
       go true =
-          let a = final-most (λ j. same (j .name) (t .name)) (throughJunction same m (l .road) (l .number))
+          let found-below = final-most (λ j. same (j .name) (t .name)) (throughJunction same m (l .road) (l .number))
           (m .junctions) (throughJunction-few (l .road) (l .number)) in
           omega arith
       go false =
-          let a = listO-one o (lookupAtEnd same m (t .name) (t .contact))
+          let one-at-most = listO-one o (lookupAtEnd same m (t .name) (t .contact))
           (λ k.
           lookup-one (t .name) (endSection (sectionsOf same (m .roads) (t .name)) (t .contact)) (t .contact)
           k) in
@@ -180,15 +181,15 @@ module _ (same : Span → Span → Bool) (A : Alike same) (m : Map)
 
       go : (o : Option ℕ) → length (exitsBy same m l e o) ≤ suc all
       go (some s) =
-          let a = listO-one (linkAt e l) (lookup same (m .lanes) (l .road) s (not e))
-          (λ k. lookup-one (l .road) s (not e) k) in
-          omega arith
+          omega (
+            arith,
+            listO-one (linkAt e l) (lookup same (m .lanes) (l .road) s (not e)) (λ k. lookup-one (l .road) s (not e) k),
+          )
       go none = on (bindO (roadOf same (m .roads) (l .road)) (targetAt e))
 
   successorsOf-few : (l : Lane) → length (successorsOf same m l) ≤ suc all + suc all
   successorsOf-few l =
-      let a = successorsOf-exits same m l in
-      let b = exits-few l true in let c = exits-few l false in omega arith
+      omega (arith, successorsOf-exits same m l, exits-few l true, exits-few l false)
 
   backLinks-few : (l : Lane) → length (backLinks same m l) ≤ length (m .lanes)
   unfolding backLinks
@@ -198,23 +199,31 @@ module _ (same : Span → Span → Bool) (A : Alike same) (m : Map)
           → length (cond b (map (λ b. b .identity) (keep (findsBack same m l) (m .lanes))) []) ≤ length
           (m .lanes)
       go true =
-          let a = length-map (keep (findsBack same m l) (m .lanes)) (λ (b : Lane). b .identity) in
-          let b = length-keep (findsBack same m l) (m .lanes) in omega arith
+          omega (
+            arith,
+            length-map (keep (findsBack same m l) (m .lanes)) (λ (b : Lane). b .identity),
+            length-keep (findsBack same m l) (m .lanes),
+          )
       go false = omega arith
 
   -- a lane's list, and all of them
   pub successors-few : (l : Lane) → length (successors same m l) ≤ suc all + suc all + length (m .lanes)
   unfolding successors
   successors-few l =
-      let a = length-sort (successorsOf same m l ++ backLinks same m l) in
-      let b = length-append (successorsOf same m l) (backLinks same m l) in
-      let c = successorsOf-few l in let d = backLinks-few l in omega arith
+      omega (
+        arith,
+        length-sort (successorsOf same m l ++ backLinks same m l),
+        length-append (successorsOf same m l) (backLinks same m l),
+        successorsOf-few l,
+        backLinks-few l,
+      )
 
   pub ids-few : length (gather (λ l. l) (successorLists same m)) ≤ length (m .lanes) *
       (suc all + suc all + length (m .lanes))
   unfolding successorLists
-  ids-few = let a = gather-map (successors same m) (λ (l : List ℕ). l) (m .lanes) in
-      subst (λ (l : List ℕ). length l ≤ length (m .lanes) * (suc all + suc all + length (m .lanes))) (sym a)
+  ids-few =
+      let joined = gather-map (successors same m) (λ (l : List ℕ). l) (m .lanes) in
+      subst (λ (l : List ℕ). length l ≤ length (m .lanes) * (suc all + suc all + length (m .lanes))) (sym joined)
       (gather-most (suc all + suc all + length (m .lanes)) (successors same m) (m .lanes) successors-few)
 
 -- ---- the lists before hold no more
@@ -235,17 +244,17 @@ sum-ext f g (x ∷ xs) h = ap₂ (λ (a b : ℕ). a + b) (h x) (sum-ext f g xs h
 pub sum-le : {A : Type 0} (f g : A → ℕ) (xs : List A) → ((x : A) → f x ≤ g x) → sumOf f xs ≤ sumOf g xs
 unfolding sumOf
 sum-le f g [] h = omega arith
-sum-le f g (x ∷ xs) h = let a = h x in let b = sum-le f g xs h in omega arith
+sum-le f g (x ∷ xs) h = omega (arith, h x, sum-le f g xs h)
 
 pub sum-plus : {A : Type 0} (f g : A → ℕ) (xs : List A) → sumOf (λ x. f x + g x) xs ≡ sumOf f xs + sumOf g xs
 unfolding sumOf
 sum-plus f g [] = refl
-sum-plus f g (x ∷ xs) = let a = sum-plus f g xs in omega arith
+sum-plus f g (x ∷ xs) = omega (arith, sum-plus f g xs)
 
 pub sum-zero : {A : Type 0} (xs : List A) → sumOf (λ x. 0) xs ≡ 0
 unfolding sumOf
 sum-zero [] = refl
-sum-zero (x ∷ xs) = let e = sum-zero xs in omega arith
+sum-zero (x ∷ xs) = omega (arith, sum-zero xs)
 
 pub sum-swap : {A B : Type 0} (g : A → B → ℕ) (xs : List A) (ys : List B)
     → sumOf (λ x. sumOf (g x) ys) xs ≡ sumOf (λ y. sumOf (λ x. g x y) xs) ys
@@ -288,20 +297,23 @@ once-known n (l ∷ ls) h =
         ∙ not-true (some? (λ (b : Lane). eqb (l .identity) (b .identity)) ls)
         (and-left (not (some? (λ (b : Lane). eqb (l .identity) (b .identity)) ls))
         (distinct (λ (a b : Lane). eqb (a .identity) (b .identity)) ls) h) in
-        let z = no-other ls q in omega arith
+        omega (arith, no-other ls q)
 
 -- so of a list at most as many are found as it has
 pub found-few : (ls : List Lane) → distinct (λ (a b : Lane). eqb (a .identity) (b .identity)) ls ≡ true
     → (xs : List ℕ) → sumOf (λ l. length (keep (eqb (l .identity)) xs)) ls ≤ length xs
-found-few ls h [] = let a = sum-zero ls in omega arith
+found-few ls h [] = omega (arith, sum-zero ls)
 found-few ls h (x ∷ xs) =
-    let a = sum-ext (λ (l : Lane).
+    let one-more = sum-ext (λ (l : Lane).
     length (cond (eqb (l .identity) x) (x ∷ keep (eqb (l .identity)) xs) (keep (eqb (l .identity)) xs)))
     (λ l. cond (eqb (l .identity) x) 1 0 + length (keep (eqb (l .identity)) xs)) ls
     (λ l. step (eqb (l .identity) x) (keep (eqb (l .identity)) xs)) in
-    let b = sum-plus (λ (l : Lane). cond (eqb (l .identity) x) 1 0) (λ l. length (keep (eqb (l .identity)) xs)) ls in
-    let c = once-known x ls h in
-    let d = found-few ls h xs in omega arith
+    omega (
+      arith,
+      sum-plus (λ (l : Lane). cond (eqb (l .identity) x) 1 0) (λ l. length (keep (eqb (l .identity)) xs)) ls,
+      once-known x ls h,
+      found-few ls h xs,
+    )
   where
     step : (b : Bool) (r : List ℕ) → length (cond b (x ∷ r) r) ≡ cond b 1 0 + length r
     step true r = omega arith
@@ -313,20 +325,20 @@ pub predecessors-few : (same : Span → Span → Bool) (m : Map)
 unfolding predecessorLists successorLists
 predecessors-few same m h =
     let L : List Lane = m .lanes in
-    let a =
+    let as-sum =
     ap length (gather-map (predecessors same m) (λ (l : List ℕ). l) (m .lanes))
     ∙ gather-sum (predecessors same m) (m .lanes)
     ∙ sum-ext (λ l. length (predecessors same m l))
     (λ l. sumOf (λ a. length (keep (eqb (l .identity)) (successors same m a))) (m .lanes)) (m .lanes)
     each-predecessors in
-    let b =
+    let swapped =
     sum-swap (λ (l a : Lane). length (keep (eqb (l .identity)) (successors same m a))) (m .lanes)
     (m .lanes) in
-    let c =
+    let each-below =
     sum-le (λ (a : Lane).
     sumOf (λ (l : Lane). length (keep (eqb (l .identity)) (successors same m a))) (m .lanes))
     (λ a. length (successors same m a)) (m .lanes) (λ a. found-few (m .lanes) h (successors same m a)) in
-    let d =
+    let successors-sum =
     ap length (gather-map (successors same m) (λ (l : List ℕ). l) (m .lanes))
     ∙ gather-sum (successors same m) (m .lanes) in
     omega arith

@@ -14,7 +14,8 @@ use Rattle.model.specs.Reversal.{reverseLane, reverseLink, reverseMap, reverseP
 use Rattle.model.specs.Reversal.{signed}
 use Rattle.model.specs.Succession.{sectionsOf}
 use Rattle.laws.proofs.Basics.{map-ext, map-id, some?-ext, some?-map, ⊕-assoc, ⊕-comm, ⊕-not, ⊕-self}
-use Rattle.laws.proofs.ForEach.{each, each-append, each-both, each-map, each-member, each-of-map, each-reverse}
+use Rattle.laws.proofs.ForEach.{each, each-append, each-both, each-map, each-member, each-of-map}
+use Rattle.laws.proofs.ForEach.{each-reverse}
 use Rattle.laws.proofs.ListTests.{some?-reverse}
 use Rattle.laws.proofs.Mirror.{bounded, mirror-eqb, mirror-mirror, mirror-mirrored, mirrored-mirrored}
 use Rattle.laws.proofs.Mirror.{reverseDirection-⊕, signed-⊕}
@@ -114,15 +115,15 @@ module _ (same : Span → Span → Bool) (s t : Span → Bool) (S : Steady same 
       → reverseLink same t (map (reverseRoad s) rs) (reverseLane same s rs l) e
       ≡ reverseLink same (toggled s t) rs l (s (l .road) ⊕ e)
   unfolding reverseLink
-  compose-link l e p =
-      ap₂ (λ n o. mapO (signed (marks t n)) o)
-      (ap (leadsTo same (map (reverseRoad s) rs) (reverseLane same s rs l)) (sym (⊕-self (s (l .road)) e))
-      ∙ leadsTo-reversed same s S rs asc l (s (l .road) ⊕ e) p)
-      (linkAt-reversed same s S rs asc l e)
-      ∙ compose-number s t (marks s (leadsTo same rs l (s (l .road) ⊕ e)))
-      (marks t (leadsTo same rs l (s (l .road) ⊕ e))) (linkAt (s (l .road) ⊕ e) l)
-      ∙ ap (λ b. mapO (signed b) (linkAt (s (l .road) ⊕ e) l))
-      (compose-marks s t (leadsTo same rs l (s (l .road) ⊕ e)))
+  compose-link l e placed =
+      let end = s (l .road) ⊕ e in
+      let leads = leadsTo same rs l end in
+      let leads-reversed =
+      ap (leadsTo same (map (reverseRoad s) rs) (reverseLane same s rs l)) (sym (⊕-self (s (l .road)) e))
+      ∙ leadsTo-reversed same s S rs asc l end placed in
+      ap₂ (λ n o. mapO (signed (marks t n)) o) leads-reversed (linkAt-reversed same s S rs asc l e)
+      ∙ compose-number s t (marks s leads) (marks t leads) (linkAt end l)
+      ∙ ap (λ b. mapO (signed b) (linkAt end l)) (compose-marks s t leads)
 
   compose-section : (a b : Bool) (ss : List ℕ) (i : ℕ) → i ≤ headOr 0 ss + lastOr 0 ss →
       cond b (mirror (cond a (mirrored ss) ss) (cond a (mirror ss i) i)) (cond a (mirror ss i) i)
@@ -136,22 +137,22 @@ module _ (same : Span → Span → Bool) (s t : Span → Bool) (S : Steady same 
       → reverseLane same t (map (reverseRoad s) rs) (reverseLane same s rs l)
       ≡ reverseLane same (toggled s t) rs l
   unfolding reverseLane toggled
-  compose-lane l p = λ i. record {
-    identity = l .identity;
-    road = l .road;
-    section = (ap (λ ss.
-        cond (t (l .road))
-        (mirror ss (cond (s (l .road)) (mirror (sectionsOf same rs (l .road)) (l .section)) (l .section)))
-        (cond (s (l .road)) (mirror (sectionsOf same rs (l .road)) (l .section)) (l .section)))
-        (sectionsOf-reversed same s S rs (l .road))
-        ∙ compose-section (s (l .road)) (t (l .road)) (sectionsOf same rs (l .road)) (l .section)
-        (placed-bound same rs l asc p)) i;
-    number = signed-⊕ (t (l .road)) (s (l .road)) (l .number) i;
-    direction = reverseDirection-⊕ (t (l .road)) (s (l .road)) (l .direction) i;
-    predecessor = compose-link l (t (l .road)) p i;
-    successor = (compose-link l (not (t (l .road))) p
-        ∙ ap (reverseLink same (toggled s t) rs l) (⊕-not (s (l .road)) (t (l .road)))) i;
-  }
+  compose-lane l placed =
+      let bys = s (l .road) in
+      let byt = t (l .road) in
+      let sections = sectionsOf same rs (l .road) in
+      let once = cond bys (mirror sections (l .section)) (l .section) in
+      λ i. record {
+        identity = l .identity;
+        road = l .road;
+        section = (ap (λ ss. cond byt (mirror ss once) once) (sectionsOf-reversed same s S rs (l .road))
+            ∙ compose-section bys byt sections (l .section) (placed-bound same rs l asc placed)) i;
+        number = signed-⊕ byt bys (l .number) i;
+        direction = reverseDirection-⊕ byt bys (l .direction) i;
+        predecessor = compose-link l byt placed i;
+        successor = (compose-link l (not byt) placed
+            ∙ ap (reverseLink same (toggled s t) rs l) (⊕-not bys byt)) i;
+      }
 
 module _ (same : Span → Span → Bool) (s t : Span → Bool) (S : Steady same s) where
   -- two reversals are one

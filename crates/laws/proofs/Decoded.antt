@@ -29,7 +29,7 @@ use Rattle.laws.proofs.Valid.{Each}
 pub bit-flag : (k : ℕ) → leb k 1 ≡ true → bit (flag k) ≡ k
 bit-flag zero h = refl
 bit-flag (suc zero) h = refl
-bit-flag (suc (suc k)) h = absurd (let z = leb-true (suc (suc k)) 1 h in omega arith)
+bit-flag (suc (suc k)) h = absurd (omega (arith, leb-true (suc (suc k)) 1 h))
 
 name-forth : (s n : ℕ) → nameWords (cond (isAbsent s n) none (some (record { start = s; size = n }))) ≡ s ∷ n ∷ []
 name-forth s n = go (isAbsent s n) refl
@@ -41,35 +41,28 @@ name-forth s n = go (isAbsent s n) refl
         ∷ sym (eqb-true n 0 (and-right (eqb s 4294967295) (eqb n 0) h)) i ∷ []
     go false h = refl
 
+-- a conjunction's parts
+pub and3 : (a b c : Bool) → a && b && c ≡ true → (a ≡ true) × (b ≡ true) × (c ≡ true)
+and3 a b c h =
+    let two = and-left (a && b) c h in
+    (and-left a b two, and-right a b two, and-right (a && b) c h)
+
+pub and4 : (a b c d : Bool) → a && b && c && d ≡ true → (a ≡ true) × (b ≡ true) × (c ≡ true) × (d ≡ true)
+and4 a b c d h =
+    let three = and3 a b c (and-left (a && b && c) d h) in
+    (three .0, three .1, three .2, and-right (a && b && c) d h)
+
 pub and5 : (a b c d e : Bool) → a && b && c && d && e ≡ true
     → (a ≡ true) × (b ≡ true) × (c ≡ true) × (d ≡ true) × (e ≡ true)
 and5 a b c d e h =
-    let h4 = and-left (a && b && c && d) e h in
-    let h3 = and-left (a && b && c) d h4 in
-    let h2 = and-left (a && b) c h3 in (
-      and-left a b h2,
-      and-right a b h2,
-      and-right (a && b) c h3,
-      and-right (a && b && c) d h4,
-      and-right (a && b && c && d) e h,
-    )
+    let four = and4 a b c d (and-left (a && b && c && d) e h) in
+    (four .0, four .1, four .2, four .3, and-right (a && b && c && d) e h)
 
 pub and6 : (a b c d e f : Bool) → a && b && c && d && e && f ≡ true
     → (a ≡ true) × (b ≡ true) × (c ≡ true) × (d ≡ true) × (e ≡ true) × (f ≡ true)
 and6 a b c d e f h =
-    let h5 = and5 a b c d e (and-left (a && b && c && d && e) f h) in
-    (h5 .0, h5 .1, h5 .2, h5 .3, h5 .4, and-right (a && b && c && d && e) f h)
-
-pub and4 : (a b c d : Bool) → a && b && c && d ≡ true → (a ≡ true) × (b ≡ true) × (c ≡ true) × (d ≡ true)
-and4 a b c d h =
-    let h3 = and-left (a && b && c) d h in
-    let h2 = and-left (a && b) c h3 in
-    (and-left a b h2, and-right a b h2, and-right (a && b) c h3, and-right (a && b && c) d h)
-
-pub and3 : (a b c : Bool) → a && b && c ≡ true → (a ≡ true) × (b ≡ true) × (c ≡ true)
-and3 a b c h =
-    let h2 = and-left (a && b) c h in
-    (and-left a b h2, and-right a b h2, and-right (a && b) c h)
+    let five = and5 a b c d e (and-left (a && b && c && d && e) f h) in
+    (five .0, five .1, five .2, five .3, five .4, and-right (a && b && c && d && e) f h)
 
 zero-word : (k : ℕ) → eqb k 0 ≡ true → 0 ≡ k
 zero-word k h = sym (eqb-true k 0 h)
@@ -86,26 +79,26 @@ target-forth text (suc zero) k s n c g a h =
     let w = and5 (leb k 1) (placed text (record { start = s; size = n })) (leb c 1) (leb g 1) (leb a 1) h in
     λ i. 1 ∷ bit-flag k (w .0) i ∷ s ∷ n ∷ bit-flag c (w .2) i ∷ bit-flag g (w .3) i ∷ bit-flag a (w .4) i ∷ []
 target-forth text (suc (suc p)) k s n c g a h =
-    absurd (let z = leb-true (suc (suc p)) 1 (and-left (leb (suc (suc p)) 1) _ h) in omega arith)
+    absurd (omega (arith, leb-true (suc (suc p)) 1 (and-left (leb (suc (suc p)) 1) _ h)))
 
 kind-forth : (k : ℕ) → leb k 2 ≡ true → kindWord (kindOf k) ≡ k
 kind-forth zero h = refl
 kind-forth (suc zero) h = refl
 kind-forth (suc (suc zero)) h = refl
-kind-forth (suc (suc (suc k))) h = absurd (let z = leb-true (suc (suc (suc k))) 2 h in omega arith)
+kind-forth (suc (suc (suc k))) h = absurd (omega (arith, leb-true (suc (suc (suc k))) 2 h))
 
 direction-forth : (k : ℕ) → leb k 2 ≡ true → directionWord (directionOf k) ≡ k
 direction-forth zero h = refl
 direction-forth (suc zero) h = refl
 direction-forth (suc (suc zero)) h = refl
-direction-forth (suc (suc (suc k))) h = absurd (let z = leb-true (suc (suc (suc k))) 2 h in omega arith)
+direction-forth (suc (suc (suc k))) h = absurd (omega (arith, leb-true (suc (suc (suc k))) 2 h))
 
 link-forth : (f n : ℕ) → linkWorded f n ≡ true → linkWords (linkOf f n) ≡ f ∷ n ∷ []
 unfolding linkWorded
 link-forth zero n h = λ i. 0 ∷ zero-word n h i ∷ []
 link-forth (suc zero) n h = refl
 link-forth (suc (suc f)) n h =
-    absurd (let z = leb-true (suc (suc f)) 1 (and-left (leb (suc (suc f)) 1) _ h) in omega arith)
+    absurd (omega (arith, leb-true (suc (suc f)) 1 (and-left (leb (suc (suc f)) 1) _ h)))
 
 -- ---- rows
 abbrev pub Worded : (List ℕ → Bool) → ℕ → List ℕ → Type 0
@@ -114,60 +107,56 @@ Worded test w r = (test r ≡ true) × (length r ≡ w)
 pub road-forth : (text ss r : List ℕ) → Worded (roadWorded text) 20 r
     → length (roadIn ss r .sections) ≡ word r 19 → roadRow (word r 18) (roadIn ss r) ≡ r
 unfolding roadIn roadRow roadWorded
-road-forth text ss r h c =
-    let w = and4 (placed text (spanIn r 0)) (isAbsent (word r 2) (word r 3) || placed text (spanIn r 2))
+road-forth text ss r h counted =
+    let passes = and4 (placed text (spanIn r 0)) (isAbsent (word r 2) (word r 3) || placed text (spanIn r 2))
     (targetWorded text (word r 4) (word r 5) (word r 6) (word r 7) (word r 8) (word r 9) (word r 10))
     (targetWorded text (word r 11) (word r 12) (word r 13) (word r 14) (word r 15) (word r 16) (word r 17)) (h .0) in
-    let n = name-forth (word r 2) (word r 3) in
-    let p = target-forth text (word r 4) (word r 5) (word r 6) (word r 7) (word r 8) (word r 9) (word r 10) (w .2) in
-    let s =
+    let junction = name-forth (word r 2) (word r 3) in
+    let before =
+    target-forth text (word r 4) (word r 5) (word r 6) (word r 7) (word r 8) (word r 9) (word r 10) (passes .2) in
+    let after =
     target-forth text (word r 11) (word r 12) (word r 13) (word r 14) (word r 15) (word r 16) (word r 17)
-    (w .3) in
-    let e : word r 0 ∷ word r 1 ∷ (nameWords (nameIn r 2)
+    (passes .3) in
+    let words : word r 0 ∷ word r 1 ∷ (nameWords (nameIn r 2)
     ++ (targetWords (roadIn ss r .predecessor) ++ (targetWords (roadIn ss r .successor)
     ++ (word r 18 ∷ length (part (word r 18) (word r 19) ss) ∷ [])))) ≡ wordsFrom 20 0 r
-    = λ i. word r 0 ∷ word r 1 ∷ (n i ++ (p i ++ (s i ++ (word r 18 ∷ c i ∷ [])))) in
-    e ∙ spelled 20 r (h .1)
+    = λ i. word r 0 ∷ word r 1 ∷ (junction i ++ (before i ++ (after i ++ (word r 18 ∷ counted i ∷ [])))) in
+    words ∙ spelled 20 r (h .1)
 
 pub connection-forth : (text : List ℕ) (ps : List Pair) (r : List ℕ) → Worded (connectionWorded text) 7 r
     → length (connectionIn ps r .pairs) ≡ word r 6 → connectionRow (word r 5) (connectionIn ps r) ≡ r
 unfolding connectionIn connectionRow connectionWorded
-connection-forth text ps r h c =
-    let w = and3 (placed text (spanIn r 0)) (placed text (spanIn r 2)) (leb (word r 4) 1) (h .0) in
-    let e : word r 0 ∷ word r 1 ∷ word r 2 ∷ word r 3 ∷ bit (flag (word r 4)) ∷ word r 5
+connection-forth text ps r h counted =
+    let passes = and3 (placed text (spanIn r 0)) (placed text (spanIn r 2)) (leb (word r 4) 1) (h .0) in
+    let contact = bit-flag (word r 4) (passes .2) in
+    let words : word r 0 ∷ word r 1 ∷ word r 2 ∷ word r 3 ∷ bit (flag (word r 4)) ∷ word r 5
     ∷ length (part (word r 5) (word r 6) ps) ∷ [] ≡ wordsFrom 7 0 r
-    = λ i. word r 0 ∷ word r 1 ∷ word r 2 ∷ word r 3 ∷ bit-flag (word r 4) (w .2) i ∷ word r 5 ∷ c i ∷ [] in
-    e ∙ spelled 7 r (h .1)
+    = λ i. word r 0 ∷ word r 1 ∷ word r 2 ∷ word r 3 ∷ contact i ∷ word r 5 ∷ counted i ∷ [] in
+    words ∙ spelled 7 r (h .1)
 
 pub junction-forth : (text : List ℕ) (cs : List Connection) (r : List ℕ) → Worded (junctionWorded text) 5 r
     → length (junctionIn cs r .connections) ≡ word r 4 → junctionRow (word r 3) (junctionIn cs r) ≡ r
 unfolding junctionIn junctionRow junctionWorded
-junction-forth text cs r h c =
-    let e : word r 0 ∷ word r 1 ∷ kindWord (kindOf (word r 2)) ∷ word r 3
+junction-forth text cs r h counted =
+    let kind = kind-forth (word r 2) (and-right (placed text (spanIn r 0)) (leb (word r 2) 2) (h .0)) in
+    let words : word r 0 ∷ word r 1 ∷ kindWord (kindOf (word r 2)) ∷ word r 3
     ∷ length (part (word r 3) (word r 4) cs) ∷ [] ≡ wordsFrom 5 0 r
-    =
-    λ i.
-    word r 0 ∷ word r 1
-    ∷ kind-forth (word r 2) (and-right (placed text (spanIn r 0)) (leb (word r 2) 2) (h .0)) i ∷ word r 3
-    ∷ c i ∷ [] in
-    e ∙ spelled 5 r (h .1)
+    = λ i. word r 0 ∷ word r 1 ∷ kind i ∷ word r 3 ∷ counted i ∷ [] in
+    words ∙ spelled 5 r (h .1)
 
 pub lane-forth : (text r : List ℕ) → Worded (laneWorded text) 10 r → laneRow (laneIn r) ≡ r
 unfolding laneIn laneRow laneWorded
 lane-forth text r h =
-    let w =
-    and4 (placed text (spanIn r 1)) (leb (word r 5) 2) (linkWorded (word r 6) (word r 7))
+    let passes = and4 (placed text (spanIn r 1)) (leb (word r 5) 2) (linkWorded (word r 6) (word r 7))
     (linkWorded (word r 8) (word r 9)) (h .0) in
-    let s = link-forth (word r 6) (word r 7) (w .2) in
-    let p = link-forth (word r 8) (word r 9) (w .3) in
-    let e : word r 0 ∷ word r 1 ∷ word r 2 ∷ word r 3 ∷ word r 4 ∷ directionWord (directionOf (word r 5))
+    let direction = direction-forth (word r 5) (passes .1) in
+    let onward = link-forth (word r 6) (word r 7) (passes .2) in
+    let back = link-forth (word r 8) (word r 9) (passes .3) in
+    let words : word r 0 ∷ word r 1 ∷ word r 2 ∷ word r 3 ∷ word r 4 ∷ directionWord (directionOf (word r 5))
     ∷ (linkWords (linkOf (word r 6) (word r 7)) ++ linkWords (linkOf (word r 8) (word r 9)))
     ≡ wordsFrom 10 0 r
-    =
-    λ i.
-    word r 0 ∷ word r 1 ∷ word r 2 ∷ word r 3 ∷ word r 4 ∷ direction-forth (word r 5) (w .1) i
-    ∷ (s i ++ p i) in
-    e ∙ spelled 10 r (h .1)
+    = λ i. word r 0 ∷ word r 1 ∷ word r 2 ∷ word r 3 ∷ word r 4 ∷ direction i ∷ (onward i ++ back i) in
+    words ∙ spelled 10 r (h .1)
 
 pub pair-forth : (r : List ℕ) → length r ≡ 2 → pairRow (pairIn r) ≡ r
 unfolding pairIn pairRow
@@ -263,6 +252,6 @@ pub ends-six : (ls : List Lane) (es : List (List Float)) → Each (λ e. length 
 ends-six [] es h = tt
 ends-six (l ∷ ls) [] h = tt
 ends-six (l ∷ ls) (e ∷ es) h = (
-  (length-take-le 6 e (let z = h .0 in omega arith), length-drop 6 e ∙ (let z = h .0 in omega arith)),
+  (length-take-le 6 e (omega (arith, h .0)), length-drop 6 e ∙ (omega (arith, h .0))),
   ends-six ls es (h .1),
 )

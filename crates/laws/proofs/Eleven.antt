@@ -38,13 +38,13 @@ climb : (end o k : ℕ) (ls : List (List ℕ)) → o ≤ k → k + length (packe
 climb end o k [] h e = and-both (leb o k) (eqb k end) (le-leb o k h) (eq-eqb k end (omega arith))
 climb end o k (l ∷ ls) h e =
     and-both (leb o k) (climbsTo end k (offsetsFrom (k + length l) ls)) (le-leb o k h)
-    (climb end k (k + length l) ls (omega arith) (let a = length-append l (packed ls) in omega arith))
+    (climb end k (k + length l) ls (omega arith) (omega (arith, length-append l (packed ls))))
 
 climb-all : (ls : List (List ℕ)) → climbs (length (packed ls)) (offsetsFrom 0 ls) ≡ true
 climb-all [] = refl
 climb-all (l ∷ ls) =
     climb (length (packed (l ∷ ls))) 0 (0 + length l) ls (omega arith)
-    (let a = length-append l (packed ls) in omega arith)
+    (omega (arith, length-append l (packed ls)))
 
 -- ---- identities
 borne-self : (ls : List Lane) → Each (λ l. borne ls (l .identity) ≡ true) ls

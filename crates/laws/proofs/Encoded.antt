@@ -142,7 +142,7 @@ Six x = (length (x .atStart) ≡ 6) × (length (x .atEnd) ≡ 6)
 
 pub edge-width : (x : EdgedLane) → Six x → length (edgeRow x) ≡ 12
 unfolding edgeRow
-edge-width x h = let a = length-append (x .atStart) (x .atEnd) in let b = h .0 in let c = h .1 in omega arith
+edge-width x six = omega (arith, length-append (x .atStart) (x .atEnd), six .0, six .1)
 
 pub edged-back : (xs : List EdgedLane) → Each Six xs → withEdges (map (λ x. x .lane) xs) (map edgeRow xs) ≡ xs
 unfolding edgeRow

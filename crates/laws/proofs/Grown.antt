@@ -286,24 +286,34 @@ module _ (t : Tables) (h : firstBroken (repairRules t) ≡ none) where
 
       roads-few : length (repair (sameIn (t .text)) (mapOf (bare t)) .roads) ≤ 16384
       roads-few =
-          let a = sized-most 20 16384 (length (t .roads)) (limits .1) in
-          let b = roads-words in let c = roads-same in omega arith
+          omega (arith, sized-most 20 16384 (length (t .roads)) (limits .1), roads-words, roads-same)
 
       junctions-few : length (repair (sameIn (t .text)) (mapOf (bare t)) .junctions) ≤ 16384
       junctions-few =
-          let a = sized-most 5 16384 (length (t .junctions)) (limits .3) in
-          let b = junctions-words in let c = junctions-count (sameIn (t .text)) (mapOf (bare t)) in omega arith
+          omega (
+            arith,
+            sized-most 5 16384 (length (t .junctions)) (limits .3),
+            junctions-words,
+            junctions-count (sameIn (t .text)) (mapOf (bare t)),
+          )
 
       connections-few : length (allConnections (repair (sameIn (t .text)) (mapOf (bare t)) .junctions)) ≤ 16384
       connections-few =
-          let a = sized-most 7 8192 (length (t .connections)) (limits .4) in
-          let b = connections-words in
-          let c = repair-small (sameIn (t .text)) (mapOf (bare t)) .0 in omega arith
+          omega (
+            arith,
+            sized-most 7 8192 (length (t .connections)) (limits .4),
+            connections-words,
+            repair-small (sameIn (t .text)) (mapOf (bare t)) .0,
+          )
 
       pairs-few : length (allPairs (repair (sameIn (t .text)) (mapOf (bare t)) .junctions)) ≤ 16384
       pairs-few =
-          let a = sized-most 2 8192 (length (t .pairs)) (limits .5) in
-          let b = pairs-words in let c = repair-small (sameIn (t .text)) (mapOf (bare t)) .1 in omega arith
+          omega (
+            arith,
+            sized-most 2 8192 (length (t .pairs)) (limits .5),
+            pairs-words,
+            repair-small (sameIn (t .text)) (mapOf (bare t)) .1,
+          )
 
       sections-few : sized 1 16384 (length (sectionWords (repair (sameIn (t .text)) (mapOf (bare t)) .roads))) ≡ true
       sections-few = kept-sections

@@ -4,26 +4,27 @@ use mathlib.Core.Path.{_≡_, refl, sym, _∙_, ap, ap₂, subst}
 use mathlib.Core.Bool.{Bool, true, false, not, cond}
 use mathlib.Core.Option.{Option, none, some}
 use mathlib.Core.List.{List, [], _∷_, _++_, map, map-append, append-nil}
-use Prim.Native.Nat.{ℕ, zero, suc, _+_, _*_, _/_, _≤_}
+use Prim.Native.Nat.{ℕ, zero, suc, _+_, _/_, _≤_}
 use native.Mathlib.Nat.{le-refl, mul-div-cancel}
 use native.Mathlib.Omega.{arith}
 use lib.Dec.{eqb}
-use lib.ListN.{length, length-append, length-map}
+use lib.ListN.{length, length-map}
 use borrow.Author.Tests.{eq-eqb, ne-eqb}
 use Rattle.model.specs.Calls.{repairContent, warningRow, warningWidth}
 use Rattle.model.specs.Joined.{isReadings, isRepairs, joinedFrom, joinedWarnings, warnedAt}
 use Rattle.model.specs.Lists.{gather, isSome, keep, listO, mapO}
 use Rattle.model.specs.Reading.{RawTables, ReadWarning, connectionDropped, connectionWarnings, connectionsAt}
 use Rattle.model.specs.Reading.{junctionRows, junctionWarnings, keptConnections, kindAt, laneLinkDropped}
-use Rattle.model.specs.Reading.{laneLinkWarnings, laneLinksAt, partRows, passedOver, rawJunction, readConnection}
-use Rattle.model.specs.Reading.{readJunction, readJunctions, readPair, readWarningRow, readWarnings, toList}
+use Rattle.model.specs.Reading.{laneLinkWarnings, laneLinksAt, partRows, passedOver, rawJunction}
+use Rattle.model.specs.Reading.{readConnection, readJunction, readJunctions, readPair, readWarningRow}
+use Rattle.model.specs.Reading.{readWarnings, toList}
 use Rattle.model.specs.ReadingCalls.{junctionContent}
 use Rattle.model.specs.Records.{Connection, Junction, JunctionKind, Road, Span, common, direct, virtual}
 use Rattle.model.specs.Repair.{Warning, missingEnd, missingLink, repairRoads, startRoads, warnAfter, warnAll}
 use Rattle.model.specs.Repair.{warnOne, warnOver, warnings}
 use Rattle.model.specs.Rows.{table, word}
 use Rattle.model.specs.Rules.{same}
-use Rattle.model.specs.Tables.{Tables, junctionWords, junctionsIn, mapOf, nameIn}
+use Rattle.model.specs.Tables.{Tables, junctionsIn, mapOf, nameIn}
 use Rattle.laws.proofs.Basics.{gather-ext, keep-append}
 use Rattle.laws.proofs.ForEach.{each, each-append, each-keep, each-map, each-of-map}
 use Rattle.laws.proofs.Lay.{length-table, table-even}

@@ -176,10 +176,10 @@ module _ (same : Span → Span → Bool) (A : Alike same) (mk : Span → Bool) (
           (λ r. same (r .name) n) rs r h (unfold roadOf in q))
           ∙ ap (λ m. mapO (λ e. m ⊕ e) (meetingEnd same j r)) (S (r .name) n (roadOf-name same rs n r q))
 
-  meetAt-both : (rs rs′ : List Road) (n j : Span) → AsReversed same A mk S rs rs′ → Single same mk rs j
-      → meetAt same rs′ n j ≡ mapO (λ e. mk n ⊕ e) (meetAt same rs n j)
-  meetAt-both rs rs′ n j T h =
-      sym (meetAt-bare same rs′ n j)
+  meetAt-both : (rs turned : List Road) (n j : Span) → AsReversed same A mk S rs turned → Single same mk rs j
+      → meetAt same turned n j ≡ mapO (λ e. mk n ⊕ e) (meetAt same rs n j)
+  meetAt-both rs turned n j T h =
+      sym (meetAt-bare same turned n j)
       ∙ ap (λ x. meetAt same x n j)
       (T
       ∙ map-map (reverseRoad mk) bareRoad rs
@@ -188,13 +188,13 @@ module _ (same : Span → Span → Bool) (A : Alike same) (mk : Span → Bool) (
       ∙ meetAt-bare same (map (reverseRoad mk) rs) n j
       ∙ meetAt-reversed rs n j h
 
-  backOf-both : (rs rs′ : List Road) (j : Span) (c : Connection) → AsReversed same A mk S rs rs′
+  backOf-both : (rs turned : List Road) (j : Span) (c : Connection) → AsReversed same A mk S rs turned
       → Single same mk rs j
-      → backOf same rs′ j (reverseConnection mk c) ≡ map (reverseConnection mk) (backOf same rs j c)
+      → backOf same turned j (reverseConnection mk c) ≡ map (reverseConnection mk) (backOf same rs j c)
   unfolding backOf meetAt
-  backOf-both rs rs′ j c T h =
+  backOf-both rs turned j c T h =
       unfold reverseConnection in ap (λ o. listO o (λ e. backAt (reverseConnection mk c) e ∷ []))
-      (meetAt-both rs rs′ (c .incoming) j T h)
+      (meetAt-both rs turned (c .incoming) j T h)
       ∙ go (meetAt same rs (c .incoming) j)
     where
       go : (o : Option Bool)
@@ -203,19 +203,19 @@ module _ (same : Span → Span → Bool) (A : Alike same) (mk : Span → Bool) (
       go none = refl
       go (some e) = ap {B = List Connection} (λ x. x ∷ []) (backAt-reversed mk c e)
 
-  reversed-both : (rs rs′ : List Road) (j : Span) (cs : List Connection) → AsReversed same A mk S rs rs′
+  reversed-both : (rs turned : List Road) (j : Span) (cs : List Connection) → AsReversed same A mk S rs turned
       → Single same mk rs j
-      → reversed same rs′ j (map (reverseConnection mk) cs) ≡ map (reverseConnection mk) (reversed same rs j cs)
+      → reversed same turned j (map (reverseConnection mk) cs) ≡ map (reverseConnection mk) (reversed same rs j cs)
   unfolding reversed
-  reversed-both rs rs′ j cs T h =
-      ap (gather (backOf same rs′ j))
+  reversed-both rs turned j cs T h =
+      ap (gather (backOf same turned j))
       (keep-map (reverseConnection mk) (λ c. not (some? (runsBack same c) (map (reverseConnection mk) cs))) cs
       ∙ ap (map (reverseConnection mk))
       (keep-ext (λ c. not (some? (runsBack same (reverseConnection mk c)) (map (reverseConnection mk) cs)))
       (λ c. not (some? (runsBack same c) cs)) cs (each (λ c. ap not (runs c)) cs)))
-      ∙ gather-map (reverseConnection mk) (backOf same rs′ j) kept
-      ∙ gather-ext (λ c. backOf same rs′ j (reverseConnection mk c))
-      (λ c. map (reverseConnection mk) (backOf same rs j c)) kept (each (λ c. backOf-both rs rs′ j c T h) kept)
+      ∙ gather-map (reverseConnection mk) (backOf same turned j) kept
+      ∙ gather-ext (λ c. backOf same turned j (reverseConnection mk c))
+      (λ c. map (reverseConnection mk) (backOf same rs j c)) kept (each (λ c. backOf-both rs turned j c T h) kept)
       ∙ sym (map-gather (backOf same rs j) (reverseConnection mk) kept)
     where
       kept : List Connection
@@ -228,30 +228,30 @@ module _ (same : Span → Span → Bool) (A : Alike same) (mk : Span → Bool) (
           unfold runsBack reverseConnection in some?-map (reverseConnection mk)
           (runsBack same (reverseConnection mk c)) cs
 
-  repairJunction-both : (rs rs′ : List Road) (j : Junction) → AsReversed same A mk S rs rs′
+  repairJunction-both : (rs turned : List Road) (j : Junction) → AsReversed same A mk S rs turned
       → (isDirect (j .kind) ≡ true → Single same mk rs (j .name)) →
-      repairJunction same rs′ (reverseJunction mk j) ≡ reverseJunction mk (repairJunction same rs j)
+      repairJunction same turned (reverseJunction mk j) ≡ reverseJunction mk (repairJunction same rs j)
   unfolding repairJunction reverseJunction
-  repairJunction-both rs rs′ j T h = λ i. record { name = j .name; kind = j .kind; connections = go (j .kind) h i }
+  repairJunction-both rs turned j T h = λ i. record { name = j .name; kind = j .kind; connections = go (j .kind) h i }
     where
       go : (k : JunctionKind) → (isDirect k ≡ true → Single same mk rs (j .name)) →
-          connectionsAfter same k (j .name) (map (reverseConnection mk) (j .connections)) rs′
+          connectionsAfter same k (j .name) (map (reverseConnection mk) (j .connections)) turned
           ≡ map (reverseConnection mk) (connectionsAfter same k (j .name) (j .connections) rs)
       go common h = refl
       go direct h =
           ap (λ x. map (reverseConnection mk) (j .connections) ++ x)
-          (reversed-both rs rs′ (j .name) (j .connections) T (h refl))
+          (reversed-both rs turned (j .name) (j .connections) T (h refl))
           ∙ sym (map-append (reverseConnection mk) (j .connections) (reversed same rs (j .name) (j .connections)))
       go virtual h = refl
 
-  junctionsOver-both : (js : List Junction) (rs rs′ : List Road) → AsReversed same A mk S rs rs′
+  junctionsOver-both : (js : List Junction) (rs turned : List Road) → AsReversed same A mk S rs turned
       → Each (λ j. isDirect (j .kind) ≡ true → Single same mk rs (j .name)) js →
-      junctionsOver same (map (reverseJunction mk) js) rs′ ≡ map (reverseJunction mk) (junctionsOver same js rs)
-  junctionsOver-both [] rs rs′ T h = refl
-  junctionsOver-both (j ∷ js) rs rs′ T h =
-      ap₂ {C = List Junction} (λ x y. x ∷ y) (repairJunction-both rs rs′ j T (h .0))
-      (junctionsOver-both js (repairRoads same j rs) (repairRoads same (reverseJunction mk j) rs′)
-      (repairRoads-both same A mk S j rs rs′ T)
+      junctionsOver same (map (reverseJunction mk) js) turned ≡ map (reverseJunction mk) (junctionsOver same js rs)
+  junctionsOver-both [] rs turned T h = refl
+  junctionsOver-both (j ∷ js) rs turned T h =
+      ap₂ {C = List Junction} (λ x y. x ∷ y) (repairJunction-both rs turned j T (h .0))
+      (junctionsOver-both js (repairRoads same j rs) (repairRoads same (reverseJunction mk j) turned)
+      (repairRoads-both same A mk S j rs turned T)
       (each-map (λ i f d. single-junction same A mk j rs (i .name) (f d)) js (h .1)))
 
   -- reversed and repaired, and repaired and reversed: the junctions

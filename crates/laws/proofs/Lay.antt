@@ -15,7 +15,7 @@ use Rattle.laws.proofs.ListTests.{and-both, and-left, and-right}
 use Rattle.laws.proofs.Valid.{Each}
 
 pub whole-rows : (w n : ℕ) → n % w ≡ 0 → n / w * w ≡ n
-whole-rows w n e = let d = div-add-mod' n w in omega arith
+whole-rows w n e = omega (arith, div-add-mod' n w)
 
 -- ---- a table and its rows
 module _ {A : Type 0} where
@@ -24,23 +24,23 @@ module _ {A : Type 0} where
   gather-rows w (suc n) ws =
       ap (λ (l : List A). take w ws ++ l) (gather-rows w n (drop w ws))
       ∙ sym (take-add w (n * w) ws)
-      ∙ (let e = suc-mul n w in let d : w + n * w ≡ suc n * w = omega arith in ap (λ (k : ℕ). take k ws) d)
+      ∙ (let one-row-more = suc-mul n w in let words : w + n * w ≡ suc n * w = omega arith in ap (λ (k : ℕ). take k ws) words)
 
   pub gather-table : (w : ℕ) (ws : List A) → length ws % w ≡ 0 → gather (λ r. r) (table w ws) ≡ ws
   unfolding table
   gather-table w ws e =
       gather-rows w (length ws / w) ws
-      ∙ take-all (length ws / w * w) ws (let d = whole-rows w (length ws) e in omega arith)
+      ∙ take-all (length ws / w * w) ws (omega (arith, whole-rows w (length ws) e))
 
   rows-width : (w n : ℕ) (ws : List A) → n * w ≤ length ws → Each (λ r. length r ≡ w) (rows w n ws)
   rows-width w zero ws h = tt
   rows-width w (suc n) ws h =
-      let e = suc-mul n w in
-      (length-take-le w ws (omega arith), rows-width w n (drop w ws) (let d = length-drop w ws in omega arith))
+      let one-row-more = suc-mul n w in
+      (length-take-le w ws (omega arith), rows-width w n (drop w ws) (omega (arith, length-drop w ws)))
 
   pub table-width : (w : ℕ) (ws : List A) → length ws % w ≡ 0 → Each (λ r. length r ≡ w) (table w ws)
   unfolding table
-  table-width w ws e = rows-width w (length ws / w) ws (let d = whole-rows w (length ws) e in omega arith)
+  table-width w ws e = rows-width w (length ws / w) ws (omega (arith, whole-rows w (length ws) e))
 
   pub length-rows : (w n : ℕ) (ws : List A) → length (rows w n ws) ≡ n
   length-rows w zero ws = refl
@@ -55,8 +55,7 @@ module _ {A : Type 0} where
     pub length-even : (xs : List X) → Each (λ x. length (f x) ≡ w) xs → length (gather f xs) ≡ length xs * w
     length-even [] h = sym (zero-mul w)
     length-even (x ∷ xs) h =
-        let a = length-append (f x) (gather f xs) in
-        let b = h .0 in let c = length-even xs (h .1) in let d = suc-mul (length xs) w in omega arith
+        omega (arith, length-append (f x) (gather f xs), h .0, length-even xs (h .1), suc-mul (length xs) w)
 
     rows-even : (xs : List X) → Each (λ x. length (f x) ≡ w) xs → rows w (length xs) (gather f xs) ≡ map f xs
     rows-even [] h = refl
@@ -85,9 +84,13 @@ module _ {X A : Type 0} (w : ℕ) (row : ℕ → X → List ℕ) (f : X → List
   pub length-rowsFrom : (i : ℕ) (xs : List X) → length (rowsFrom row f i xs) ≡ length xs * w
   length-rowsFrom i [] = sym (zero-mul w)
   length-rowsFrom i (x ∷ xs) =
-      let a = length-append (row i x) (rowsFrom row f (i + length (f x)) xs) in
-      let b = width i x in
-      let c = length-rowsFrom (i + length (f x)) xs in let d = suc-mul (length xs) w in omega arith
+      omega (
+        arith,
+        length-append (row i x) (rowsFrom row f (i + length (f x)) xs),
+        width i x,
+        length-rowsFrom (i + length (f x)) xs,
+        suc-mul (length xs) w,
+      )
 
   rows-from : (i : ℕ) (xs : List X) → rows w (length xs) (rowsFrom row f i xs) ≡ rowList row f i xs
   rows-from i [] = refl
@@ -135,7 +138,7 @@ parts-fit kf kc row f p q i (x ∷ xs) =
     (rowList row f (i + length (f x)) xs))
     (eq-eqb (word (row i x) kf) i (p i x))
     (ap₂ (λ (a b : ℕ). partsFit kf kc a b (rowList row f (i + length (f x)) xs))
-    (ap (λ (k : ℕ). i + k) (q i x)) (let e = length-append (f x) (gather f xs) in omega arith)
+    (ap (λ (k : ℕ). i + k) (q i x)) (omega (arith, length-append (f x) (gather f xs)))
     ∙ parts-fit kf kc row f p q (i + length (f x)) xs)
 
 -- parts that fit: the first begins at i, and the rest fit after it
@@ -149,8 +152,8 @@ fit-rest kf kc i n r rs h = and-right (eqb (word r kf) i) (partsFit kf kc (i + w
 
 -- parts that fit are given back
 pub fit-le : (kf kc i n : ℕ) (rs : List (List ℕ)) → partsFit kf kc i n rs ≡ true → i ≤ n
-fit-le kf kc i n [] h = let e = eqb-true i n h in omega arith
-fit-le kf kc i n (r ∷ rs) h = let k = fit-le kf kc (i + word r kc) n rs (fit-rest kf kc i n r rs h) in omega arith
+fit-le kf kc i n [] h = omega (arith, eqb-true i n h)
+fit-le kf kc i n (r ∷ rs) h = omega (arith, fit-le kf kc (i + word r kc) n rs (fit-rest kf kc i n r rs h))
 
 module _ {X A : Type 0} (kf kc : ℕ) (row : ℕ → X → List ℕ) (f : X → List A) (from : List ℕ → X) (all : List A)
     (P : List ℕ → Type 0)
@@ -159,7 +162,7 @@ module _ {X A : Type 0} (kf kc : ℕ) (row : ℕ → X → List ℕ) (f : X → 
   part-count : (i : ℕ) (r : List ℕ) → word r kf ≡ i → i + word r kc ≤ length all → length (f (from r)) ≡ word r kc
   part-count i r e h =
       ap length (reads r)
-      ∙ length-take-le (word r kc) (drop (word r kf) all) (let d = length-drop (word r kf) all in omega arith)
+      ∙ length-take-le (word r kc) (drop (word r kf) all) (omega (arith, length-drop (word r kf) all))
 
   pub rows-forth : (i : ℕ) (rs : List (List ℕ)) → Each P rs → partsFit kf kc i (length all) rs ≡ true
       → rowsFrom row f i (map from rs) ≡ gather (λ r. r) rs

@@ -77,7 +77,7 @@ listPart-of ls i h =
         ∙ ap (λ (n : ℕ). length (b .head) + n) (length-append (getD ls i []) (b .tail))
 
     inside : suc i < length (offsetsFrom 0 ls)
-    inside = let e = offsets-count 0 ls in omega arith
+    inside = omega (arith, offsets-count 0 ls)
 
     rising : lo ≤ hi
     rising =
@@ -101,7 +101,7 @@ listPart-past ls i h =
     cond (c && leb (word (offsetsFrom 0 ls) i) (word (offsetsFrom 0 ls) (suc i)) && leb
     (word (offsetsFrom 0 ls) (suc i)) (length (packed ls)))
     (part (word (offsetsFrom 0 ls) i) (word (offsetsFrom 0 ls) (suc i) - word (offsetsFrom 0 ls) i)
-    (packed ls)) []) (le-ltb (suc i) (length (offsetsFrom 0 ls)) (let e = offsets-count 0 ls in omega arith))
+    (packed ls)) []) (le-ltb (suc i) (length (offsetsFrom 0 ls)) (omega (arith, offsets-count 0 ls)))
 
 -- lookup picks the list onward or the list before
 pub listLookup-of : (onward before : List (List ℕ)) (i : ℕ) (asked : Bool) → i < length onward → i < length before →

@@ -42,9 +42,7 @@ pub mirror-word : (ss : List ℕ) (i : ℕ) → Ascends ss → Each Word ss → 
 mirror-word [] i a w k = absurd (mathlib.Core.Bool.false≢true k)
 mirror-word (x ∷ xs) i a w k =
     let low : x ≤ i = each-member (λ i. x ≤ i) i (x ∷ xs) (head-low x xs a) k in
-    let m = mirror-low x xs i low in
-    let l = last-of x xs w in
-    omega arith
+    omega (arith, mirror-low x xs i low, last-of x xs w)
 
 pub mirrored-words : (ss : List ℕ) → Ascends ss → Each Word ss → Each Word (mirrored ss)
 unfolding mirrored
@@ -54,4 +52,4 @@ mirrored-words (x ∷ xs) a w =
     (each-of-map (mirror (x ∷ xs)) Word (x ∷ xs) (each-map one (x ∷ xs) (head-low x xs a)))
   where
     one : (i : ℕ) → x ≤ i → Word (mirror (x ∷ xs) i)
-    one i low = let m = mirror-low x xs i low in let l = last-of x xs w in omega arith
+    one i low = omega (arith, mirror-low x xs i low, last-of x xs w)

@@ -30,20 +30,19 @@ use Rattle.laws.proofs.Eleven.{eleven, offsets-count}
 use Rattle.laws.proofs.ForEach.{each-map}
 use Rattle.laws.proofs.Lay.{length-table}
 use Rattle.laws.proofs.ListTests.{and-both, and-left, and-right, every-each}
-use Rattle.laws.proofs.RulesReversed.{Passes, all-pass, ascends-fact, pass-all}
+use Rattle.laws.proofs.RulesReversed.{ascends-fact, pass-all}
 use Rattle.laws.proofs.Tight.{exits-all, ids-tight}
 use Rattle.laws.proofs.Valid.{Valid}
-use Rattle.laws.proofs.WordsReversed.{allPairs-nested}
+use Rattle.laws.proofs.WordsReversed.{Listable, allPairs-nested, listable}
 
 module _ (t : Tables) (h : firstBroken (successionRules t) ≡ none) where
-  rules : Passes (successionRules t)
-  rules = all-pass (successionRules t) h
+  facts : Listable t
+  facts = listable t h
 
   sizes : (mapSized 16384 t ≡ true) × (lanesSized t ≡ true)
-  unfolding successionRules rulesTo5 laneRules
   sizes = (
-    and-left (mapSized 16384 t) (lanesSized t) (rules .0),
-    and-right (mapSized 16384 t) (lanesSized t) (rules .0),
+    and-left (mapSized 16384 t) (lanesSized t) (facts .sizes),
+    and-right (mapSized 16384 t) (lanesSized t) (facts .sizes),
   )
 
   limits : (leb (length (t .text)) 1048576 ≡ true)
@@ -57,33 +56,32 @@ module _ (t : Tables) (h : firstBroken (successionRules t) ≡ none) where
   worded : (every (roadWorded (t .text)) (table 20 (t .roads)) ≡ true)
       × (every (junctionWorded (t .text)) (table 5 (t .junctions)) ≡ true)
       × (every (connectionWorded (t .text)) (table 7 (t .connections)) ≡ true)
-  unfolding successionRules rulesTo5 laneRules
-  worded = worded-of t (and-left (mapWorded t) (lanesWorded t) (rules .1 .0))
+  worded = worded-of t (and-left (mapWorded t) (lanesWorded t) (facts .worded))
 
   parts : (partsFit 3 4 0 (length (t .connections) / 7) (table 5 (t .junctions)) ≡ true)
       × (partsFit 5 6 0 (length (t .pairs) / 2) (table 7 (t .connections)) ≡ true)
-  unfolding successionRules rulesTo5 laneRules connectionPartsFit pairPartsFit
+  unfolding connectionPartsFit pairPartsFit
   parts = (
     and-left (partsFit 3 4 0 (length (t .connections) / 7) (table 5 (t .junctions)))
-        (partsFit 5 6 0 (length (t .pairs) / 2) (table 7 (t .connections))) (rules .1 .1 .1 .1 .0),
+        (partsFit 5 6 0 (length (t .pairs) / 2) (table 7 (t .connections))) (facts .connections),
     and-right (partsFit 3 4 0 (length (t .connections) / 7) (table 5 (t .junctions)))
-        (partsFit 5 6 0 (length (t .pairs) / 2) (table 7 (t .connections))) (rules .1 .1 .1 .1 .0),
+        (partsFit 5 6 0 (length (t .pairs) / 2) (table 7 (t .connections))) (facts .connections),
   )
 
-  count7 : length (t .connections) / 7 ≡ length (connectionsOf t)
+  connection-rows : length (t .connections) / 7 ≡ length (connectionsOf t)
   unfolding connectionsIn
-  count7 = sym (length-map (table 7 (t .connections)) (connectionIn (pairsOf t)) ∙ length-table 7 (t .connections))
+  connection-rows = sym (length-map (table 7 (t .connections)) (connectionIn (pairsOf t)) ∙ length-table 7 (t .connections))
 
-  count2 : length (t .pairs) / 2 ≡ length (pairsOf t)
+  pair-rows : length (t .pairs) / 2 ≡ length (pairsOf t)
   unfolding pairsIn
-  count2 = sym (length-map (table 2 (t .pairs)) pairIn ∙ length-table 2 (t .pairs))
+  pair-rows = sym (length-map (table 2 (t .pairs)) pairIn ∙ length-table 2 (t .pairs))
 
   all-connections : allConnections (junctionsOf t) ≡ connectionsOf t
   unfolding junctionsIn
   all-connections =
       junctions-forth (t .text) (t .junctions) (connectionsOf t)
       (sized-whole 5 16384 (length (t .junctions)) (limits .3)) (worded .1)
-      (ap (λ (k : ℕ). partsFit 3 4 0 k (table 5 (t .junctions))) (sym count7) ∙ parts .0) .1
+      (ap (λ (k : ℕ). partsFit 3 4 0 k (table 5 (t .junctions))) (sym connection-rows) ∙ parts .0) .1
 
   all-pairs : allPairs (junctionsOf t) ≡ pairsOf t
   unfolding allPairs
@@ -91,68 +89,75 @@ module _ (t : Tables) (h : firstBroken (successionRules t) ≡ none) where
       ap (gather (λ (c : Connection). c .pairs)) all-connections
       ∙ (unfold connectionsIn in (connections-forth (t .text) (t .connections) (pairsOf t)
       (sized-whole 7 16384 (length (t .connections)) (limits .4)) (worded .2)
-      (ap (λ (k : ℕ). partsFit 5 6 0 k (table 7 (t .connections))) (sym count2) ∙ parts .1) .1))
+      (ap (λ (k : ℕ). partsFit 5 6 0 k (table 7 (t .connections))) (sym pair-rows) ∙ parts .1) .1))
 
   pairs-few : length
       (gather (λ (j : Junction). gather (λ (c : Connection). c .pairs) (j .connections)) (junctionsOf t)) ≤
       16384
   pairs-few =
-      let a = ap length (sym (allPairs-nested (junctionsOf t)) ∙ all-pairs) in
-      let b = count2 in let c = sized-most 2 16384 (length (t .pairs)) (limits .5) in
-      let d : length (t .pairs) / 2 ≤ 16384 = div-le-of-le-mul 2 (let e = mul-comm 16384 2 in omega arith) in
-      omega arith
+      let words-few = sized-most 2 16384 (length (t .pairs)) (limits .5) in
+      let rows-few : length (t .pairs) / 2 ≤ 16384 = div-le-of-le-mul 2 (omega (arith, mul-comm 16384 2)) in
+      omega (arith, ap length (sym (allPairs-nested (junctionsOf t)) ∙ all-pairs), pair-rows)
 
   lanes-few : length (lanesOf t) ≤ 16384
   unfolding lanesIn
-  lanes-few = let a = length-map (table 10 (t .lanes)) laneIn in let b = length-table 10 (t .lanes) in
-      let c = sized-most 10 16384 (length (t .lanes)) (unfold lanesSized in sizes .1) in
-      let d : length (t .lanes) / 10 ≤ 16384 = div-le-of-le-mul 10 (omega arith) in omega arith
+  lanes-few =
+      let words-few = sized-most 10 16384 (length (t .lanes)) (unfold lanesSized in sizes .1) in
+      let rows-few : length (t .lanes) / 10 ≤ 16384 = div-le-of-le-mul 10 (omega arith) in
+      omega (arith, length-map (table 10 (t .lanes)) laneIn, length-table 10 (t .lanes))
 
   -- at most 805,322,752 of them
   pub successors-words : length (listContent t .successorIds) < 4294967296
-  unfolding listContent mapOf successionRules rulesTo5 laneRules placesOnce
-  successors-words = let a = ids-few (same t) (alike-in (t .text)) (mapOf t) (rules .1 .1 .1 .1 .1 .1 .1 .0) in
-      let b = pairs-few in let c = lanes-few in
-      let d = mul-le-mul lanes-few factor in omega arith
+  unfolding listContent mapOf placesOnce
+  successors-words =
+      omega (
+        arith,
+        ids-few (same t) (alike-in (t .text)) (mapOf t) (facts .keys),
+        pairs-few,
+        lanes-few,
+        mul-le-mul lanes-few factor,
+      )
     where
       factor : suc (length
           (gather (λ (j : Junction). gather (λ (c : Connection). c .pairs) (j .connections)) (junctionsOf t))) +
           suc (length
           (gather (λ (j : Junction). gather (λ (c : Connection). c .pairs) (j .connections)) (junctionsOf t))) +
           length (lanesOf t) ≤ 49154
-      factor = let b = pairs-few in let c = lanes-few in omega arith
+      factor = omega (arith, pairs-few, lanes-few)
 
   pub predecessors-words : length (listContent t .predecessorIds) < 4294967296
-  unfolding listContent mapOf successionRules rulesTo5 laneRules idsOnce
+  unfolding listContent mapOf idsOnce
   predecessors-words =
-      let a = predecessors-few (same t) (mapOf t) (rules .1 .1 .1 .1 .1 .0) in
-      let b = successors-words in omega arith
+      omega (arith, predecessors-few (same t) (mapOf t) (facts .identities), successors-words)
 
   -- ---- 01's limit on packed identities is never passed
   valid : Valid (same t) (mapOf t)
-  unfolding successionRules rulesTo5 laneRules sectionPartsFit sectionsAscend listedIn mapOf
+  unfolding sectionPartsFit sectionsAscend listedIn mapOf
   valid = record {
     ascending = each-map (λ (r : Road) q. ascends-fact (r .sections) q) (roadsOf t)
         (every-each (λ (r : Road). ascends (r .sections)) (roadsOf t)
         (and-right (partsFit 18 19 0 (length (t .sections)) (table 20 (t .roads)))
-        (every (λ (r : Road). ascends (r .sections)) (roadsOf t)) (rules .1 .1 .1 .0)));
+        (every (λ (r : Road). ascends (r .sections)) (roadsOf t)) (facts .sections)));
     placed = every-each (λ (l : Lane). member (l .section) (sectionsOf (same t) (roadsOf t) (l .road)))
-        (lanesOf t) (rules .1 .1 .1 .1 .1 .1 .0);
+        (lanesOf t) (facts .listed);
   }
 
   pub ids-limit : length (listContent t .successorIds) ≤ 131072
-  unfolding listContent mapOf successionRules rulesTo5 laneRules placesOnce idsOnce
+  unfolding listContent mapOf placesOnce idsOnce
   ids-limit =
-      let a = ids-tight (same t) (alike-in (t .text)) (mapOf t) valid (rules .1 .1 .1 .1 .1 .1 .1 .0)
-      (rules .1 .1 .1 .1 .1 .0) in
-      let b = pairs-few in let c = lanes-few in omega arith
+      let tight = ids-tight (same t) (alike-in (t .text)) (mapOf t) valid (facts .keys) (facts .identities) in
+      omega (arith, tight, pairs-few, lanes-few)
 
   -- at each end, at most one for each lane and one for each pair
   pub exits-limit : (e : Bool) → sumOf (λ (l : Lane). length (exits (same t) (mapOf t) l e)) (lanesOf t) ≤ 32768
-  unfolding successionRules rulesTo5 laneRules placesOnce mapOf
+  unfolding placesOnce mapOf
   exits-limit e =
-      let a = exits-all (same t) (alike-in (t .text)) (mapOf t) valid (rules .1 .1 .1 .1 .1 .1 .1 .0) e in
-      let b = pairs-few in let c = lanes-few in omega arith
+      omega (
+        arith,
+        exits-all (same t) (alike-in (t .text)) (mapOf t) valid (facts .keys) e,
+        pairs-few,
+        lanes-few,
+      )
 
   sized-one : (most n : ℕ) → n ≤ most → sized 1 most n ≡ true
   unfolding sized
@@ -166,7 +171,7 @@ module _ (t : Tables) (h : firstBroken (successionRules t) ≡ none) where
       and-both (sized 1 16385 (length (listContent t .successorOffsets)))
       (sized 1 131072 (length (listContent t .successorIds)))
       (sized-one 16385 (length (listContent t .successorOffsets))
-      (let a = offsets-are in let b = lanes-few in omega arith))
+      (omega (arith, offsets-are, lanes-few)))
       (sized-one 131072 (length (listContent t .successorIds)) ids-limit)
     where
       offsets-are : length (listContent t .successorOffsets) ≡ suc (length (lanesOf t))
@@ -177,36 +182,33 @@ module _ (t : Tables) (h : firstBroken (successionRules t) ≡ none) where
 
   edges-sized : edgesFit t ≡ true → edgesSized t ≡ true
   unfolding edgesEven edgesSized sized lanesIn
-  edges-sized e = let q = eqb-true (length (t .edges)) (12 * (length (t .lanes) / 10)) e in
-      let a = length-map (table 10 (t .lanes)) laneIn in let b = length-table 10 (t .lanes) in let c = lanes-few in
+  edges-sized edges-fit =
+      let twelve-each = eqb-true (length (t .edges)) (12 * (length (t .lanes) / 10)) edges-fit in
+      let whole = ap (λ (k : ℕ). k % 12) twelve-each ∙ mul-mod-right 12 (length (t .lanes) / 10) in
+      let few : length (t .edges) ≤ 16384 * 12
+      = omega (arith, length-map (table 10 (t .lanes)) laneIn, length-table 10 (t .lanes), lanes-few) in
       and-both (eqb (length (t .edges) % 12) 0) (leb (length (t .edges)) (16384 * 12))
-      (eq-eqb (length (t .edges) % 12) 0 (ap (λ (k : ℕ). k % 12) q ∙ mul-mod-right 12 (length (t .lanes) / 10)))
-      (le-leb (length (t .edges)) (16384 * 12) (omega arith))
+      (eq-eqb (length (t .edges) % 12) 0 whole) (le-leb (length (t .edges)) (16384 * 12) few)
 
   -- so after an accepted succession the gap check, with twelve edges for each lane, can refuse by 9 alone
   pub through : edgesFit t ≡ true
       → firstBroken (gapRules t (listContent t .successorOffsets) (listContent t .successorIds)) ≡ none
-  unfolding gapRules successionRules rulesTo5 laneRules
-  through e =
+  unfolding gapRules rulesTo5 laneRules
+  through edges-fit =
+      let map-sized = and-both (mapSized 16384 t && lanesSized t) (edgesSized t) (facts .sizes) (edges-sized edges-fit) in
+      let all-sized = and-both (mapSized 16384 t && lanesSized t && edgesSized t)
+      (listsSized (listContent t .successorOffsets) (listContent t .successorIds)) map-sized lists-sized in
       pass-all (gapRules t (listContent t .successorOffsets) (listContent t .successorIds)) (
-        and-both (mapSized 16384 t && lanesSized t && edgesSized t)
-            (listsSized (listContent t .successorOffsets) (listContent t .successorIds))
-            (and-both (mapSized 16384 t && lanesSized t) (edgesSized t) (rules .0) (edges-sized e)) lists-sized,
+        all-sized,
         (
-          rules .1 .0,
+          facts .worded,
           (
-            rules .1 .1 .0,
+            facts .once,
             (
-              rules .1 .1 .1 .0,
+              facts .sections,
               (
-                rules .1 .1 .1 .1 .0,
-                (
-                  rules .1 .1 .1 .1 .1 .0,
-                  (
-                    rules .1 .1 .1 .1 .1 .1 .0,
-                    (rules .1 .1 .1 .1 .1 .1 .1 .0, (e, (eleven t, tt))),
-                  ),
-                ),
+                facts .connections,
+                (facts .identities, (facts .listed, (facts .keys, (edges-fit, (eleven t, tt))))),
               ),
             ),
           ),

@@ -1,7 +1,7 @@
 -- Packed lists are read back, and the lists of an accepted succession are each other's converse, so those that
 -- repair, succession and the gap check find are too.
 use mathlib.Core.Path.{_≡_, refl, sym, _∙_, ap, ap₂, subst}
-use mathlib.Core.Bool.{Bool, true, false, false≢true}
+use mathlib.Core.Bool.{true, false≢true}
 use mathlib.Core.Option.{Option, none, some, Option·none-ne-some, Option·some-injective}
 use mathlib.Core.List.{List, [], _∷_, _++_, map, append-assoc, List·Memᴰ, List·Memᴰ·head, List·Memᴰ·tail}
 use Prim.Native.Nat.{ℕ, zero, suc, _+_, _-_, _/_, _<_}
@@ -10,20 +10,21 @@ use native.Mathlib.Omega.{arith}
 use lib.ListN.{length, take, getD, length-append, length-map}
 use lib.Seq.{drop-at, take-append-seam}
 use borrow.Author.Tests.{eqb-true}
-use Rattle.model.specs.Calls.{Answer, ListOutputs, RepairOutputs, laneRules, listContent, listLengths, longEnough}
-use Rattle.model.specs.Calls.{putLists, refused, repairCall, rulesTo5, settled, successionCall, successionRules}
-use Rattle.model.specs.Calls.{wrote}
+use Rattle.model.specs.Calls.{Answer, ListOutputs, Outcome, RepairOutputs, listContent, listLengths}
+use Rattle.model.specs.Calls.{listWriting, longEnough, putLists, refused, repairCall, successionCall}
+use Rattle.model.specs.Calls.{successionRules, wrote}
 use Rattle.model.specs.Claim.{Mutual, foundLists, identityAt, isTwoWay, listAt, listRows}
 use Rattle.model.specs.Lists.{count, member}
 use Rattle.model.specs.Lookup.{listsAfter, listsIn, offsetsFrom, packed}
 use Rattle.model.specs.Records.{Lane}
 use Rattle.model.specs.Rows.{part, table, word}
 use Rattle.model.specs.Rules.{Rule, firstBroken, identitiesOnce, idsOnce, same}
-use Rattle.model.specs.Sequence.{Buffers, byLists, byRepair, found, fromRepaired, withRepaired}
+use Rattle.model.specs.Sequence.{Buffers, byLists, byRepair, found, fromRepaired, isAccepted, withRepaired}
 use Rattle.model.specs.Succession.{isBoth, predecessorLists, predecessors, successorLists, successors}
 use Rattle.model.specs.Tables.{Tables, directionOf, laneIn, lanesIn, lanesOf, mapOf}
 use Rattle.laws.proofs.Lay.{length-table, take-written}
-use Rattle.laws.proofs.RulesReversed.{all-pass, unbroken-append}
+use Rattle.laws.proofs.RulesReversed.{unbroken-append}
+use Rattle.laws.proofs.WordsReversed.{listable, outcomeBy}
 use Rattle.laws.proofs.Converse as conv
 
 -- ---- packed and read back
@@ -71,15 +72,15 @@ module _ (t : Tables) where
   lane-at : (i : ℕ) → i < length (t .lanes) / 10 → getD (lanesOf t) i (laneIn []) ≡ lane i
   unfolding lanesIn
   lane-at i h =
-      map-at laneIn (table 10 (t .lanes)) i [] (laneIn []) (let e = length-table 10 (t .lanes) in omega arith)
+      map-at laneIn (table 10 (t .lanes)) i [] (laneIn []) (omega (arith, length-table 10 (t .lanes)))
 
   lane-in : (i : ℕ) → i < length (t .lanes) / 10 → List·Memᴰ (lane i) (lanesOf t)
   lane-in i h =
       subst (λ l. List·Memᴰ l (lanesOf t)) (lane-at i h)
-      (member-at (lanesOf t) i (laneIn []) (let e = lanes-count in omega arith))
+      (member-at (lanesOf t) i (laneIn []) (omega (arith, lanes-count)))
 
   list-at : (f : Lane → List ℕ) (i : ℕ) → i < length (t .lanes) / 10 → getD (map f (lanesOf t)) i [] ≡ f (lane i)
-  list-at f i h = map-at f (lanesOf t) i (laneIn []) [] (let e = lanes-count in omega arith) ∙ ap f (lane-at i h)
+  list-at f i h = map-at f (lanesOf t) i (laneIn []) [] (omega (arith, lanes-count)) ∙ ap f (lane-at i h)
 
   successors-at : (i : ℕ) → i < length (t .lanes) / 10
       → listAt (listContent t .successorOffsets) (listContent t .successorIds) i
@@ -99,66 +100,55 @@ module _ (t : Tables) where
 
   pub mutual-content : identitiesOnce t ≡ true → Mutual (t .lanes) (listContent t)
   unfolding idsOnce laneIn mapOf
-  mutual-content u = record {
-    converse = λ i j p q. ap (count (identityAt (t .lanes) j)) (successors-at i p)
-        ∙ conv.converse (same t) (mapOf t) u (lane i) (lane j) (lane-in i p)
-        ∙ ap (count (identityAt (t .lanes) i)) (sym (predecessors-at j q));
-    two-way = λ i j p q a b. ap (member (identityAt (t .lanes) j)) (successors-at i p)
-        ∙ conv.both-or-neither (same t) (mapOf t) u (lane i) (lane j) (lane-in i p) (lane-in j q) (way i a) (way j b)
-        ∙ ap (member (identityAt (t .lanes) i)) (sym (successors-at j q));
+  mutual-content once = record {
+    converse = λ i j i-in j-in. ap (count (identityAt (t .lanes) j)) (successors-at i i-in)
+        ∙ conv.converse (same t) (mapOf t) once (lane i) (lane j) (lane-in i i-in)
+        ∙ ap (count (identityAt (t .lanes) i)) (sym (predecessors-at j j-in));
+    two-way = λ i j i-in j-in i-both j-both. ap (member (identityAt (t .lanes) j)) (successors-at i i-in)
+        ∙ conv.both-or-neither (same t) (mapOf t) once (lane i) (lane j) (lane-in i i-in) (lane-in j j-in)
+        (both i i-both) (both j j-both)
+        ∙ ap (member (identityAt (t .lanes) i)) (sym (successors-at j j-in));
   }
     where
-      way : (i : ℕ) → isTwoWay (t .lanes) i ≡ true → isBoth (lane i .direction) ≡ true
-      way i a = ap (λ (k : ℕ). isBoth (directionOf k)) (eqb-true (word (getD (table 10 (t .lanes)) i []) 5) 2 a)
+      both : (i : ℕ) → isTwoWay (t .lanes) i ≡ true → isBoth (lane i .direction) ≡ true
+      both i two-way =
+          ap (λ (k : ℕ). isBoth (directionOf k)) (eqb-true (word (getD (table 10 (t .lanes)) i []) 5) 2 two-way)
 
   rows-content : (o : ListOutputs)
       → listRows (listLengths (listContent t)) (putLists (listContent t) o) ≡ listContent t
   unfolding listRows listLengths putLists
-  rows-content o = λ i. record {
-    successorOffsets = take-written (listContent t .successorOffsets) (o .successorOffsets)
-        (length (listContent t .successorOffsets)) refl i;
-    successorIds = take-written (listContent t .successorIds) (o .successorIds)
-        (length (listContent t .successorIds)) refl i;
-    predecessorOffsets = take-written (listContent t .predecessorOffsets) (o .predecessorOffsets)
-        (length (listContent t .predecessorOffsets)) refl i;
-    predecessorIds = take-written (listContent t .predecessorIds) (o .predecessorIds)
-        (length (listContent t .predecessorIds)) refl i;
-  }
+  rows-content o =
+      let c = listContent t in
+      λ i. record {
+        successorOffsets = take-written (c .successorOffsets) (o .successorOffsets) _ refl i;
+        successorIds = take-written (c .successorIds) (o .successorIds) _ refl i;
+        predecessorOffsets = take-written (c .predecessorOffsets) (o .predecessorOffsets) _ refl i;
+        predecessorIds = take-written (c .predecessorIds) (o .predecessorIds) _ refl i;
+      }
 
-  -- every rule of succession, and 9
-  abbrev rulesWith9 : ListOutputs → List Rule
-  rulesWith9 o = successionRules t ++ longEnough (listLengths (listContent t)) (listLengths o)
-
-  ids-once : (o : ListOutputs) → firstBroken (rulesWith9 o) ≡ none → identitiesOnce t ≡ true
-  unfolding successionRules rulesTo5 laneRules
-  ids-once o q =
-      let nine = longEnough (listLengths (listContent t)) (listLengths o) in
-      let unbroken = unbroken-append (successionRules t) nine q .0 in
-      all-pass (successionRules t) unbroken .1 .1 .1 .1 .1 .0
-
-  -- every succession that is accepted
+  -- an accepted succession: no rule is broken, and the rows that it wrote are its content
   pub mutual-lists : (o : ListOutputs) (counts : List ℕ) → successionCall t o .answer ≡ wrote counts
       → Mutual (t .lanes) (listRows counts (successionCall t o .outs))
   unfolding successionCall
-  mutual-lists o counts a = go (firstBroken (rulesWith9 o)) refl a
+  mutual-lists o counts a = go (firstBroken (successionRules t ++ nine)) refl a
     where
-      unwrap : Answer → List ℕ
-      unwrap (refused k) = []
-      unwrap (wrote ns) = ns
+      nine : List Rule
+      nine = longEnough (listLengths (listContent t)) (listLengths o)
 
-      isWrote : Answer → Bool
-      isWrote (refused k) = false
-      isWrote (wrote ns) = true
+      countsOf : Answer → List ℕ
+      countsOf (refused k) = []
+      countsOf (wrote ns) = ns
 
-      go : (r : Option ℕ) → firstBroken (rulesWith9 o) ≡ r
-          → settled r (listLengths (listContent t)) (putLists (listContent t) o) o .answer ≡ wrote counts
-          → Mutual (t .lanes)
-          (listRows counts (settled r (listLengths (listContent t)) (putLists (listContent t) o) o .outs))
-      go (some k) q a = absurd (false≢true (ap isWrote a))
-      go none q a =
-          subst (Mutual (t .lanes))
-          (sym (ap (λ ns. listRows ns (putLists (listContent t) o)) (sym (ap unwrap a)) ∙ rows-content o))
-          (mutual-content (ids-once o q))
+      by : Option ℕ → Outcome ListOutputs
+      by = outcomeBy listWriting (listContent t) o
+
+      go : (refusal : Option ℕ) → firstBroken (successionRules t ++ nine) ≡ refusal
+          → by refusal .answer ≡ wrote counts → Mutual (t .lanes) (listRows counts (by refusal .outs))
+      go (some k) broken said = absurd (false≢true (ap isAccepted said))
+      go none unbroken said =
+          let written = ap (λ ns. listRows ns (putLists (listContent t) o)) (sym (ap countsOf said)) ∙ rows-content o in
+          let rules-unbroken = unbroken-append (successionRules t) nine unbroken .0 in
+          subst (Mutual (t .lanes)) (sym written) (mutual-content (listable t rules-unbroken .identities))
 
 -- ---- the lists that repair, succession and the gap check find, on any tables
 module _ (q : Buffers) (l : ListOutputs) where

@@ -29,11 +29,11 @@ seen-roadward same rs n e = go (roadOf same rs n)
     go (some r) = refl
 
 -- roads that came of others: the same names and sections, and no new target of kind road
-pub record Came (same : Span → Span → Bool) (rs rs′ : List Road) : Type 0 where
-  pub sections-kept : (n : Span) → sectionsOf same rs′ n ≡ sectionsOf same rs n
-  pub seen-kept : (n x : Span) (e : Bool) → seen same rs′ n e ≡ some x → seen same rs n e ≡ some x
-  pub names-kept : map (λ r. r .name) rs′ ≡ map (λ r. r .name) rs
-  pub listed-kept : map (λ r. r .sections) rs′ ≡ map (λ r. r .sections) rs
+pub record Came (same : Span → Span → Bool) (rs after : List Road) : Type 0 where
+  pub sections-kept : (n : Span) → sectionsOf same after n ≡ sectionsOf same rs n
+  pub seen-kept : (n x : Span) (e : Bool) → seen same after n e ≡ some x → seen same rs n e ≡ some x
+  pub names-kept : map (λ r. r .name) after ≡ map (λ r. r .name) rs
+  pub listed-kept : map (λ r. r .sections) after ≡ map (λ r. r .sections) rs
 
 pub came-trans : (same : Span → Span → Bool) (a b c : List Road) → Came same a b → Came same b c → Came same a c
 came-trans same a b c h k = record {
@@ -48,17 +48,17 @@ came-refl same a =
     record { sections-kept = λ n. refl; seen-kept = λ n x e q. q; names-kept = refl; listed-kept = refl }
 
 -- one road that came of another
-record Came1 (r r′ : Road) : Type 0 where
-  name-is : r′ .name ≡ r .name
-  sections-is : r′ .sections ≡ r .sections
-  seen-is : (e : Bool) (x : Span) → bindO (targetAt e r′) roadNamed ≡ some x → bindO (targetAt e r) roadNamed ≡ some x
+record Came1 (r r-after : Road) : Type 0 where
+  name-is : r-after .name ≡ r .name
+  sections-is : r-after .sections ≡ r .sections
+  seen-is : (e : Bool) (x : Span) → bindO (targetAt e r-after) roadNamed ≡ some x → bindO (targetAt e r) roadNamed ≡ some x
 
 came1-refl : (r : Road) → Came1 r r
 came1-refl r = record { name-is = refl; sections-is = refl; seen-is = λ e x q. q }
 
 data Pointwise : List Road → List Road → Type 0 where
   none-left : Pointwise [] []
-  one-more : {r r′ : Road} {rs rs′ : List Road} → Came1 r r′ → Pointwise rs rs′ → Pointwise (r ∷ rs) (r′ ∷ rs′)
+  one-more : {r r-after : Road} {rs after : List Road} → Came1 r r-after → Pointwise rs after → Pointwise (r ∷ rs) (r-after ∷ after)
 
 pointwise-refl : (rs : List Road) → Pointwise rs rs
 pointwise-refl [] = none-left
@@ -77,37 +77,37 @@ pointwise-amend p f h (r ∷ rs) = go (p r) (pointwise-amend p f h rs)
     go true ih = one-more (h r) (pointwise-refl rs)
     go false ih = one-more (came1-refl r) ih
 
-names-point : {rs rs′ : List Road} → Pointwise rs rs′ → map (λ r. r .name) rs′ ≡ map (λ r. r .name) rs
+names-point : {rs after : List Road} → Pointwise rs after → map (λ r. r .name) after ≡ map (λ r. r .name) rs
 names-point none-left = refl
 names-point (one-more c t) = ap₂ {C = List Span} (λ x y. x ∷ y) (c .name-is) (names-point t)
 
-listed-point : {rs rs′ : List Road} → Pointwise rs rs′ → map (λ r. r .sections) rs′ ≡ map (λ r. r .sections) rs
+listed-point : {rs after : List Road} → Pointwise rs after → map (λ r. r .sections) after ≡ map (λ r. r .sections) rs
 listed-point none-left = refl
 listed-point (one-more c t) = ap₂ {C = List (List ℕ)} (λ x y. x ∷ y) (c .sections-is) (listed-point t)
 
 module _ (same : Span → Span → Bool) where
-  sections-point : (n : Span) {rs rs′ : List Road} → Pointwise rs rs′ → sectionsOf same rs′ n ≡ sectionsOf same rs n
+  sections-point : (n : Span) {rs after : List Road} → Pointwise rs after → sectionsOf same after n ≡ sectionsOf same rs n
   unfolding sectionsOf roadOf
   sections-point n none-left = refl
-  sections-point n (one-more {r = r} {r′ = r′} {rs = rs} {rs′ = rs′} c t) =
-      ap (λ m. sectionsFrom (cond (same m n) (some r′) (first (λ r. same (r .name) n) rs′))) (c .name-is)
+  sections-point n (one-more {r = r} {r-after = r-after} {rs = rs} {after = after} c t) =
+      ap (λ m. sectionsFrom (cond (same m n) (some r-after) (first (λ r. same (r .name) n) after))) (c .name-is)
       ∙ go (same (r .name) n) (sections-point n t)
     where
       go : (b : Bool)
-          → sectionsFrom (first (λ r. same (r .name) n) rs′) ≡ sectionsFrom (first (λ r. same (r .name) n) rs) →
-          sectionsFrom (cond b (some r′) (first (λ r. same (r .name) n) rs′))
+          → sectionsFrom (first (λ r. same (r .name) n) after) ≡ sectionsFrom (first (λ r. same (r .name) n) rs) →
+          sectionsFrom (cond b (some r-after) (first (λ r. same (r .name) n) after))
           ≡ sectionsFrom (cond b (some r) (first (λ r. same (r .name) n) rs))
       go true ih = c .sections-is
       go false ih = ih
 
-  seen-point : (n x : Span) (e : Bool) {rs rs′ : List Road} → Pointwise rs rs′ → seen same rs′ n e ≡ some x
+  seen-point : (n x : Span) (e : Bool) {rs after : List Road} → Pointwise rs after → seen same after n e ≡ some x
       → seen same rs n e ≡ some x
   unfolding roadOf
   seen-point n x e none-left q = q
-  seen-point n x e (one-more {r = r} {r′ = r′} {rs = rs} {rs′ = rs′} c t) q =
+  seen-point n x e (one-more {r = r} {r-after = r-after} {rs = rs} {after = after} c t) q =
       go (same (r .name) n) (seen-point n x e t)
       (sym (ap (λ m.
-      bindO (cond (same m n) (some r′) (first (λ r. same (r .name) n) rs′))
+      bindO (cond (same m n) (some r-after) (first (λ r. same (r .name) n) after))
       (λ r. bindO (targetAt e r) roadNamed)) (c .name-is))
       ∙ q)
     where
@@ -115,13 +115,13 @@ module _ (same : Span → Span → Bool) where
       obs o = bindO o (λ r. bindO (targetAt e r) roadNamed)
 
       go : (b : Bool)
-          → (obs (first (λ r. same (r .name) n) rs′) ≡ some x → obs (first (λ r. same (r .name) n) rs) ≡ some x) →
-          obs (cond b (some r′) (first (λ r. same (r .name) n) rs′)) ≡ some x
+          → (obs (first (λ r. same (r .name) n) after) ≡ some x → obs (first (λ r. same (r .name) n) rs) ≡ some x) →
+          obs (cond b (some r-after) (first (λ r. same (r .name) n) after)) ≡ some x
           → obs (cond b (some r) (first (λ r. same (r .name) n) rs)) ≡ some x
       go true ih w = c .seen-is e x w
       go false ih w = ih w
 
-  came-point : {rs rs′ : List Road} → Pointwise rs rs′ → Came same rs rs′
+  came-point : {rs after : List Road} → Pointwise rs after → Came same rs after
   came-point p =
       record {
         sections-kept = λ n. sections-point n p;

@@ -389,13 +389,13 @@ module _ (same : Span → Span → Bool) (A : Alike same) (mk : Span → Bool) (
 
   -- the roads of two maps, the second reversed, but for such contacts
   abbrev pub AsReversed : List Road → List Road → Type 0
-  AsReversed rs rs′ = map bareRoad rs′ ≡ map (reverseRoad mk) (map bareRoad rs)
+  AsReversed rs turned = map bareRoad turned ≡ map (reverseRoad mk) (map bareRoad rs)
 
-  pub missingEnd-both : (rs rs′ : List Road) (j : Span) (c : Connection) → AsReversed rs rs′
-      → missingEnd same rs′ j (reverseConnection mk c)
+  pub missingEnd-both : (rs turned : List Road) (j : Span) (c : Connection) → AsReversed rs turned
+      → missingEnd same turned j (reverseConnection mk c)
       ≡ mapO (λ e. mk (c .incoming) ⊕ e) (missingEnd same rs j c)
-  missingEnd-both rs rs′ j c T =
-      sym (missingEnd-bare same rs′ j (reverseConnection mk c))
+  missingEnd-both rs turned j c T =
+      sym (missingEnd-bare same turned j (reverseConnection mk c))
       ∙ ap (λ x. missingEnd same x j (reverseConnection mk c)) T
       ∙ missingEnd-reversed (map bareRoad rs) j c
       ∙ ap (mapO (λ e. mk (c .incoming) ⊕ e)) (missingEnd-bare same rs j c)
@@ -420,47 +420,47 @@ module _ (same : Span → Span → Bool) (A : Alike same) (mk : Span → Bool) (
       reverseRoad-put same mk j e r
       ∙ ap (λ b. putTarget (b ⊕ e) (bareTarget (linked j (b ⊕ e))) (reverseRoad mk r)) (S (r .name) n q))
 
-  pub missingLink-both : (rs rs′ : List Road) (j : Span) (c : Connection) → AsReversed rs rs′
-      → AsReversed (missingLink same j c rs) (missingLink same j (reverseConnection mk c) rs′)
+  pub missingLink-both : (rs turned : List Road) (j : Span) (c : Connection) → AsReversed rs turned
+      → AsReversed (missingLink same j c rs) (missingLink same j (reverseConnection mk c) turned)
   unfolding missingLink
-  missingLink-both rs rs′ j c T = rw (missingEnd-both rs rs′ j c T) (go (missingEnd same rs j c))
+  missingLink-both rs turned j c T = rw (missingEnd-both rs turned j c T) (go (missingEnd same rs j c))
     where
       go : (o : Option Bool)
           → AsReversed (linkAtEnd same rs j c o)
-          (linkAtEnd same rs′ j (reverseConnection mk c) (mapO (λ e. mk (c .incoming) ⊕ e) o))
+          (linkAtEnd same turned j (reverseConnection mk c) (mapO (λ e. mk (c .incoming) ⊕ e) o))
       go none = T
       go (some e) = unfold reverseConnection in
-          (put-bare rs′ (c .incoming) j (mk (c .incoming) ⊕ e)
+          (put-bare turned (c .incoming) j (mk (c .incoming) ⊕ e)
           ∙ ap (amend (λ r. same (r .name) (c .incoming))
           (putTarget (mk (c .incoming) ⊕ e) (bareTarget (linked j (mk (c .incoming) ⊕ e))))) T
           ∙ sym (put-reversed (map bareRoad rs) (c .incoming) j e)
           ∙ ap (map (reverseRoad mk)) (sym (put-bare rs (c .incoming) j e)))
 
-  missingLinks-both : (cs : List Connection) (rs rs′ : List Road) (j : Span) → AsReversed rs rs′
-      → AsReversed (missingLinks same j cs rs) (missingLinks same j (map (reverseConnection mk) cs) rs′)
-  missingLinks-both [] rs rs′ j T = T
-  missingLinks-both (c ∷ cs) rs rs′ j T =
-      missingLinks-both cs (missingLink same j c rs) (missingLink same j (reverseConnection mk c) rs′) j
-      (missingLink-both rs rs′ j c T)
+  missingLinks-both : (cs : List Connection) (rs turned : List Road) (j : Span) → AsReversed rs turned
+      → AsReversed (missingLinks same j cs rs) (missingLinks same j (map (reverseConnection mk) cs) turned)
+  missingLinks-both [] rs turned j T = T
+  missingLinks-both (c ∷ cs) rs turned j T =
+      missingLinks-both cs (missingLink same j c rs) (missingLink same j (reverseConnection mk c) turned) j
+      (missingLink-both rs turned j c T)
 
-  pub repairRoads-both : (j : Junction) (rs rs′ : List Road) → AsReversed rs rs′
-      → AsReversed (repairRoads same j rs) (repairRoads same (reverseJunction mk j) rs′)
+  pub repairRoads-both : (j : Junction) (rs turned : List Road) → AsReversed rs turned
+      → AsReversed (repairRoads same j rs) (repairRoads same (reverseJunction mk j) turned)
   unfolding repairRoads reverseJunction
-  repairRoads-both j rs rs′ T = go (j .kind)
+  repairRoads-both j rs turned T = go (j .kind)
     where
       go : (k : JunctionKind)
           → AsReversed (roadsAfter same k (j .name) (j .connections) rs)
-          (roadsAfter same k (j .name) (map (reverseConnection mk) (j .connections)) rs′)
-      go common = missingLinks-both (j .connections) rs rs′ (j .name) T
+          (roadsAfter same k (j .name) (map (reverseConnection mk) (j .connections)) turned)
+      go common = missingLinks-both (j .connections) rs turned (j .name) T
       go direct = T
       go virtual = T
 
-  roadsOver-both : (js : List Junction) (rs rs′ : List Road) → AsReversed rs rs′
-      → AsReversed (roadsOver same js rs) (roadsOver same (map (reverseJunction mk) js) rs′)
-  roadsOver-both [] rs rs′ T = T
-  roadsOver-both (j ∷ js) rs rs′ T =
-      roadsOver-both js (repairRoads same j rs) (repairRoads same (reverseJunction mk j) rs′)
-      (repairRoads-both j rs rs′ T)
+  roadsOver-both : (js : List Junction) (rs turned : List Road) → AsReversed rs turned
+      → AsReversed (roadsOver same js rs) (roadsOver same (map (reverseJunction mk) js) turned)
+  roadsOver-both [] rs turned T = T
+  roadsOver-both (j ∷ js) rs turned T =
+      roadsOver-both js (repairRoads same j rs) (repairRoads same (reverseJunction mk j) turned)
+      (repairRoads-both j rs turned T)
 
   pub startRoads-both : (m : Map) → AsReversed (startRoads same m) (startRoads same (reverseMap same mk m))
   unfolding startRoads reverseMap

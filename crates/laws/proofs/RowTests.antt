@@ -30,7 +30,7 @@ module _ {A : Type 0} where
   rows-at w (suc n) ws (suc r) h =
       rows-at w n (drop w ws) r (le-of-suc-le-suc h)
       ∙ ap (take w) (drop-drop (r * w) w ws
-      ∙ (let e = suc-mul r w in let d : w + r * w ≡ suc r * w = omega arith in ap (λ (k : ℕ). drop k ws) d))
+      ∙ (let one-row-more = suc-mul r w in let words : w + r * w ≡ suc r * w = omega arith in ap (λ (k : ℕ). drop k ws) words))
 
   pub table-at : (w : ℕ) (ws : List A) (r : ℕ) → r < length ws / w → getD (table w ws) r [] ≡ take w (drop (r * w) ws)
   unfolding table
@@ -122,9 +122,7 @@ pub part-in : (kf kc i n : ℕ) (rs : List (List ℕ)) → partsFit kf kc i n rs
     → word (getD rs r []) kf + word (getD rs r []) kc ≤ n
 part-in kf kc i n [] h r l = absurd (not-suc-le-zero l)
 part-in kf kc i n (x ∷ rs) h zero l =
-    let a = fit-le kf kc (i + word x kc) n rs (fit-rest kf kc i n x rs h) in
-    let b = fit-first kf kc i n x rs h in
-    omega arith
+    omega (arith, fit-le kf kc (i + word x kc) n rs (fit-rest kf kc i n x rs h), fit-first kf kc i n x rs h)
 part-in kf kc i n (x ∷ rs) h (suc r) l =
     part-in kf kc (i + word x kc) n rs (fit-rest kf kc i n x rs h) r (le-of-suc-le-suc l)
 

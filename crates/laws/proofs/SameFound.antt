@@ -1,5 +1,5 @@
 -- Repair, succession and the gap check on a reversed map: the same answers, lists and gap rows as on the map.
-use mathlib.Core.Path.{_≡_, refl, sym, _∙_, ap, ap₂, subst}
+use mathlib.Core.Path.{_≡_, refl, sym, _∙_, ap, ap₂}
 use mathlib.Core.Bool.{Bool, true, _&&_}
 use mathlib.Core.Option.{Option, none, some}
 use mathlib.Core.List.{List, [], _∷_, _++_, map}
@@ -7,11 +7,11 @@ use Prim.Native.Nat.{ℕ, suc, _*_, _/_}
 use native.Mathlib.Omega.{arith}
 use lib.Dec.{eqb}
 use lib.ListN.{length, take, getD, length-map}
-use Rattle.model.specs.Calls.{Answer, ListOutputs, Outcome, RepairOutputs, gapCall, gapContent}
-use Rattle.model.specs.Calls.{gapRules, gapWords, laneRules, listContent, listLengths, putLists, putRepaired}
-use Rattle.model.specs.Calls.{refused, repairCall, repairContent, repairCounts, repairLengths, repairRefusal}
-use Rattle.model.specs.Calls.{repairRules, rowNamed, rulesTo5, settled, successionCall}
-use Rattle.model.specs.Calls.{successionRules, warningRow, wrote}
+use Rattle.model.specs.Calls.{Answer, ListOutputs, Outcome, RepairOutputs, called, gapCall, gapContent}
+use Rattle.model.specs.Calls.{gapRules, gapWidth, gapWords, laneRules, listContent, listWriting, longEnough}
+use Rattle.model.specs.Calls.{outcome, putRepaired, refused, repairCall, repairContent, repairCounts}
+use Rattle.model.specs.Calls.{repairLengths, repairRefusal, repairRules, repairWriting, rowNamed, rulesTo5}
+use Rattle.model.specs.Calls.{successionCall, successionRules, tableWriting, warningRow, wrote}
 use Rattle.model.specs.Claim.{repairedTables}
 use Rattle.model.specs.Gaps.{linkGaps}
 use Rattle.model.specs.Lists.{every, gather, some?}
@@ -19,11 +19,11 @@ use Rattle.model.specs.Lookup.{listsIn, offsetsFrom, packed}
 use Rattle.model.specs.Records.{Connection, EdgedLane, Junction, Lane, Map, Road, Span}
 use Rattle.model.specs.Repair.{Warning, repair, warnings}
 use Rattle.model.specs.Reversal.{reverseEdged, reverseLane, reverseMap}
-use Rattle.model.specs.Rows.{word, written}
-use Rattle.model.specs.Rules.{borne, climbs, firstBroken, fits, lanesWorded, listsFit, listsSized, mapWorded, rule}
+use Rattle.model.specs.Rows.{word}
+use Rattle.model.specs.Rules.{borne, climbs, firstBroken, lanesWorded, listsFit, listsSized, mapWorded, rule}
 use Rattle.model.specs.Sequence.{Buffers, Found, byLists, byRepair, found, fromRepaired, lists, withRepaired}
 use Rattle.model.specs.Succession.{predecessorLists, successorLists}
-use Rattle.model.specs.Tables.{Tables, allConnections, allPairs, bit, connectionWords, edgeWords, junctionWords}
+use Rattle.model.specs.Tables.{Tables, allConnections, bit, connectionWords, edgeWords, junctionWords}
 use Rattle.model.specs.Tables.{laneWords, lanesOf, pairWords, roadWords, sectionWords, tablesOf}
 use Rattle.model.specs.Text.{sameIn}
 use Rattle.laws.proofs.Basics.{gather-map, some?-ext, some?-map}
@@ -31,7 +31,7 @@ use Rattle.laws.proofs.ByBytes.{alike-in}
 use Rattle.laws.proofs.ForEach.{each}
 use Rattle.laws.proofs.Held.{Held, lanes-count, predecessors-held, repairSizes, repairSizes-reversed}
 use Rattle.laws.proofs.Held.{successors-held}
-use Rattle.laws.proofs.Lay.{length-even, take-written}
+use Rattle.laws.proofs.Lay.{length-even}
 use Rattle.laws.proofs.ListTests.{and-left, every-ext}
 use Rattle.laws.proofs.RepairKeeps.{came-whole}
 use Rattle.laws.proofs.SameGaps.{linkGaps-reversed}
@@ -39,7 +39,7 @@ use Rattle.laws.proofs.SoundMaps.{Passed, Sound, is-edged, is-lanes, is
 use Rattle.laws.proofs.StaySound.{sound-repair, sound-reversed}
 use Rattle.laws.proofs.WordsReversed.{Counted, Even, allPairs-nested, counted-reversed, edgesSized-even}
 use Rattle.laws.proofs.WordsReversed.{even-tables, lanesSized-even, length-connections, length-junctions}
-use Rattle.laws.proofs.WordsReversed.{length-pairs, length-roads, mapSized-even, whole-count}
+use Rattle.laws.proofs.WordsReversed.{length-pairs, length-roads, mapSized-even, outcomeBy, rows-taken}
 
 -- ---- what repair writes, over the map itself
 unfoldable pub warnRow : List ℕ → List Road → Warning → List ℕ
@@ -55,6 +55,9 @@ repairedOf text m = record {
 }
 
 module _ (text : List ℕ) (m : Map) (xs : List EdgedLane) (h : Sound text m xs) where
+  abbrev afterRepair : Map
+  afterRepair = repair (sameIn text) m
+
   pub repaired-is : repairContent (tablesOf text m xs) ≡ repairedOf text m
   unfolding repairContent repairedOf warningRow warnRow tablesOf
   repaired-is = λ i. from (is-map text m xs h i) (is-roads text m xs h i)
@@ -69,58 +72,45 @@ module _ (text : List ℕ) (m : Map) (xs : List EdgedLane) (h : Sound text m xs)
             (warnings (sameIn text) n);
       }
 
-  sections-kept : sectionWords (m .roads) ≡ sectionWords (repair (sameIn text) m .roads)
+  sections-kept : sectionWords (m .roads) ≡ sectionWords (afterRepair .roads)
   unfolding sectionWords
   sections-kept =
       sym (gather-map (λ (r : Road). r .sections) (λ l. l) (m .roads))
       ∙ ap (gather (λ (l : List ℕ). l)) (sym (came-whole (sameIn text) m .listed-kept))
-      ∙ gather-map (λ (r : Road). r .sections) (λ l. l) (repair (sameIn text) m .roads)
+      ∙ gather-map (λ (r : Road). r .sections) (λ l. l) (afterRepair .roads)
 
-  lanes-kept : m .lanes ≡ repair (sameIn text) m .lanes
+  lanes-kept : m .lanes ≡ afterRepair .lanes
   unfolding repair
   lanes-kept = refl
 
   -- the rows that repair wrote, in place of what it read, are the repaired map's words
   pub repaired-rows : (o : RepairOutputs)
       → withRepaired (tablesOf text m xs) (repairCounts (repairedOf text m)) (putRepaired (repairedOf text m) o)
-      ≡ tablesOf text (repair (sameIn text) m) xs
+      ≡ tablesOf text afterRepair xs
   unfolding withRepaired repairCounts putRepaired repairedOf tablesOf
-  repaired-rows o = λ i. record {
-    text = text;
-    roads = take-written (roadWords (repair (sameIn text) m .roads)) (o .roads)
-        (length (roadWords (repair (sameIn text) m .roads)) / 20 * 20)
-        (whole-count 20 (length (roadWords (repair (sameIn text) m .roads)))
-        (length (repair (sameIn text) m .roads)) (omega arith) (length-roads (repair (sameIn text) m .roads))) i;
-    sections = sections-kept i;
-    junctions = take-written (junctionWords (repair (sameIn text) m .junctions)) (o .junctions)
-        (length (junctionWords (repair (sameIn text) m .junctions)) / 5 * 5)
-        (whole-count 5 (length (junctionWords (repair (sameIn text) m .junctions)))
-        (length (repair (sameIn text) m .junctions)) (omega arith)
-        (length-junctions (repair (sameIn text) m .junctions))) i;
-    connections = take-written (connectionWords (repair (sameIn text) m .junctions)) (o .connections)
-        (length (connectionWords (repair (sameIn text) m .junctions)) / 7 * 7)
-        (whole-count 7 (length (connectionWords (repair (sameIn text) m .junctions)))
-        (length (allConnections (repair (sameIn text) m .junctions))) (omega arith)
-        (length-connections (repair (sameIn text) m .junctions))) i;
-    pairs = take-written (pairWords (repair (sameIn text) m .junctions)) (o .pairs)
-        (length (pairWords (repair (sameIn text) m .junctions)) / 2 * 2)
-        (whole-count 2 (length (pairWords (repair (sameIn text) m .junctions)))
-        (length (allPairs (repair (sameIn text) m .junctions))) (omega arith)
-        (length-pairs (repair (sameIn text) m .junctions))) i;
-    lanes = laneWords (lanes-kept i);
-    edges = edgeWords xs;
-  }
+  repaired-rows o =
+      let js = afterRepair .junctions in
+      λ i. record {
+        text = text;
+        roads = rows-taken 20 (roadWords (afterRepair .roads)) (o .roads) _ (omega arith) (length-roads (afterRepair .roads)) i;
+        sections = sections-kept i;
+        junctions = rows-taken 5 (junctionWords js) (o .junctions) _ (omega arith) (length-junctions js) i;
+        connections = rows-taken 7 (connectionWords js) (o .connections) _ (omega arith) (length-connections js) i;
+        pairs = rows-taken 2 (pairWords js) (o .pairs) _ (omega arith) (length-pairs js) i;
+        lanes = laneWords (lanes-kept i);
+        edges = edgeWords xs;
+      }
 
   -- the tables with what repair writes
-  pub repaired-tables : repairedTables (tablesOf text m xs) ≡ tablesOf text (repair (sameIn text) m) xs
+  pub repaired-tables : repairedTables (tablesOf text m xs) ≡ tablesOf text afterRepair xs
   unfolding repairedTables tablesOf
   repaired-tables = ap from (repaired-is) ∙ (unfold repairedOf in λ i. record {
     text = text;
-    roads = roadWords (repair (sameIn text) m .roads);
+    roads = roadWords (afterRepair .roads);
     sections = sections-kept i;
-    junctions = junctionWords (repair (sameIn text) m .junctions);
-    connections = connectionWords (repair (sameIn text) m .junctions);
-    pairs = pairWords (repair (sameIn text) m .junctions);
+    junctions = junctionWords (afterRepair .junctions);
+    connections = connectionWords (afterRepair .junctions);
+    pairs = pairWords (afterRepair .junctions);
     lanes = laneWords (lanes-kept i);
     edges = edgeWords xs;
   })
@@ -201,63 +191,85 @@ module _ (text : List ℕ) (m : Map) (xs : List EdgedLane) (h : Sound text m xs)
   abbrev alike : Span → Span → Bool
   alike = sameIn text
 
-  abbrev m′ : Map
-  m′ = reverseMap (sameIn text) s m
+  -- the map reversed, and its lanes
+  abbrev turnedMap : Map
+  turnedMap = reverseMap alike s m
 
-  abbrev xs′ : List EdgedLane
-  xs′ = map (reverseEdged (sameIn text) s (m .roads)) xs
+  abbrev turnedLanes : List EdgedLane
+  turnedLanes = map (reverseEdged alike s (m .roads)) xs
 
-  h′ : Sound text (reverseMap (sameIn text) s m) (map (reverseEdged (sameIn text) s (m .roads)) xs)
-  h′ = sound-reversed text s (H .is-steady) m xs h
+  turned-sound : Sound text turnedMap turnedLanes
+  turned-sound = sound-reversed text s (H .is-steady) m xs h
 
-  size-at : (k : ℕ)
-      → getD (repairSizes (sameIn text) (reverseMap (sameIn text) s m)) k 0
-      ≡ getD (repairSizes (sameIn text) m) k 0
-  size-at k = ap (λ (l : List ℕ). getD l k 0) (repairSizes-reversed (sameIn text) (alike-in text) m s H)
+  -- both maps repaired
+  abbrev mendedMap : Map
+  mendedMap = repair alike m
 
-  -- repair's counts
-  counted-repair : Counted (repair (sameIn text) (reverseMap (sameIn text) s m)) (repair (sameIn text) m)
-      (map (reverseEdged (sameIn text) s (m .roads)) xs) xs
+  abbrev turnedMended : Map
+  turnedMended = repair alike turnedMap
+
+  mended-sound : Sound text mendedMap xs
+  mended-sound = sound-repair text m xs h
+
+  turned-mended-sound : Sound text turnedMended turnedLanes
+  turned-mended-sound = sound-repair text turnedMap turnedLanes turned-sound
+
+  -- the words of each
+  abbrev plain : Tables
+  plain = tablesOf text m xs
+
+  abbrev turned : Tables
+  turned = tablesOf text turnedMap turnedLanes
+
+  abbrev mended : Tables
+  mended = tablesOf text mendedMap xs
+
+  abbrev turnedThenMended : Tables
+  turnedThenMended = tablesOf text turnedMended turnedLanes
+
+  -- ---- repair's counts
+  size-at : (k : ℕ) → getD (repairSizes alike turnedMap) k 0 ≡ getD (repairSizes alike m) k 0
+  size-at k = ap (λ (l : List ℕ). getD l k 0) (repairSizes-reversed alike (alike-in text) m s H)
+
+  counted-repair : Counted turnedMended mendedMap turnedLanes xs
   counted-repair = record {
     roads = (unfold repairSizes in size-at 0);
-    sections = ap length (sym
-        (sections-kept text (reverseMap (sameIn text) s m) (map (reverseEdged (sameIn text) s (m .roads)) xs) h′))
-        ∙ counted-reversed (sameIn text) s m xs .sections
+    sections = ap length (sym (sections-kept text turnedMap turnedLanes turned-sound))
+        ∙ counted-reversed alike s m xs .sections
         ∙ ap length (sections-kept text m xs h);
     junctions = (unfold repairSizes in size-at 1);
     connections = (unfold repairSizes allConnections in size-at 2);
-    pairs = ap length (allPairs-nested (repair (sameIn text) (reverseMap (sameIn text) s m) .junctions))
+    pairs = ap length (allPairs-nested (turnedMended .junctions))
         ∙ nested
-        ∙ sym (ap length (allPairs-nested (repair (sameIn text) m .junctions)));
-    lanes = lanes-count (sameIn text) (alike-in text) m s H;
-    ends = length-map xs (reverseEdged (sameIn text) s (m .roads));
+        ∙ sym (ap length (allPairs-nested (mendedMap .junctions)));
+    lanes = lanes-count alike (alike-in text) m s H;
+    ends = length-map xs (reverseEdged alike s (m .roads));
   }
     where
       nested : length (gather (λ (j : Junction). gather (λ (c : Connection). c .pairs) (j .connections))
-          (repair (sameIn text) (reverseMap (sameIn text) s m) .junctions))
+          (turnedMended .junctions))
           ≡ length (gather (λ (j : Junction). gather (λ (c : Connection). c .pairs) (j .connections))
-          (repair (sameIn text) m .junctions))
+          (mendedMap .junctions))
       nested = unfold repairSizes in size-at 3
 
-  even-repaired : EvenRepaired (repairedOf text (reverseMap (sameIn text) s m)) (repairedOf text m)
+  even-repaired : EvenRepaired (repairedOf text turnedMap) (repairedOf text m)
   unfolding repairedOf
   even-repaired = record {
-    roads = length-roads (repair (sameIn text) (reverseMap (sameIn text) s m) .roads)
+    roads = length-roads (turnedMended .roads)
         ∙ ap (λ (k : ℕ). k * 20) (counted-repair .roads)
-        ∙ sym (length-roads (repair (sameIn text) m .roads));
-    junctions = length-junctions (repair (sameIn text) (reverseMap (sameIn text) s m) .junctions)
+        ∙ sym (length-roads (mendedMap .roads));
+    junctions = length-junctions (turnedMended .junctions)
         ∙ ap (λ (k : ℕ). k * 5) (counted-repair .junctions)
-        ∙ sym (length-junctions (repair (sameIn text) m .junctions));
-    connections = length-connections (repair (sameIn text) (reverseMap (sameIn text) s m) .junctions)
+        ∙ sym (length-junctions (mendedMap .junctions));
+    connections = length-connections (turnedMended .junctions)
         ∙ ap (λ (k : ℕ). k * 7) (counted-repair .connections)
-        ∙ sym (length-connections (repair (sameIn text) m .junctions));
-    pairs = length-pairs (repair (sameIn text) (reverseMap (sameIn text) s m) .junctions)
+        ∙ sym (length-connections (mendedMap .junctions));
+    pairs = length-pairs (turnedMended .junctions)
         ∙ ap (λ (k : ℕ). k * 2) (counted-repair .pairs)
-        ∙ sym (length-pairs (repair (sameIn text) m .junctions));
-    warnings = rows (reverseMap (sameIn text) s m .roads)
-        (warnings (sameIn text) (reverseMap (sameIn text) s m))
+        ∙ sym (length-pairs (mendedMap .junctions));
+    warnings = rows (turnedMap .roads) (warnings alike turnedMap)
         ∙ ap (λ (k : ℕ). k * 4) warned
-        ∙ sym (rows (m .roads) (warnings (sameIn text) m));
+        ∙ sym (rows (m .roads) (warnings alike m));
   }
     where
       width : (rs : List Road) (w : Warning) → length (warnRow text rs w) ≡ 4
@@ -266,185 +278,167 @@ module _ (text : List ℕ) (m : Map) (xs : List EdgedLane) (h : Sound text m xs)
       rows : (rs : List Road) (ws : List Warning) → length (gather (warnRow text rs) ws) ≡ length ws * 4
       rows rs ws = length-even 4 (warnRow text rs) ws (each (width rs) ws)
 
-      warned : length (warnings (sameIn text) (reverseMap (sameIn text) s m)) ≡ length (warnings (sameIn text) m)
+      warned : length (warnings alike turnedMap) ≡ length (warnings alike m)
       warned = unfold repairSizes in size-at 4
 
-  pub even-content : EvenRepaired (repairContent
-      (tablesOf text (reverseMap (sameIn text) s m) (map (reverseEdged (sameIn text) s (m .roads)) xs)))
-      (repairContent (tablesOf text m xs))
+  pub even-content : EvenRepaired (repairContent turned) (repairContent plain)
   even-content =
-      subst (λ c. EvenRepaired c (repairContent (tablesOf text m xs)))
-      (sym
-      (repaired-is text (reverseMap (sameIn text) s m) (map (reverseEdged (sameIn text) s (m .roads)) xs) h′))
-      (subst (EvenRepaired (repairedOf text (reverseMap (sameIn text) s m))) (sym (repaired-is text m xs h))
-      even-repaired)
+      let turned-is = repaired-is text turnedMap turnedLanes turned-sound in
+      let plain-is = repaired-is text m xs h in
+      rw (turned-is, plain-is) even-repaired
 
-  abbrev T : Tables
-  T = tablesOf text m xs
+  -- ---- repair's refusal
+  even-before : Even turned plain
+  even-before =
+      even-tables text turnedMap m turnedLanes xs (turned-sound .six) (h .six) (counted-reversed alike s m xs)
 
-  abbrev T′ : Tables
-  T′ = tablesOf text (reverseMap (sameIn text) s m) (map (reverseEdged (sameIn text) s (m .roads)) xs)
+  repairRules-reversed : repairRules turned ≡ repairRules plain
+  repairRules-reversed =
+      repairRules-even turned plain even-before (passed text turnedMap turnedLanes turned-sound) (passed text m xs h)
 
-  even-T : Even T′ T
-  even-T = even-tables text m′ m xs′ xs (h′ .six) (h .six) (counted-reversed (sameIn text) s m xs)
-
-  pub repairRefusal-reversed : (lengths : List ℕ) → repairRefusal T′ lengths ≡ repairRefusal T lengths
+  pub repairRefusal-reversed : (lengths : List ℕ) → repairRefusal turned lengths ≡ repairRefusal plain lengths
   unfolding repairRefusal
   repairRefusal-reversed lengths =
-      λ i.
-      firstBroken (repairRules-even T′ T even-T (passed text m′ xs′ h′) (passed text m xs h) i
-      ++ (rule 9 (fits (lengths-even (repairContent T′) (repairContent T) even-content i) lengths) ∷ []))
+      let lengths-same = lengths-even (repairContent turned) (repairContent plain) even-content in
+      λ i. firstBroken (repairRules-reversed i ++ longEnough (lengths-same i) lengths)
 
-  -- the repaired tables
-  abbrev W : Tables
-  W = tablesOf text (repair (sameIn text) m) xs
+  -- ---- succession, on the tables repaired
+  even-after : Even turnedThenMended mended
+  even-after =
+      even-tables text turnedMended mendedMap turnedLanes xs (turned-sound .six) (h .six) counted-repair
 
-  abbrev W′ : Tables
-  W′ =
-      tablesOf text (repair (sameIn text) (reverseMap (sameIn text) s m))
-      (map (reverseEdged (sameIn text) s (m .roads)) xs)
+  turned-passed : Passed turnedThenMended
+  turned-passed = passed text turnedMended turnedLanes turned-mended-sound
 
-  k : Sound text (repair (sameIn text) m) xs
-  k = sound-repair text m xs h
+  mended-passed : Passed mended
+  mended-passed = passed text mendedMap xs mended-sound
 
-  k′ : Sound text (repair (sameIn text) (reverseMap (sameIn text) s m))
-      (map (reverseEdged (sameIn text) s (m .roads)) xs)
-  k′ = sound-repair text m′ xs′ h′
-
-  even-W : Even W′ W
-  even-W =
-      even-tables text (repair (sameIn text) m′) (repair (sameIn text) m) xs′ xs (h′ .six) (h .six)
-      counted-repair
-
-  pub lists-reversed : listContent W′ ≡ listContent W
+  pub lists-reversed : listContent turnedThenMended ≡ listContent mended
   unfolding listContent tablesOf
   lists-reversed =
       ap (λ n. from (successorLists alike n) (predecessorLists alike n))
-      (is-map text (repair (sameIn text) m′) xs′ k′)
+      (is-map text turnedMended turnedLanes turned-mended-sound)
       ∙ ap₂ from (successors-held alike (alike-in text) m s H) (predecessors-held alike (alike-in text) m s H)
       ∙ ap (λ n. from (successorLists alike n) (predecessorLists alike n))
-      (sym (is-map text (repair (sameIn text) m) xs k))
+      (sym (is-map text mendedMap xs mended-sound))
     where
       from : List (List ℕ) → List (List ℕ) → ListOutputs
-      from o b =
+      from onward before =
           record {
-            successorOffsets = offsetsFrom 0 o;
-            successorIds = packed o;
-            predecessorOffsets = offsetsFrom 0 b;
-            predecessorIds = packed b;
+            successorOffsets = offsetsFrom 0 onward;
+            successorIds = packed onward;
+            predecessorOffsets = offsetsFrom 0 before;
+            predecessorIds = packed before;
           }
 
-  pub successionCall-reversed : (o : ListOutputs) → successionCall W′ o ≡ successionCall W o
+  pub successionCall-reversed : (o : ListOutputs) → successionCall turnedThenMended o ≡ successionCall mended o
   unfolding successionCall
   successionCall-reversed o =
-      λ i.
-      settled (firstBroken (successionRules-even W′ W even-W (passed text (repair (sameIn text) m′) xs′ k′)
-      (passed text (repair (sameIn text) m) xs k) i
-      ++ (rule 9 (fits (listLengths (lists-reversed i)) (listLengths o)) ∷ [])))
-      (listLengths (lists-reversed i)) (putLists (lists-reversed i) o) o
+      let rules = successionRules-even turnedThenMended mended even-after turned-passed mended-passed in
+      λ i. called listWriting (rules i) (lists-reversed i) o
 
-  lanes-W′ : lanesOf W′ ≡ map (reverseLane (sameIn text) s (m .roads)) (m .lanes)
-  lanes-W′ = is-lanes text (repair (sameIn text) m′) xs′ k′ ∙ (unfold repair reverseMap in refl)
+  -- ---- the gap check
+  turned-lanes : lanesOf turnedThenMended ≡ map (reverseLane alike s (m .roads)) (m .lanes)
+  turned-lanes = is-lanes text turnedMended turnedLanes turned-mended-sound ∙ (unfold repair reverseMap in refl)
 
-  lanes-W : lanesOf W ≡ m .lanes
-  lanes-W = is-lanes text (repair (sameIn text) m) xs k ∙ (unfold repair in refl)
+  mended-lanes : lanesOf mended ≡ m .lanes
+  mended-lanes = is-lanes text mendedMap xs mended-sound ∙ (unfold repair in refl)
 
-  pub listsFit-reversed : (offsets ids : List ℕ) → listsFit W′ offsets ids ≡ listsFit W offsets ids
+  pub listsFit-reversed : (offsets ids : List ℕ) → listsFit turnedThenMended offsets ids ≡ listsFit mended offsets ids
   unfolding listsFit borne
   listsFit-reversed offsets ids =
-      λ i. eqb (length offsets) (suc (even-W .lanes i / 10)) && climbs (length ids) offsets && all-borne i
+      λ i. eqb (length offsets) (suc (even-after .lanes i / 10)) && climbs (length ids) offsets && all-borne i
     where
       one : (n : ℕ)
-          → some? (λ l. eqb (l .identity) n) (map (reverseLane (sameIn text) s (m .roads)) (m .lanes))
+          → some? (λ l. eqb (l .identity) n) (map (reverseLane alike s (m .roads)) (m .lanes))
           ≡ some? (λ l. eqb (l .identity) n) (m .lanes)
-      one n = some?-map (reverseLane (sameIn text) s (m .roads)) (λ l. eqb (l .identity) n) (m .lanes)
-          ∙ some?-ext (λ l. eqb (reverseLane (sameIn text) s (m .roads) l .identity) n)
+      one n = some?-map (reverseLane alike s (m .roads)) (λ l. eqb (l .identity) n) (m .lanes)
+          ∙ some?-ext (λ l. eqb (reverseLane alike s (m .roads) l .identity) n)
           (λ l. eqb (l .identity) n) (m .lanes) (each (reversed-id n) (m .lanes))
         where
           reversed-id : (n : ℕ) (l : Lane)
-              → eqb (reverseLane (sameIn text) s (m .roads) l .identity) n ≡ eqb (l .identity) n
+              → eqb (reverseLane alike s (m .roads) l .identity) n ≡ eqb (l .identity) n
           reversed-id n l = unfold reverseLane in refl
 
-      all-borne : every (λ n. some? (λ l. eqb (l .identity) n) (lanesOf W′)) ids
-          ≡ every (λ n. some? (λ l. eqb (l .identity) n) (lanesOf W)) ids
-      all-borne = ap (λ (ls : List Lane). every (λ n. some? (λ l. eqb (l .identity) n) ls) ids) lanes-W′
+      all-borne : every (λ n. some? (λ l. eqb (l .identity) n) (lanesOf turnedThenMended)) ids
+          ≡ every (λ n. some? (λ l. eqb (l .identity) n) (lanesOf mended)) ids
+      all-borne = ap (λ (ls : List Lane). every (λ n. some? (λ l. eqb (l .identity) n) ls) ids) turned-lanes
           ∙ every-ext
-          (λ n. some? (λ l. eqb (l .identity) n) (map (reverseLane (sameIn text) s (m .roads)) (m .lanes)))
+          (λ n. some? (λ l. eqb (l .identity) n) (map (reverseLane alike s (m .roads)) (m .lanes)))
           (λ n. some? (λ l. eqb (l .identity) n) (m .lanes)) ids (each one ids)
-          ∙ ap (λ (ls : List Lane). every (λ n. some? (λ l. eqb (l .identity) n) ls) ids) (sym lanes-W)
+          ∙ ap (λ (ls : List Lane). every (λ n. some? (λ l. eqb (l .identity) n) ls) ids) (sym mended-lanes)
 
-  pub gapContent-reversed : (offsets ids : List ℕ) → gapContent W′ offsets ids ≡ gapContent W offsets ids
+  pub gapContent-reversed : (offsets ids : List ℕ)
+      → gapContent turnedThenMended offsets ids ≡ gapContent mended offsets ids
   unfolding gapContent
   gapContent-reversed offsets ids =
       ap (λ ls. gather gapWords (linkGaps ls (listsIn offsets ids)))
-      (is-edged text (repair (sameIn text) m′) xs′ k′)
+      (is-edged text turnedMended turnedLanes turned-mended-sound)
       ∙ ap (gather gapWords) (linkGaps-reversed alike s (m .roads) xs (listsIn offsets ids))
       ∙ ap (λ ls. gather gapWords (linkGaps ls (listsIn offsets ids)))
-      (sym (is-edged text (repair (sameIn text) m) xs k))
+      (sym (is-edged text mendedMap xs mended-sound))
 
-  pub gapCall-reversed : (offsets ids o : List ℕ) → gapCall W′ offsets ids o ≡ gapCall W offsets ids o
+  pub gapCall-reversed : (offsets ids o : List ℕ) → gapCall turnedThenMended offsets ids o ≡ gapCall mended offsets ids o
   unfolding gapCall
   gapCall-reversed offsets ids o =
-      λ i.
-      settled (firstBroken (gapRules-even W′ W even-W (passed text (repair (sameIn text) m′) xs′ k′)
-      (passed text (repair (sameIn text) m) xs k) offsets ids (listsFit-reversed offsets ids) i
-      ++ (rule 9 (fits (length (gapContent-reversed offsets ids i) ∷ []) (length o ∷ [])) ∷ [])))
-      (length (gapContent-reversed offsets ids i) / 3 ∷ []) (written (gapContent-reversed offsets ids i) o) o
+      let fit = listsFit-reversed offsets ids in
+      let rules = gapRules-even turnedThenMended mended even-after turned-passed mended-passed offsets ids fit in
+      λ i. called (tableWriting gapWidth) (rules i) (gapContent-reversed offsets ids i) o
 
+  -- ---- all three calls
   module _ (q : Buffers) where
-    from-reversed : (cs : List ℕ) → fromRepaired q cs W′ ≡ fromRepaired q cs W
+    from-reversed : (counts : List ℕ) → fromRepaired q counts turnedThenMended ≡ fromRepaired q counts mended
     unfolding fromRepaired
-    from-reversed cs =
-        ap (λ (r : Outcome ListOutputs). byLists q cs W′ (r .answer) (r .outs))
+    from-reversed counts =
+        ap (λ (r : Outcome ListOutputs). byLists q counts turnedThenMended (r .answer) (r .outs))
         (successionCall-reversed (q .forLists))
-        ∙ go (successionCall W (q .forLists) .answer) (successionCall W (q .forLists) .outs)
+        ∙ go (successionCall mended (q .forLists) .answer) (successionCall mended (q .forLists) .outs)
       where
-        go : (a : Answer) (o : ListOutputs) → byLists q cs W′ a o ≡ byLists q cs W a o
+        go : (a : Answer) (o : ListOutputs) → byLists q counts turnedThenMended a o ≡ byLists q counts mended a o
         go (refused n) o = refl
-        go (wrote counts) o =
-            ap (λ g. lists cs (record { answer = wrote counts; outs = o }) g)
-            (gapCall-reversed (take (word counts 0) (o .successorOffsets))
-            (take (word counts 1) (o .successorIds)) (q .forGaps))
+        go (wrote ns) o =
+            ap (lists counts (outcome (wrote ns) o))
+            (gapCall-reversed (take (word ns 0) (o .successorOffsets)) (take (word ns 1) (o .successorIds))
+            (q .forGaps))
 
+    -- what is found where repair's refusal is r
     foundBy : Tables → Option ℕ → Found
     foundBy t r =
-        byRepair q t (settled r (repairCounts (repairContent t)) (putRepaired (repairContent t) (q .forRepair))
-        (q .forRepair) .answer) (settled r (repairCounts (repairContent t))
-        (putRepaired (repairContent t) (q .forRepair)) (q .forRepair) .outs)
+        let done = outcomeBy repairWriting (repairContent t) (q .forRepair) r in
+        byRepair q t (done .answer) (done .outs)
 
-    rows-T : (n : Map) (ys : List EdgedLane) → Sound text n ys
+    rows-written : (n : Map) (ys : List EdgedLane) → Sound text n ys
         → withRepaired (tablesOf text n ys) (repairCounts (repairContent (tablesOf text n ys)))
         (putRepaired (repairContent (tablesOf text n ys)) (q .forRepair))
-        ≡ tablesOf text (repair (sameIn text) n) ys
-    rows-T n ys w =
+        ≡ tablesOf text (repair alike n) ys
+    rows-written n ys sound =
         ap (λ c. withRepaired (tablesOf text n ys) (repairCounts c) (putRepaired c (q .forRepair)))
-        (repaired-is text n ys w)
-        ∙ repaired-rows text n ys w (q .forRepair)
+        (repaired-is text n ys sound)
+        ∙ repaired-rows text n ys sound (q .forRepair)
 
-    -- all three calls
-    pub found-reversed : found q T′ ≡ found q T
+    pub found-reversed : found q turned ≡ found q plain
     unfolding found foundBy repairCall repairRefusal
     found-reversed =
-        ap (foundBy T′) (repairRefusal-reversed (repairLengths (q .forRepair)))
-        ∙ go (repairRefusal T (repairLengths (q .forRepair)))
+        ap (foundBy turned) (repairRefusal-reversed (repairLengths (q .forRepair)))
+        ∙ go (repairRefusal plain (repairLengths (q .forRepair)))
       where
-        go : (r : Option ℕ) → foundBy T′ r ≡ foundBy T r
+        go : (r : Option ℕ) → foundBy turned r ≡ foundBy plain r
         go (some n) = refl
         go none =
-            ap₂ (fromRepaired q) (counts-even (repairContent T′) (repairContent T) even-content)
-            (rows-T m′ xs′ h′)
-            ∙ from-reversed (repairCounts (repairContent T))
-            ∙ ap (fromRepaired q (repairCounts (repairContent T))) (sym (rows-T m xs h))
+            ap₂ (fromRepaired q) (counts-even (repairContent turned) (repairContent plain) even-content)
+            (rows-written turnedMap turnedLanes turned-sound)
+            ∙ from-reversed (repairCounts (repairContent plain))
+            ∙ ap (fromRepaired q (repairCounts (repairContent plain))) (sym (rows-written m xs h))
 
-  pub same-lists : listContent (repairedTables T′) ≡ listContent (repairedTables T)
+  pub same-lists : listContent (repairedTables turned) ≡ listContent (repairedTables plain)
   same-lists =
-      ap listContent (repaired-tables text m′ xs′ h′)
+      ap listContent (repaired-tables text turnedMap turnedLanes turned-sound)
       ∙ lists-reversed
       ∙ ap listContent (sym (repaired-tables text m xs h))
 
   pub same-gaps : (offsets ids : List ℕ)
-      → gapContent (repairedTables T′) offsets ids ≡ gapContent (repairedTables T) offsets ids
+      → gapContent (repairedTables turned) offsets ids ≡ gapContent (repairedTables plain) offsets ids
   same-gaps offsets ids =
-      ap (λ t. gapContent t offsets ids) (repaired-tables text m′ xs′ h′)
+      ap (λ t. gapContent t offsets ids) (repaired-tables text turnedMap turnedLanes turned-sound)
       ∙ gapContent-reversed offsets ids
       ∙ ap (λ t. gapContent t offsets ids) (sym (repaired-tables text m xs h))

@@ -72,8 +72,8 @@ placed-there : (text : List ℕ) (s : Span) → leb (length text) 1048576 ≡ tr
     → isAbsent (s .start) (s .size) ≡ false
 unfolding placed
 placed-there text s h p =
-    let a = leb-true (length text) 1048576 h in
-    let b = leb-true (s .start + s .size) (length text) p in
+    let text-few = leb-true (length text) 1048576 h in
+    let inside = leb-true (s .start + s .size) (length text) p in
     ap (λ x. x && eqb (s .size) 0) (ne-eqb (s .start) 4294967295 (λ e. omega arith))
 
 pub plain-roads : (text : List ℕ) (m : Map) → Spelt text m → Each Plain (m .roads)
@@ -314,8 +314,8 @@ module _ (text : List ℕ) (m : Map) (xs : List EdgedLane) (h : Sound text m xs)
   edges-placed : eqb (length (edgeWords xs)) (12 * (length (laneWords (m .lanes)) / 10)) ≡ true
   unfolding edgeWords laneWords
   edges-placed = eq-eqb (length (gather edgeRow xs)) (12 * (length (gather laneRow (m .lanes)) / 10)) (
-      let a = length-even 12 edgeRow xs (each-map edge-width xs (h .six)) in
-      let b =
+      let edge-words = length-even 12 edgeRow xs (each-map edge-width xs (h .six)) in
+      let lane-rows =
       ap (λ (k : ℕ). k / 10) (length-even 10 laneRow (m .lanes) (each lane-width (m .lanes)))
       ∙ mul-div-cancel (length (m .lanes)) (omega arith) in
       let c : length xs ≡ length (m .lanes) = sym (length-map xs (λ x. x .lane)) ∙ ap length (h .match) in

@@ -55,14 +55,14 @@ module _ (same : Span → Span → Bool) (A : Alike same) (mk : Span → Bool) (
   unfoldable pub reverseEntry : Entry → Entry
   reverseEntry x = record { lane = reverseLane same mk R (x .lane); contact = mk (x .lane .road) ⊕ x .contact }
 
-  standsAt-reversed : (n : Span) (s s′ k : ℕ) (l : Lane)
-      → (same (l .road) n ≡ true → eqb (reverseLane same mk R l .section) s′ ≡ eqb (l .section) s) →
-      standsAt same n s′ (signed (mk n) k) (reverseLane same mk R l) ≡ standsAt same n s k l
+  standsAt-reversed : (n : Span) (s there k : ℕ) (l : Lane)
+      → (same (l .road) n ≡ true → eqb (reverseLane same mk R l .section) there ≡ eqb (l .section) s) →
+      standsAt same n there (signed (mk n) k) (reverseLane same mk R l) ≡ standsAt same n s k l
   unfolding standsAt reverseLane
-  standsAt-reversed n s s′ k l h = go (same (l .road) n) refl
+  standsAt-reversed n s there k l h = go (same (l .road) n) refl
     where
       go : (b : Bool) → same (l .road) n ≡ b
-          → b && eqb (reverseLane same mk R l .section) s′ && eqb (signed (mk (l .road)) (l .number))
+          → b && eqb (reverseLane same mk R l .section) there && eqb (signed (mk (l .road)) (l .number))
           (signed (mk n) k) ≡ b && eqb (l .section) s && eqb (l .number) k
       go false q = refl
       go true q =
@@ -70,17 +70,17 @@ module _ (same : Span → Span → Bool) (A : Alike same) (mk : Span → Bool) (
           (ap (λ b. eqb (signed b (l .number)) (signed (mk n) k)) (S (l .road) n q)
           ∙ signed-eqb (mk n) (l .number) k)
 
-  lookup-reversed : (L : List Lane) (n : Span) (s s′ : ℕ) (e : Bool) (k : ℕ)
-      → Each (λ l. same (l .road) n ≡ true → eqb (reverseLane same mk R l .section) s′ ≡ eqb (l .section) s) L →
-      lookup same (map (reverseLane same mk R) L) n s′ (mk n ⊕ e) (signed (mk n) k)
+  lookup-reversed : (L : List Lane) (n : Span) (s there : ℕ) (e : Bool) (k : ℕ)
+      → Each (λ l. same (l .road) n ≡ true → eqb (reverseLane same mk R l .section) there ≡ eqb (l .section) s) L →
+      lookup same (map (reverseLane same mk R) L) n there (mk n ⊕ e) (signed (mk n) k)
       ≡ map reverseEntry (lookup same L n s e k)
   unfolding lookup reverseEntry
-  lookup-reversed L n s s′ e k h =
+  lookup-reversed L n s there e k h =
       ap (map (λ l. record { lane = l; contact = mk n ⊕ e }))
-      (keep-map (reverseLane same mk R) (standsAt same n s′ (signed (mk n) k)) L
+      (keep-map (reverseLane same mk R) (standsAt same n there (signed (mk n) k)) L
       ∙ ap (map (reverseLane same mk R))
-      (keep-ext (λ l. standsAt same n s′ (signed (mk n) k) (reverseLane same mk R l)) (standsAt same n s k) L
-      (each-map (standsAt-reversed n s s′ k) L h)))
+      (keep-ext (λ l. standsAt same n there (signed (mk n) k) (reverseLane same mk R l)) (standsAt same n s k) L
+      (each-map (standsAt-reversed n s there k) L h)))
       ∙ map-map (λ l. record { lane = l; contact = mk n ⊕ e }) (reverseLane same mk R) (keep (standsAt same n s k) L)
       ∙ map-ext _ _ (keep (standsAt same n s k) L)
       (each-map
@@ -186,11 +186,11 @@ module _ (same : Span → Span → Bool) (A : Alike same) (mk : Span → Bool) (
     unfolding junctionOf reverseJunction
     junctionOf-reversed n = final-map (reverseJunction mk) (λ j. same (j .name) n) J
 
-    cross-reversed : (l : Lane) (o o′ : Option ℕ) (t : Target)
-        → (t .isJunction ≡ false → o′ ≡ mapO (signed (mk (t .name))) o) →
-        cross same over (reverseLane same mk R l) o′ (reverseTarget mk t) ≡ map reverseEntry (cross same plain l o t)
+    cross-reversed : (l : Lane) (o turned-link : Option ℕ) (t : Target)
+        → (t .isJunction ≡ false → turned-link ≡ mapO (signed (mk (t .name))) o) →
+        cross same over (reverseLane same mk R l) turned-link (reverseTarget mk t) ≡ map reverseEntry (cross same plain l o t)
     unfolding reverseTarget reverseLane over plain
-    cross-reversed l o o′ t h = go (t .isJunction) refl
+    cross-reversed l o turned-link t h = go (t .isJunction) refl
       where
         through : (x : Option Junction)
             → listO (mapO (reverseJunction mk) x)
@@ -209,7 +209,7 @@ module _ (same : Span → Span → Bool) (A : Alike same) (mk : Span → Bool) (
         go : (b : Bool) → t .isJunction ≡ b →
             cond b (listO (junctionOf same (map (reverseJunction mk) J) (t .name))
             (throughJunction same over (l .road) (signed (mk (l .road)) (l .number))))
-            (listO o′ (lookupAtEnd same over (t .name) (cond b (t .contact) (mk (t .name) ⊕ t .contact))))
+            (listO turned-link (lookupAtEnd same over (t .name) (cond b (t .contact) (mk (t .name) ⊕ t .contact))))
             ≡ map reverseEntry (cond b
             (listO (junctionOf same J (t .name)) (throughJunction same plain (l .road) (l .number)))
             (listO o (lookupAtEnd same plain (t .name) (t .contact))))
@@ -385,40 +385,40 @@ module _ (same : Span → Span → Bool) (A : Alike same) (mk : Span → Bool) (
             ∙ ap sort (sym (split (X true) (X false))))
 
 -- the finished lists follow from the successors that each lane finds
-module _ (same : Span → Span → Bool) (m m′ : Map) (f : Lane → Lane)
+module _ (same : Span → Span → Bool) (m other : Map) (f : Lane → Lane)
     (ids : (l : Lane) → f l .identity ≡ l .identity)
     (ways : (l : Lane) → isBoth (f l .direction) ≡ isBoth (l .direction))
-    (lanes : m′ .lanes ≡ map f (m .lanes))
-    (all-alike : Each (λ l. successorsOf same m′ (f l) ≡ successorsOf same m l) (m .lanes)) where
-  findsBack-same : (l b : Lane) → successorsOf same m′ (f l) ≡ successorsOf same m l
-      → successorsOf same m′ (f b) ≡ successorsOf same m b
-      → findsBack same m′ (f l) (f b) ≡ findsBack same m l b
+    (lanes : other .lanes ≡ map f (m .lanes))
+    (all-alike : Each (λ l. successorsOf same other (f l) ≡ successorsOf same m l) (m .lanes)) where
+  findsBack-same : (l b : Lane) → successorsOf same other (f l) ≡ successorsOf same m l
+      → successorsOf same other (f b) ≡ successorsOf same m b
+      → findsBack same other (f l) (f b) ≡ findsBack same m l b
   unfolding findsBack
   findsBack-same l b p q =
       ap₂ (λ x y. x && y) (ap₂ (λ x y. x && y) (ways b) (ap₂ member (ids l) q)) (ap not (ap₂ member (ids b) p))
 
-  backLinks-same : (l : Lane) → successorsOf same m′ (f l) ≡ successorsOf same m l
-      → backLinks same m′ (f l) ≡ backLinks same m l
+  backLinks-same : (l : Lane) → successorsOf same other (f l) ≡ successorsOf same m l
+      → backLinks same other (f l) ≡ backLinks same m l
   unfolding backLinks
   backLinks-same l p = ap₂ (λ b xs. cond b xs []) (ways l)
-      (ap (λ x. map (λ b. b .identity) (keep (findsBack same m′ (f l)) x)) lanes
+      (ap (λ x. map (λ b. b .identity) (keep (findsBack same other (f l)) x)) lanes
       ∙ ap (map (λ b. b .identity))
-      (keep-map f (findsBack same m′ (f l)) (m .lanes)
-      ∙ ap (map f) (keep-ext (λ b. findsBack same m′ (f l) (f b)) (findsBack same m l) (m .lanes)
+      (keep-map f (findsBack same other (f l)) (m .lanes)
+      ∙ ap (map f) (keep-ext (λ b. findsBack same other (f l) (f b)) (findsBack same m l) (m .lanes)
       (each-map (λ b q. findsBack-same l b p q) (m .lanes) all-alike)))
       ∙ map-map (λ b. b .identity) f (keep (findsBack same m l) (m .lanes))
       ∙ map-ext _ _ (keep (findsBack same m l) (m .lanes)) (each ids (keep (findsBack same m l) (m .lanes))))
 
-  pub successors-same : Each (λ l. successors same m′ (f l) ≡ successors same m l) (m .lanes)
+  pub successors-same : Each (λ l. successors same other (f l) ≡ successors same m l) (m .lanes)
   unfolding successors
   successors-same = each-map (λ l p. ap₂ (λ x y. sort (x ++ y)) p (backLinks-same l p)) (m .lanes) all-alike
 
-  pub predecessors-same : (l : Lane) → predecessors same m′ (f l) ≡ predecessors same m l
+  pub predecessors-same : (l : Lane) → predecessors same other (f l) ≡ predecessors same m l
   unfolding predecessors
   predecessors-same l =
-      ap sort (ap (gather (λ a. map (λ i. a .identity) (keep (eqb (f l .identity)) (successors same m′ a))))
+      ap sort (ap (gather (λ a. map (λ i. a .identity) (keep (eqb (f l .identity)) (successors same other a))))
       lanes
-      ∙ gather-map f (λ a. map (λ i. a .identity) (keep (eqb (f l .identity)) (successors same m′ a)))
+      ∙ gather-map f (λ a. map (λ i. a .identity) (keep (eqb (f l .identity)) (successors same other a)))
       (m .lanes)
       ∙ gather-ext _ (λ a. map (λ i. a .identity) (keep (eqb (l .identity)) (successors same m a))) (m .lanes)
       (each-map (λ a q. ap₂ (λ x y. map (λ i. x) y) (ids a) (ap₂ (λ x y. keep (eqb x) y) (ids l) q))

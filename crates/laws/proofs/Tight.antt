@@ -75,8 +75,8 @@ keep-sum p (x ∷ xs) = go (p x) (keep-sum p xs)
   where
     go : (b : Bool) → sumOf (λ x. bit (p x)) xs ≡ length (keep p xs)
         → cond b 1 0 + sumOf (λ x. bit (p x)) xs ≡ length (cond b (x ∷ keep p xs) (keep p xs))
-    go true ih = let e = ih in omega arith
-    go false ih = let e = ih in omega arith
+    go true ih = omega (arith, ih)
+    go false ih = omega (arith, ih)
 
 there : (n : ℕ) (xs : List ℕ) → bit (member n xs) ≤ length (keep (eqb n) xs)
 there n [] = omega arith
@@ -96,7 +96,7 @@ kept-sum p f F (x ∷ xs) h = go (p x) refl (kept-sum p f F xs h)
   where
     go : (b : Bool) → p x ≡ b → length (gather f (keep p xs)) ≤ sumOf F xs
         → length (gather f (cond b (x ∷ keep p xs) (keep p xs))) ≤ F x + sumOf F xs
-    go true q ih = let a = length-append (f x) (gather f (keep p xs)) in let b = h x q in omega arith
+    go true q ih = omega (arith, length-append (f x) (gather f (keep p xs)), h x q)
     go false q ih = omega arith
 
 final-sum : {B : Type 0} (p : Junction → Bool) (g : Junction → List B) (F : Junction → ℕ) (js : List Junction)
@@ -108,20 +108,20 @@ final-sum p g F (j ∷ js) h = go (final p js) (final-sum p g F js h) (p j)
     go : (o : Option Junction) → length (listO o g) ≤ sumOf F js → (b : Bool)
         → length (listO (orElse o (cond b (some j) none)) g) ≤ F j + sumOf F js
     go (some k) ih b = omega arith
-    go none ih true = let d = h j in omega arith
+    go none ih true = omega (arith, h j)
     go none ih false = omega arith
 
 sum-one : {A : Type 0} (xs : List A) → sumOf (λ x. 1) xs ≡ length xs
 unfolding sumOf
 sum-one [] = refl
-sum-one (x ∷ xs) = let e = sum-one xs in omega arith
+sum-one (x ∷ xs) = omega (arith, sum-one xs)
 
 -- for the lanes of a list alone
 sum-le-each : {A : Type 0} (P : A → Type 0) (f g : A → ℕ) (xs : List A) → Each P xs
     → ((x : A) → P x → f x ≤ g x) → sumOf f xs ≤ sumOf g xs
 unfolding sumOf
 sum-le-each P f g [] w h = omega arith
-sum-le-each P f g (x ∷ xs) w h = let a = h x (w .0) in let b = sum-le-each P f g xs (w .1) h in omega arith
+sum-le-each P f g (x ∷ xs) w h = omega (arith, h x (w .0), sum-le-each P f g xs (w .1) h)
 
 module _ (same : Span → Span → Bool) (A : Alike same) (m : Map) (v : Valid same m)
     (keys : distinct (sameKey same) (m .lanes) ≡ true) where
@@ -163,9 +163,9 @@ module _ (same : Span → Span → Bool) (A : Alike same) (m : Map) (v : Valid s
           kept-sum (λ p. eqb (p .from) (l .number))
           (λ p. lookupAtEnd same m (c .connecting) (c .contact) (p .to)) (λ p. serves e c p l) (c .pairs)
           (λ p r.
-          let a = lookup-one same A m keys (c .connecting)
+          let one-lane = lookup-one same A m keys (c .connecting)
           (endSection (sectionsOf same (m .roads) (c .connecting)) (c .contact)) (c .contact) (p .to) in
-          let b = one-served e l w h c p q r in omega arith)
+          omega (arith, one-served e l w h c p q r))
 
   listO-one : (o : Option ℕ) (f : ℕ → List Entry) → ((k : ℕ) → length (f k) ≤ 1) → length (listO o f) ≤ 1
   listO-one none f h = omega arith
@@ -182,11 +182,11 @@ module _ (same : Span → Span → Bool) (A : Alike same) (m : Map) (v : Valid s
           (listO (linkAt e l) (lookupAtEnd same m (t .name) (t .contact)))) ≤ 1 + sumOf (served e l)
           (m .junctions)
       by h t true =
-          let a = final-sum (λ j. same (j .name) (t .name)) (throughJunction same m (l .road) (l .number))
+          let found-below = final-sum (λ j. same (j .name) (t .name)) (throughJunction same m (l .road) (l .number))
           (served e l) (m .junctions) (junction-served e l w h) in
           omega arith
       by h t false =
-          let a = listO-one (linkAt e l) (lookupAtEnd same m (t .name) (t .contact))
+          let one-at-most = listO-one (linkAt e l) (lookupAtEnd same m (t .name) (t .contact))
           (λ k.
           lookup-one same A m keys (t .name)
           (endSection (sectionsOf same (m .roads) (t .name)) (t .contact)) (t .contact) k) in
@@ -200,7 +200,7 @@ module _ (same : Span → Span → Bool) (A : Alike same) (m : Map) (v : Valid s
       go : (o : Option ℕ) → nextSection (sectionsOf same (m .roads) (l .road)) (l .section) e ≡ o
           → length (exitsBy same m l e o) ≤ 1 + sumOf (served e l) (m .junctions)
       go (some s) h =
-          let a = listO-one (linkAt e l) (lookup same (m .lanes) (l .road) s (not e))
+          let one-at-most = listO-one (linkAt e l) (lookup same (m .lanes) (l .road) s (not e))
           (λ k. lookup-one same A m keys (l .road) s (not e) k) in
           omega arith
       go none h = on h (bindO (roadOf same (m .roads) (l .road)) (targetAt e))
@@ -209,13 +209,14 @@ module _ (same : Span → Span → Bool) (A : Alike same) (m : Map) (v : Valid s
   pair-once : (e : Bool) (c : Connection) (p : Pair) → sumOf (λ l. serves e c p l) (m .lanes) ≤ 1
   unfolding serves
   pair-once e c p =
-      let a = keep-sum
+      let counted = keep-sum
       (standsAt same (c .incoming) (endSection (sectionsOf same (m .roads) (c .incoming)) e) (p .from))
       (m .lanes) in
-      let b =
-      lookup-one same A m keys (c .incoming) (endSection (sectionsOf same (m .roads) (c .incoming)) e) e
-      (p .from) in
-      let d = entered in omega arith
+      omega (
+        arith,
+        lookup-one same A m keys (c .incoming) (endSection (sectionsOf same (m .roads) (c .incoming)) e) e (p .from),
+        entered,
+      )
     where
       entered : length (lookup same (m .lanes) (c .incoming)
           (endSection (sectionsOf same (m .roads) (c .incoming)) e) e (p .from))
@@ -237,64 +238,75 @@ module _ (same : Span → Span → Bool) (A : Alike same) (m : Map) (v : Valid s
   all-served : (e : Bool) → sumOf (λ l. sumOf (served e l) (m .junctions)) (m .lanes) ≤ pairsIn
   unfolding served
   all-served e =
-      let a = sum-swap (λ (l : Lane) (j : Junction). served e l j) (m .lanes) (m .junctions) in
-      let b =
+      let swapped = sum-swap (λ (l : Lane) (j : Junction). served e l j) (m .lanes) (m .junctions) in
+      let each-below =
       sum-le (λ (j : Junction). sumOf (λ (l : Lane). served e l j) (m .lanes))
       (λ j. length (gather (λ (c : Connection). c .pairs) (j .connections))) (m .junctions) one in
-      let c = gather-sum (λ (j : Junction). gather (λ (c : Connection). c .pairs) (j .connections)) (m .junctions) in
-      omega arith
+      omega (
+        arith,
+        gather-sum (λ (j : Junction). gather (λ (c : Connection). c .pairs) (j .connections)) (m .junctions),
+      )
     where
       two : (c : Connection)
           → sumOf (λ (l : Lane). sumOf (λ p. serves e c p l) (c .pairs)) (m .lanes) ≤ length (c .pairs)
-      two c = let a = sum-swap (λ (l : Lane) (p : Pair). serves e c p l) (m .lanes) (c .pairs) in
-          let b =
-          sum-le (λ (p : Pair). sumOf (λ (l : Lane). serves e c p l) (m .lanes)) (λ p. 1) (c .pairs)
-          (pair-once e c) in
-          let d = sum-one (c .pairs) in omega arith
+      two c =
+          omega (
+            arith,
+            sum-swap (λ (l : Lane) (p : Pair). serves e c p l) (m .lanes) (c .pairs),
+            sum-le (λ (p : Pair). sumOf (λ (l : Lane). serves e c p l) (m .lanes)) (λ p. 1) (c .pairs) (pair-once e c),
+            sum-one (c .pairs),
+          )
 
       one : (j : Junction)
           → sumOf (λ (l : Lane). served e l j) (m .lanes) ≤ length
           (gather (λ (c : Connection). c .pairs) (j .connections))
       one j =
-          let a = sum-swap (λ (l : Lane) (c : Connection). sumOf (λ p. serves e c p l) (c .pairs)) (m .lanes)
+          let swapped = sum-swap (λ (l : Lane) (c : Connection). sumOf (λ p. serves e c p l) (c .pairs)) (m .lanes)
           (j .connections) in
-          let b =
+          let each-below =
           sum-le
           (λ (c : Connection). sumOf (λ (l : Lane). sumOf (λ p. serves e c p l) (c .pairs)) (m .lanes))
           (λ c. length (c .pairs)) (j .connections) two in
-          let d = gather-sum (λ (c : Connection). c .pairs) (j .connections) in omega arith
+          omega (arith, gather-sum (λ (c : Connection). c .pairs) (j .connections))
 
   pub exits-all : (e : Bool) → sumOf (λ l. length (exits same m l e)) (m .lanes) ≤ length (m .lanes) + pairsIn
   exits-all e =
-      let a =
+      let each-below =
       sum-le-each (Placed same (m .roads)) (λ (l : Lane). length (exits same m l e))
       (λ l. 1 + sumOf (served e l) (m .junctions)) (m .lanes) (v .placed) (exits-served e) in
-      let b = sum-plus (λ (l : Lane). 1) (λ l. sumOf (served e l) (m .junctions)) (m .lanes) in
-      let c = sum-one (m .lanes) in
-      let d = all-served e in omega arith
+      omega (
+        arith,
+        sum-plus (λ (l : Lane). 1) (λ l. sumOf (served e l) (m .junctions)) (m .lanes),
+        sum-one (m .lanes),
+        all-served e,
+      )
 
   successorsOf-all : sumOf (λ l. length (successorsOf same m l)) (m .lanes) ≤ (length (m .lanes) + pairsIn) +
       (length (m .lanes) + pairsIn)
   successorsOf-all =
-      let a =
+      let each-below =
       sum-le (λ (l : Lane). length (successorsOf same m l))
       (λ l. length (exits same m l true) + length (exits same m l false)) (m .lanes)
       (successorsOf-exits same m) in
-      let b = sum-plus (λ (l : Lane). length (exits same m l true)) (λ l. length (exits same m l false)) (m .lanes) in
-      let c = exits-all true in let d = exits-all false in omega arith
+      omega (
+        arith,
+        sum-plus (λ (l : Lane). length (exits same m l true)) (λ l. length (exits same m l false)) (m .lanes),
+        exits-all true,
+        exits-all false,
+      )
 
   module _ (ids : distinct (λ (a b : Lane). eqb (a .identity) (b .identity)) (m .lanes) ≡ true) where
     backLinks-all : sumOf (λ l. length (backLinks same m l)) (m .lanes) ≤ sumOf
         (λ l. length (successorsOf same m l)) (m .lanes)
     backLinks-all =
-        let a =
+        let links-below =
         sum-le (λ (l : Lane). length (backLinks same m l))
         (λ l. sumOf (λ (b : Lane). length (keep (eqb (l .identity)) (successorsOf same m b))) (m .lanes))
         (m .lanes) one in
-        let b =
+        let swapped =
         sum-swap (λ (l b : Lane). length (keep (eqb (l .identity)) (successorsOf same m b))) (m .lanes)
         (m .lanes) in
-        let c =
+        let each-below =
         sum-le (λ (b : Lane).
         sumOf (λ (l : Lane). length (keep (eqb (l .identity)) (successorsOf same m b))) (m .lanes))
         (λ b. length (successorsOf same m b)) (m .lanes)
@@ -334,9 +346,9 @@ module _ (same : Span → Span → Bool) (A : Alike same) (m : Map) (v : Valid s
                 → length (cond d (map (λ (b : Lane). b .identity) (keep (findsBack same m l) (m .lanes))) []) ≤
                 sumOf (λ (b : Lane). length (keep (eqb (l .identity)) (successorsOf same m b))) (m .lanes)
             go true =
-                let a = length-map (keep (findsBack same m l) (m .lanes)) (λ (b : Lane). b .identity) in
-                let b = keep-sum (findsBack same m l) (m .lanes) in
-                let c = sum-le (λ (b : Lane). bit (findsBack same m l b))
+                let same-length = length-map (keep (findsBack same m l) (m .lanes)) (λ (b : Lane). b .identity) in
+                let counted = keep-sum (findsBack same m l) (m .lanes) in
+                let each-below = sum-le (λ (b : Lane). bit (findsBack same m l b))
                 (λ b. length (keep (eqb (l .identity)) (successorsOf same m b))) (m .lanes) (below l) in
                 omega arith
             go false = omega arith
@@ -345,15 +357,17 @@ module _ (same : Span → Span → Bool) (A : Alike same) (m : Map) (v : Valid s
     pub ids-tight : length (gather (λ l. l) (successorLists same m)) ≤ 4 * (length (m .lanes) + pairsIn)
     unfolding successorLists
     ids-tight =
-        let a =
+        let as-sum =
         ap length (gather-map (successors same m) (λ (l : List ℕ). l) (m .lanes))
         ∙ gather-sum (successors same m) (m .lanes)
         ∙ sum-ext (λ l. length (successors same m l))
         (λ l. length (successorsOf same m l) + length (backLinks same m l)) (m .lanes) one in
-        let b =
-        sum-plus (λ (l : Lane). length (successorsOf same m l)) (λ l. length (backLinks same m l))
-        (m .lanes) in
-        let c = successorsOf-all in let d = backLinks-all in omega arith
+        omega (
+          arith,
+          sum-plus (λ (l : Lane). length (successorsOf same m l)) (λ l. length (backLinks same m l)) (m .lanes),
+          successorsOf-all,
+          backLinks-all,
+        )
       where
         one : (l : Lane) → length (successors same m l) ≡ length (successorsOf same m l) + length (backLinks same m l)
         one l =

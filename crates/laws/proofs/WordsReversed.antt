@@ -2,23 +2,24 @@
 -- an accepted call leaves.
 use mathlib.Core.Path.{_≡_, refl, sym, _∙_, ap, ap₂}
 use mathlib.Core.Bool.{Bool, true, _&&_}
-use mathlib.Core.Option.{none, some}
+use mathlib.Core.Option.{Option, none, some}
 use mathlib.Core.List.{List, [], _∷_, _++_, map, append-assoc}
 use Prim.Native.Nat.{ℕ, _+_, _*_, _/_, _<_}
 use native.Mathlib.Nat.{mul-div-cancel}
 use native.Mathlib.Omega.{arith}
 use lib.Dec.{leb}
-use lib.ListN.{length, getD, length-map}
-use Rattle.model.specs.Calls.{ReversalOutputs, laneRules, longEnough, markRules, putReversed, reversalCall}
-use Rattle.model.specs.Calls.{reversalContent, reversalCounts, reversalLengths, reversalRefusal, reversalRules}
-use Rattle.model.specs.Calls.{rulesTo5, settled, tableRules}
+use lib.ListN.{length, take, getD, length-map}
+use Rattle.model.specs.Calls.{Outcome, ReversalOutputs, Writing, laneRules, longEnough, markRules, putReversed}
+use Rattle.model.specs.Calls.{reversalCall, reversalContent, reversalCounts, reversalLengths, reversalRefusal}
+use Rattle.model.specs.Calls.{reversalRules, reversalWriting, rulesTo5, settled, successionRules, tableRules}
 use Rattle.model.specs.Lists.{every, gather}
 use Rattle.model.specs.Records.{Connection, EdgedLane, Junction, Lane, Map, Road, Span}
 use Rattle.model.specs.Reversal.{marked, reverseConnection, reverseEdged, reverseJunction, reverseLane}
 use Rattle.model.specs.Reversal.{reverseMap, reverseRoad}
-use Rattle.model.specs.Rows.{rowsFrom}
-use Rattle.model.specs.Rules.{Rule, edgesSized, firstBroken, fits, laneFine, lanesSized, mapSized, numbersFine}
-use Rattle.model.specs.Rules.{oneEnded, oneEndedIn, pairFine, rule, sized}
+use Rattle.model.specs.Rows.{rowsFrom, written}
+use Rattle.model.specs.Rules.{Rule, connectionsFit, edgesSized, firstBroken, fits, identitiesOnce, keysOnce}
+use Rattle.model.specs.Rules.{laneFine, lanesListed, lanesSized, lanesWorded, mapSized, mapWorded, numbersFine}
+use Rattle.model.specs.Rules.{oneEnded, oneEndedIn, pairFine, roadsOnce, rule, sectionsFit, sized}
 use Rattle.model.specs.Sequence.{Call, after, next, reversedOnceBy, reversedRows, withReversed}
 use Rattle.model.specs.Tables.{Tables, allConnections, allPairs, connectionRow, connectionWords, edgeRow}
 use Rattle.model.specs.Tables.{edgeWords, edgedLanesOf, junctionRow, junctionWords, kindWord, laneRow}
@@ -301,6 +302,32 @@ fine-whole t f =
     let w = and3 (mapSized 16384 t) (lanesSized t) (edgesSized t) (f .sizes) in
     whole 16384 t (w .0) (w .1) (w .2)
 
+-- rules 1 to 8 as facts: what succession asks, but for 9
+pub record Listable (t : Tables) : Type 0 where
+  pub sizes : mapSized 16384 t && lanesSized t ≡ true
+  pub worded : mapWorded t && lanesWorded t ≡ true
+  pub once : roadsOnce t ≡ true
+  pub sections : sectionsFit t ≡ true
+  pub connections : connectionsFit t ≡ true
+  pub identities : identitiesOnce t ≡ true
+  pub listed : lanesListed t ≡ true
+  pub keys : keysOnce t ≡ true
+
+pub listable : (t : Tables) → firstBroken (successionRules t) ≡ none → Listable t
+unfolding successionRules rulesTo5 laneRules
+listable t unbroken =
+    let p = all-pass (successionRules t) unbroken in
+    record {
+      sizes = p .0;
+      worded = p .1 .0;
+      once = p .1 .1 .0;
+      sections = p .1 .1 .1 .0;
+      connections = p .1 .1 .1 .1 .0;
+      identities = p .1 .1 .1 .1 .1 .0;
+      listed = p .1 .1 .1 .1 .1 .1 .0;
+      keys = p .1 .1 .1 .1 .1 .1 .1 .0;
+    }
+
 -- tables that pass are the words of a sound map
 unfoldable pub modelOf : Tables → Model
 modelOf t = record { map = mapOf t; edged = edgedLanesOf t }
@@ -395,100 +422,96 @@ modelRules-reversed text s S x h marks lengths = λ i.
 -- ---- a sound map that passes, reversed
 module _ (text : List ℕ) (s : Span → Bool) (S : Steady (sameIn text) s) (x : Model) (h : SoundModel text x)
     (f : Fine (wordsOf text x)) where
-  pub fine-reversed : Fine (wordsOf text (reverseModel (sameIn text) s x))
+  abbrev turned : Model
+  turned = reverseModel (sameIn text) s x
+
+  pub fine-reversed : Fine (wordsOf text turned)
   fine-reversed = record {
     sizes =
         ap₂ (λ a b. a && b) (ap₂ (λ a b. a && b)
-        (mapSized-even (wordsOf text (reverseModel (sameIn text) s x)) (wordsOf text x) e 16384)
-        (lanesSized-even (wordsOf text (reverseModel (sameIn text) s x)) (wordsOf text x) e))
-        (edgesSized-even (wordsOf text (reverseModel (sameIn text) s x)) (wordsOf text x) e) ∙ f .sizes;
-    rest = passed text (reverseModel (sameIn text) s x .map) (reverseModel (sameIn text) s x .edged)
+        (mapSized-even (wordsOf text turned) (wordsOf text x) even 16384)
+        (lanesSized-even (wordsOf text turned) (wordsOf text x) even))
+        (edgesSized-even (wordsOf text turned) (wordsOf text x) even) ∙ f .sizes;
+    rest = passed text (turned .map) (turned .edged)
         (sound-model text s S x h);
   }
     where
-      e : Even (wordsOf text (reverseModel (sameIn text) s x)) (wordsOf text x)
-      e = even-model text s S x h
+      even : Even (wordsOf text turned) (wordsOf text x)
+      even = even-model text s S x h
 
   -- a call is refused on the reversed map as on the map
   pub refusal-reversed : (marks lengths : List ℕ)
-      → reversalRefusal (wordsOf text (reverseModel (sameIn text) s x)) marks lengths
+      → reversalRefusal (wordsOf text turned) marks lengths
       ≡ reversalRefusal (wordsOf text x) marks lengths
   refusal-reversed marks lengths =
-      refusal-split (wordsOf text (reverseModel (sameIn text) s x)) marks lengths
-      ∙ broken-append (tableRules (wordsOf text (reverseModel (sameIn text) s x)))
-      (callRules (wordsOf text (reverseModel (sameIn text) s x)) marks lengths)
-      (fine-rules (wordsOf text (reverseModel (sameIn text) s x)) fine-reversed)
-      ∙ ap firstBroken (callRules-are text (reverseModel (sameIn text) s x) (sound-model text s S x h) marks
-      lengths
+      own-rules (wordsOf text turned) fine-reversed
+      ∙ ap firstBroken (callRules-are text turned (sound-model text s S x h) marks lengths
       ∙ modelRules-reversed text s S x h marks lengths
       ∙ sym (callRules-are text x h marks lengths))
-      ∙ sym (broken-append (tableRules (wordsOf text x)) (callRules (wordsOf text x) marks lengths)
-      (fine-rules (wordsOf text x) f))
-      ∙ sym (refusal-split (wordsOf text x) marks lengths)
+      ∙ sym (own-rules (wordsOf text x) f)
+    where
+      -- where rules 1 to 8 and 10 pass, the call's own decide
+      own-rules : (t : Tables) → Fine t
+          → reversalRefusal t marks lengths ≡ firstBroken (callRules t marks lengths)
+      own-rules t fine-t =
+          refusal-split t marks lengths
+          ∙ broken-append (tableRules t) (callRules t marks lengths) (fine-rules t fine-t)
 
 -- ---- what a call leaves
 pub whole-count : (w n k : ℕ) → 0 < w → n ≡ k * w → n / w * w ≡ n
 whole-count w n k p e = ap (λ (a : ℕ). a / w * w) e ∙ ap (λ (a : ℕ). a * w) (mul-div-cancel k p) ∙ sym e
 
+-- whole rows that were written are taken back
+pub rows-taken : {A : Type 0} (w : ℕ) (content out : List A) (n : ℕ) → 0 < w → length content ≡ n * w
+    → take (length content / w * w) (written content out) ≡ content
+rows-taken w content out n above-zero whole =
+    take-written content out (length content / w * w) (whole-count w (length content) n above-zero whole)
+
 module _ (text : List ℕ) (y : Model) (six : Each Six (y .edged)) (o : ReversalOutputs) where
   pub rows-back : reversedRows (reversalCounts (reversedOf y)) (putReversed (reversedOf y) o) ≡ reversedOf y
   unfolding reversedRows reversalCounts putReversed reversedOf
-  rows-back = λ i. record {
-    roads = take-written (roadWords (y .map .roads)) (o .roads) (length (roadWords (y .map .roads)) / 20 * 20)
-        (whole-count 20 (length (roadWords (y .map .roads))) (length (y .map .roads)) (omega arith)
-        (length-roads (y .map .roads))) i;
-    sections = take-written (sectionWords (y .map .roads)) (o .sections) (length (sectionWords (y .map .roads)))
-        refl i;
-    connections = take-written (connectionWords (y .map .junctions)) (o .connections)
-        (length (connectionWords (y .map .junctions)) / 7 * 7)
-        (whole-count 7 (length (connectionWords (y .map .junctions))) (length (allConnections (y .map .junctions)))
-        (omega arith) (length-connections (y .map .junctions))) i;
-    pairs = take-written (pairWords (y .map .junctions)) (o .pairs)
-        (length (pairWords (y .map .junctions)) / 2 * 2)
-        (whole-count 2 (length (pairWords (y .map .junctions))) (length (allPairs (y .map .junctions)))
-        (omega arith) (length-pairs (y .map .junctions))) i;
-    lanes = take-written (laneWords (y .map .lanes)) (o .lanes) (length (laneWords (y .map .lanes)) / 10 * 10)
-        (whole-count 10 (length (laneWords (y .map .lanes))) (length (y .map .lanes)) (omega arith)
-        (length-lanes (y .map .lanes))) i;
-    edges = take-written (edgeWords (y .edged)) (o .edges) (length (edgeWords (y .edged)) / 12 * 12)
-        (whole-count 12 (length (edgeWords (y .edged))) (length (y .edged)) (omega arith)
-        (length-edges (y .edged) six)) i;
-  }
+  rows-back =
+      let js = y .map .junctions in
+      λ i. record {
+        roads = rows-taken 20 (roadWords (y .map .roads)) (o .roads) _ (omega arith) (length-roads (y .map .roads)) i;
+        sections = take-written (sectionWords (y .map .roads)) (o .sections) _ refl i;
+        connections = rows-taken 7 (connectionWords js) (o .connections) _ (omega arith) (length-connections js) i;
+        pairs = rows-taken 2 (pairWords js) (o .pairs) _ (omega arith) (length-pairs js) i;
+        lanes = rows-taken 10 (laneWords (y .map .lanes)) (o .lanes) _ (omega arith) (length-lanes (y .map .lanes)) i;
+        edges = rows-taken 12 (edgeWords (y .edged)) (o .edges) _ (omega arith) (length-edges (y .edged) six) i;
+      }
+
+-- a call's outcome by its refusal, and the tables after a reversal
+abbrev pub outcomeBy : {O : Type 0} → Writing O → (content outs : O) → Option ℕ → Outcome O
+outcomeBy w content outs refusal = settled refusal (w .rows content) (w .put content outs) outs
+
+leftBy : Tables → Call → Option ℕ → Tables
+leftBy t c refusal =
+    let done = outcomeBy reversalWriting (reversalContent t (c .marks)) (c .outs) refusal in
+    next t (done .answer) (done .outs)
 
 -- an accepted call's rows are the map reversed by its marks; a refused one leaves the tables
 pub accepted-leaves : (text : List ℕ) (x : Model) → SoundModel text x → (c : Call)
     → reversalRefusal (wordsOf text x) (c .marks) (reversalLengths (c .outs)) ≡ none
     → after (wordsOf text x) c ≡ reversedOnceBy (c .marks) (wordsOf text x)
-unfolding after reversalCall reversalRefusal reversedOnceBy
-accepted-leaves text x h c q =
-    ap (λ r.
-    next (wordsOf text x) (settled r (reversalCounts (reversalContent (wordsOf text x) (c .marks)))
-    (putReversed (reversalContent (wordsOf text x) (c .marks)) (c .outs)) (c .outs) .answer)
-    (settled r (reversalCounts (reversalContent (wordsOf text x) (c .marks)))
-    (putReversed (reversalContent (wordsOf text x) (c .marks)) (c .outs)) (c .outs) .outs)) q
+unfolding after reversalCall reversalRefusal reversedOnceBy leftBy
+accepted-leaves text x h c accepted =
+    ap (leftBy (wordsOf text x) c) accepted
     ∙ ap (withReversed (wordsOf text x))
-    (ap (λ r. reversedRows (reversalCounts r) (putReversed r (c .outs))) e
-    ∙ rows-back text y six (c .outs)
-    ∙ sym e)
+    (ap (λ content. reversedRows (reversalCounts content) (putReversed content (c .outs))) content-reversed
+    ∙ rows-back text (reverseModel (sameIn text) (named text x (c .marks)) x) six (c .outs)
+    ∙ sym content-reversed)
   where
-    y : Model
-    y = reverseModel (sameIn text) (named text x (c .marks)) x
-
-    e : reversalContent (wordsOf text x) (c .marks)
+    content-reversed : reversalContent (wordsOf text x) (c .marks)
         ≡ reversedOf (reverseModel (sameIn text) (named text x (c .marks)) x)
-    e = content-is text x h (c .marks)
+    content-reversed = content-is text x h (c .marks)
 
     six : Each Six (reverseModel (sameIn text) (named text x (c .marks)) x .edged)
     six =
-        sound-model text (named text x (c .marks))
-        (marked-steady (sameIn text) (alike-in text) (x .map .roads) (c .marks)) x h .six
+        let steady = marked-steady (sameIn text) (alike-in text) (x .map .roads) (c .marks) in
+        sound-model text (named text x (c .marks)) steady x h .six
 
 pub refused-leaves : (t : Tables) (c : Call) (k : ℕ)
     → reversalRefusal t (c .marks) (reversalLengths (c .outs)) ≡ some k → after t c ≡ t
-unfolding after reversalCall reversalRefusal
-refused-leaves t c k q =
-    ap (λ r.
-    next t (settled r (reversalCounts (reversalContent t (c .marks)))
-    (putReversed (reversalContent t (c .marks)) (c .outs)) (c .outs) .answer)
-    (settled r (reversalCounts (reversalContent t (c .marks)))
-    (putReversed (reversalContent t (c .marks)) (c .outs)) (c .outs) .outs)) q
+unfolding after reversalCall reversalRefusal leftBy
+refused-leaves t c k refused = ap (leftBy t c) refused

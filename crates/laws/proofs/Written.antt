@@ -64,12 +64,22 @@ module _ (t : Tables) (f : Fine t) (w : TablesW t) (marks : List ℕ) where
   unfolding reversalContent
   reversal-words = record {
     roads = roads-written n reversed-words
-        (let a = counted-reversed (sameIn (t .text)) (markedBy t marks) (mapOf t) (edgedLanesOf t) .sections in
-        let b = sections-are in let c = limits .0 in omega arith);
+        (
+        omega (
+          arith,
+          counted-reversed (sameIn (t .text)) (markedBy t marks) (mapOf t) (edgedLanesOf t) .sections,
+          sections-are,
+          limits .0,
+        ));
     sections = sections-written n reversed-words;
     connections = connections-written n reversed-words
-        (let a = counted-reversed (sameIn (t .text)) (markedBy t marks) (mapOf t) (edgedLanesOf t) .pairs in
-        let b = pairs-are in let c = limits .2 in omega arith);
+        (
+        omega (
+          arith,
+          counted-reversed (sameIn (t .text)) (markedBy t marks) (mapOf t) (edgedLanesOf t) .pairs,
+          pairs-are,
+          limits .2,
+        ));
     pairs = pairs-written n reversed-words;
     lanes = lanes-written n reversed-words;
   }

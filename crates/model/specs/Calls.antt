@@ -1,5 +1,5 @@
 -- "Each call's whole outcome": its answer, and every output after it. Definitions only.
-use mathlib.Core.Bool.{Bool, true, false, _&&_, cond}
+use mathlib.Core.Bool.{Bool, _&&_, cond}
 use mathlib.Core.Option.{Option, none, some}
 use mathlib.Core.List.{List, [], _∷_, _++_, map}
 use Prim.Native.Nat.{ℕ, suc, _/_}
@@ -26,16 +26,16 @@ pub data Answer : Type 0 where
   refused : ℕ → Answer
   wrote : List ℕ → Answer
 
--- an answer, and every output after the call
+-- an answer, and every output after the call; O has a list for each output
 pub record Outcome (O : Type 0) : Type 0 where
   pub answer : Answer
   pub outs : O
 
--- that answer and those outputs
+-- an outcome from its two parts
 abbrev pub outcome : {O : Type 0} → Answer → O → Outcome O
 outcome a o = record { answer = a; outs = o }
 
--- "changes no lent word": a refusal leaves the outputs as they were
+-- a refusal "changes no lent word"; where there is none, the outputs are the new ones, with the counts returned
 abbrev pub settled : {O : Type 0} → Option ℕ → List ℕ → O → O → Outcome O
 settled (some k) counts new old = record { answer = refused k; outs = old }
 settled none counts new old = record { answer = wrote counts; outs = new }
@@ -49,26 +49,30 @@ rulesTo5 sizes words t =
 unfoldable pub laneRules : Tables → List Rule
 laneRules t = rule 6 (identitiesOnce t) ∷ rule 7 (lanesListed t) ∷ rule 8 (keysOnce t) ∷ []
 
--- 9 an output shorter than its content, after all others
+-- 9 an output shorter than its content; both given by their lengths. It comes after all others
 abbrev pub longEnough : List ℕ → List ℕ → List Rule
 longEnough content outs = rule 9 (fits content outs) ∷ []
 
--- how outputs are measured and written: their lengths in words, the rows that these are, content put into them
+-- how a call's outputs, and content for them, are measured and written
 pub record Writing (O : Type 0) : Type 0 where
+  -- each one's length in words
   pub lengths : O → List ℕ
+  -- and in rows
   pub rows : O → List ℕ
-  pub put : O → O → O
+  -- content written to outputs: each begins with its content, and goes on as it was
+  pub put : (content outs : O) → O
 
--- one table, with rows of w words
+-- of a call with one output, a table with rows of w words
 abbrev pub tableWriting : ℕ → Writing (List ℕ)
 tableWriting w = record { lengths = λ o. length o ∷ []; rows = λ o. length o / w ∷ []; put = written }
 
--- A CALL'S WHOLE OUTCOME: refused by the first of its rules that is broken, 9 the last, or its content written
+-- A CALL'S WHOLE OUTCOME, from its rules but 9, what it has to write, and the outputs as lent: refused by the first
+-- rule that is broken, 9 the last of them; or the content is written, and its rows are counted
 abbrev pub called : {O : Type 0} → Writing O → List Rule → (content outs : O) → Outcome O
 called w rules c o =
     settled (firstBroken (rules ++ longEnough (w .lengths c) (w .lengths o))) (w .rows c) (w .put c o) o
 
--- content written, or 9: what is left of a call where no other rule is broken
+-- content written, or 9: what is left of a call when its other rules have passed
 abbrev pub writtenOr9 : {O : Type 0} → Writing O → (content outs : O) → Outcome O
 writtenOr9 w c o = called w [] c o
 

@@ -1,6 +1,6 @@
 -- The claim about a sequence of reversals, demand 3, as one statement. Definitions only.
 use mathlib.Core.Path.{_≡_}
-use mathlib.Core.Bool.{Bool, true, false}
+use mathlib.Core.Bool.{Bool, true}
 use mathlib.Core.Option.{Option, none, some}
 use mathlib.Core.List.{List, [], _∷_, map}
 use Prim.Native.Nat.{ℕ, _<_, _/_}
@@ -45,7 +45,7 @@ abbrev pub writtenLists : Answer → ListOutputs → Option ListOutputs
 writtenLists (refused k) o = none
 writtenLists (wrote counts) o = some (listRows counts o)
 
--- the lists that repair, succession and the gap check came to; none where a call before them was refused
+-- the lists that are found; none where repair or succession was refused
 abbrev pub foundLists : Found → Option ListOutputs
 foundLists (noRepair k) = none
 foundLists (noLists counts k) = none

@@ -1,7 +1,6 @@
 -- The three calls of attribute reading: how each refuses, and its whole outcome. Definitions only.
 use mathlib.Core.Bool.{Bool, true, _&&_, _||_}
-use mathlib.Core.Option.{Option}
-use mathlib.Core.List.{List, [], _∷_, _++_}
+use mathlib.Core.List.{List, [], _∷_}
 use Prim.Native.Nat.{ℕ, zero, suc, _+_, _/_}
 use lib.Dec.{leb}
 use lib.ListN.{length}
@@ -10,8 +9,8 @@ use Rattle.model.specs.Text.{placed}
 use Rattle.model.specs.Rows.{table, word, partsFit, written}
 use Rattle.model.specs.Tables.{flag, isAbsent, spanIn, junctionWidth, connectionWidth, pairWidth}
 use Rattle.model.specs.Tables.{targetWords, junctionWords, connectionWords, pairWords}
-use Rattle.model.specs.Rules.{Rule, rule, firstBroken, sized}
-use Rattle.model.specs.Calls.{Outcome, Writing, tableWriting, called, longEnough, warningWidth}
+use Rattle.model.specs.Rules.{Rule, rule, sized}
+use Rattle.model.specs.Calls.{Outcome, Writing, tableWriting, called, warningWidth}
 use Rattle.model.specs.Reading.{readTarget, readLane, RawTables, readJunctions, readWarnings, readWarningRow}
 
 -- ---- how many words a row has
@@ -30,7 +29,7 @@ rawConnectionWidth = 14
 abbrev pub rawLaneLinkWidth : ℕ
 rawLaneLinkWidth = 4
 
--- as read, and as written
+-- a lane's two links: two names as read, a flag and a number each as written
 abbrev pub rawLaneWidth : ℕ
 rawLaneWidth = 4
 

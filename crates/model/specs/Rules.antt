@@ -2,7 +2,7 @@
 -- reads; the rule on the tables is its abbreviation. Definitions only.
 use mathlib.Core.Bool.{Bool, true, false, not, _&&_, _||_, cond}
 use mathlib.Core.Option.{Option, none, some}
-use mathlib.Core.List.{List, [], _∷_, _++_, map}
+use mathlib.Core.List.{List, [], _∷_}
 use Prim.Native.Nat.{ℕ, suc, _+_, _*_, _/_, _%_}
 use lib.Dec.{eqb, leb}
 use lib.Ieee.{Float}

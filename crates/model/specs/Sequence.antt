@@ -10,7 +10,7 @@ use Rattle.model.specs.Lists.{every}
 use Rattle.model.specs.Rows.{word}
 use Rattle.model.specs.Tables.{Tables, roadWidth, junctionWidth, connectionWidth, pairWidth, laneWidth}
 use Rattle.model.specs.Tables.{edgeWidth, roadsOf}
-use Rattle.model.specs.Calls.{Answer, refused, wrote, Outcome, RepairOutputs, repairCall, ListOutputs}
+use Rattle.model.specs.Calls.{Answer, refused, wrote, Outcome, outcome, RepairOutputs, repairCall, ListOutputs}
 use Rattle.model.specs.Calls.{successionCall, gapCall, ReversalOutputs, reversalLengths, reversalContent}
 use Rattle.model.specs.Calls.{reversalRefusal, reversalCall}
 
@@ -135,8 +135,11 @@ pub record Buffers : Type 0 where
 -- What they come to. "A refusal is the same by its number, and after one by succession there are no lists and
 -- the gap check isn't called."
 pub data Found : Type 0 where
+  -- repair's refusal
   noRepair : ℕ → Found
+  -- the rows that repair wrote, and succession's refusal
   noLists : List ℕ → ℕ → Found
+  -- the rows that repair wrote, succession's outcome and the gap check's
   lists : List ℕ → Outcome ListOutputs → Outcome (List ℕ) → Found
 
 -- the tables with the rows that repair wrote
@@ -157,7 +160,7 @@ module _ (q : Buffers) where
   -- the gap check on the lists that succession wrote
   abbrev pub byLists : List ℕ → Tables → Answer → ListOutputs → Found
   byLists cs t (refused k) o = noLists cs k
-  byLists cs t (wrote counts) o = lists cs (record { answer = wrote counts; outs = o })
+  byLists cs t (wrote counts) o = lists cs (outcome (wrote counts) o)
       (gapCall t (take (word counts 0) (o .successorOffsets)) (take (word counts 1) (o .successorIds)) (q .forGaps))
 
   -- succession on the tables that repair left

@@ -1,13 +1,13 @@
 -- "Succession": the lanes that can be driven into from each lane, and those before it. Definitions only.
 use mathlib.Core.Bool.{Bool, true, false, not, _&&_, cond}
 use mathlib.Core.Option.{Option, none, some}
-use mathlib.Core.List.{List, [], _∷_, _++_, map}
+use mathlib.Core.List.{List, [], _++_, map}
 use Prim.Native.Nat.{ℕ}
 use lib.Dec.{eqb, ltb}
 use Rattle.geometry.specs.declared.gap.Direction.{Direction}
 use Rattle.geometry.specs.declared.gap.Direction.the-variants.{Forward, Backward, Both}
 use Rattle.model.specs.Lists.{pick, keep, first, final, headOr, lastOr, bindO, gather, listO, sort, member, once}
-use Rattle.model.specs.Records.{Span, Target, Road, Pair, Connection, Junction, Map, Lane, targetAt, linkAt}
+use Rattle.model.specs.Records.{Span, Target, Road, Connection, Junction, Map, Lane, targetAt, linkAt}
 use Rattle.model.specs.Repair.{roadOf}
 
 -- A lane that is entered, and the end of its road at which it is.

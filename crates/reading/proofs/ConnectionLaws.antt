@@ -7,7 +7,7 @@ use mathlib.Core.Option.{Option, none, some}
 use native.Mathlib.Omega.{arith}
 use lib.ListN.{length, getD}
 use Rattle.model.specs.Lists.{bindO, gather, isSome, mapO, pick}
-use Rattle.model.specs.Reading.{ReadWarning, connectionDropped, connectionWarnings, directText, endText}
+use Rattle.model.specs.Reading.{RawTables, ReadWarning, connectionDropped, connectionWarnings, directText, endText}
 use Rattle.model.specs.Reading.{keptConnections, kindAt, kindRead, laneLinkWarnings, laneLinksAt, leadsInto}
 use Rattle.model.specs.Reading.{partRows, passedOver, readConnection, readPair, reads, rowAt, sameNames, toList}
 use Rattle.model.specs.Reading.{virtualText}
@@ -15,9 +15,9 @@ use Rattle.model.specs.Records.{Connection, JunctionKind, Pair, Span, common, d
 use Rattle.model.specs.Repair.{isVirtual}
 use Rattle.model.specs.Rules.{isDirect}
 use Rattle.model.specs.Tables.{bit, connectionRow, isAbsent, kindWord, nameIn, spanIn}
-use Rattle.words.specs.Rows.{spliced}
 use Rattle.words.proofs.Scans.{left-on, right-on}
-use Rattle.reading.specs.Laid.{ConnectionsRead, LinksRead, dropsAt, pairsAt, rawTables}
+use Rattle.reading.specs.Laid.{ConnectionOuts, ConnectionsRead, LinkOuts, LinksRead, PutIf}
+use Rattle.reading.specs.Laid.{connectionOuts, connectionRead, dropsAt, linkOuts, output, pairsAt, rawTables}
 use Rattle.reading.proofs.LinkLaws.{nothing}
 use Rattle.reading.proofs.NameLaws.{name-of, word-of}
 use Rattle.reading.proofs.RunLaws.{connections-as, connections-none, links-as, run-as, run-none, run-one}
@@ -82,194 +82,159 @@ by-both text (some x) none o ps = refl
 by-both text (some x) (some y) o ps = refl
 
 module _ (text junctions connections links : List ℕ) (j c : ℕ) where
+  abbrev t : RawTables
+  t = rawTables text junctions connections links
+
+  -- ---- the attributes of connection c, at their words of the table
+  abbrev attribute : ℕ → Option Span
+  attribute k = nameIn connections (c * 14 + k)
+
+  -- whether it is virtual or main road's own, in a virtual junction
+  abbrev aside : Bool
+  aside = reads text virtualText (attribute 2) || sameNames text (attribute 4) (nameIn junctions (j * 8 + 4))
+
   -- ---- passed over
-  passed-is : passedOver (rawTables text junctions connections links) j c
-      ≡ (isVirtual (kindAt (rawTables text junctions connections links) j) &&
-      (reads text virtualText (nameIn connections (c * 14 + 2)) || sameNames text
-      (nameIn connections (c * 14 + 4)) (nameIn junctions (j * 8 + 4))))
+  passed-is : passedOver t j c ≡ (isVirtual (kindAt t j) && aside)
   unfolding passedOver
   passed-is =
-      let p2 = name-of 14 c connections 2 (omega arith) in
-      let p4 = name-of 14 c connections 4 (omega arith) in
-      let m4 = name-of 8 j junctions 4 (omega arith) in
-      λ z.
-      isVirtual (kindAt (rawTables text junctions connections links) j) &&
-      (reads text virtualText (p2 z) || sameNames text (p4 z) (m4 z))
+      let kind = name-of 14 c connections 2 (omega arith) in
+      let incoming = name-of 14 c connections 4 (omega arith) in
+      let main = name-of 8 j junctions 4 (omega arith) in
+      λ z. isVirtual (kindAt t j) && (reads text virtualText (kind z) || sameNames text (incoming z) (main z))
 
-  pub passed-common : (kind : ℕ) → kind ≡ kindWord (kindAt (rawTables text junctions connections links) j)
-      → (kind ≡ 2 → ⊥) → false ≡ passedOver (rawTables text junctions connections links) j c
-  passed-common kind e n =
-      sym (passed-is
-      ∙ ap (λ (b : Bool).
-      b && (reads text virtualText (nameIn connections (c * 14 + 2)) || sameNames text
-      (nameIn connections (c * 14 + 4)) (nameIn junctions (j * 8 + 4))))
-      (virtual-off (kindAt (rawTables text junctions connections links) j) (λ z. n (e ∙ sym z))))
+  pub passed-common : (kind : ℕ) → kind ≡ kindWord (kindAt t j) → (kind ≡ 2 → ⊥) → false ≡ passedOver t j c
+  passed-common kind e other =
+      sym (passed-is ∙ ap (λ (b : Bool). b && aside) (virtual-off (kindAt t j) (λ z. other (e ∙ sym z))))
 
-  pub passed-virtual : (kind : ℕ) {r : Bool}
-      → kind ≡ kindWord (kindAt (rawTables text junctions connections links) j) → kind ≡ 2
-      → r
-      ≡ (reads text virtualText (nameIn connections (c * 14 + 2)) || sameNames text
-      (nameIn connections (c * 14 + 4)) (nameIn junctions (j * 8 + 4))) →
-      r ≡ passedOver (rawTables text junctions connections links) j c
-  passed-virtual kind e n f =
-      f
-      ∙ sym (passed-is
-      ∙ ap (λ (b : Bool).
-      b && (reads text virtualText (nameIn connections (c * 14 + 2)) || sameNames text
-      (nameIn connections (c * 14 + 4)) (nameIn junctions (j * 8 + 4))))
-      (virtual-on (kindAt (rawTables text junctions connections links) j) (sym n ∙ e)))
+  pub passed-virtual : (kind : ℕ) {r : Bool} → kind ≡ kindWord (kindAt t j) → kind ≡ 2 → r ≡ aside
+      → r ≡ passedOver t j c
+  passed-virtual kind e is-2 f =
+      f ∙ sym (passed-is ∙ ap (λ (b : Bool). b && aside) (virtual-on (kindAt t j) (sym is-2 ∙ e)))
 
-  pub passed-any : passedOver (rawTables text junctions connections []) j c
-      ≡ passedOver (rawTables text junctions connections links) j c
+  -- lane links do not matter to it
+  pub passed-any : passedOver (rawTables text junctions connections []) j c ≡ passedOver t j c
   unfolding passedOver
   passed-any = refl
 
-  pub read-passed : (n p w : ℕ) (co po wo : List ℕ)
-      → passedOver (rawTables text junctions connections links) j c ≡ true →
-      ConnectionsRead (keptConnections (rawTables text junctions connections links) j c)
-      (connectionWarnings (rawTables text junctions connections links) j c) n p w n p w co po wo co po wo
+  -- what connection c gives, by whether it is passed over and what it reads as
+  abbrev warnedBy : Option Connection → List ReadWarning
+  warnedBy o =
+      cond (isSome o) (gather (laneLinkWarnings t j c) (laneLinksAt t c)) (connectionDropped j c ∷ [])
+
+  pub read-passed : (o : ConnectionOuts) → passedOver t j c ≡ true
+      → ConnectionsRead (keptConnections t j c) (connectionWarnings t j c) o o
   unfolding keptConnections connectionWarnings
-  read-passed n p w co po wo e = connections-as (connections-none n p w co po wo)
-      (sym (ap
-      (λ (b : Bool). cond b [] (toList (readConnection (rawTables text junctions connections links) j c))) e))
-      (sym (ap (λ (b : Bool).
-      cond b [] (cond (isSome (readConnection (rawTables text junctions connections links) j c))
-      (gather (laneLinkWarnings (rawTables text junctions connections links) j c)
-      (laneLinksAt (rawTables text junctions connections links) c)) (connectionDropped j c ∷ []))) e))
+  read-passed o e =
+      connections-as (connections-none o)
+      (sym (ap (λ (b : Bool). cond b [] (toList (readConnection t j c))) e))
+      (sym (ap (λ (b : Bool). cond b [] (warnedBy (readConnection t j c))) e))
 
   -- ---- read: k is the word of its row at which its connecting road stands
-  module _ (kind k : ℕ) (e : kind ≡ kindWord (kindAt (rawTables text junctions connections links) j))
-      (low : k ≤ 8) (on : kind ≡ 1 → k ≡ 8) (off : (kind ≡ 1 → ⊥) → k ≡ 6) where
-    leads : leadsInto (rawTables text junctions connections links) j c ≡ nameIn connections (c * 14 + k)
+  module _ (kind k : ℕ) (e : kind ≡ kindWord (kindAt t j)) (low : k ≤ 8) (on : kind ≡ 1 → k ≡ 8)
+      (off : (kind ≡ 1 → ⊥) → k ≡ 6) where
+    leads : leadsInto t j c ≡ attribute k
     unfolding leadsInto
     leads =
-        by-kind (kindAt (rawTables text junctions connections links) j) kind k (nameIn (rowAt 14 connections c))
-        e on off
+        by-kind (kindAt t j) kind k (nameIn (rowAt 14 connections c)) e on off
         ∙ name-of 14 c connections k (omega arith)
 
-    -- the pairs of its lane links
-    pairs : List Pair
-    pairs =
-        gather (pairsAt text links)
-        (partRows (getD connections (c * 14 + 12) 0) (getD connections (c * 14 + 13) 0))
+    -- its lane links, their pairs and warnings
+    abbrev part : List ℕ
+    part = partRows (getD connections (c * 14 + 12) 0) (getD connections (c * 14 + 13) 0)
 
-    connection-is : readConnection (rawTables text junctions connections links) j c
-        ≡ connectionBy text (nameIn connections (c * 14 + 4)) (nameIn connections (c * 14 + k))
-        (nameIn connections (c * 14 + 10)) pairs
-    unfolding readConnection pairs pairsAt readPair
+    abbrev pairs : List Pair
+    pairs = gather (pairsAt text links) part
+
+    abbrev drops : List ReadWarning
+    drops = gather (dropsAt text links j c) part
+
+    part-is : laneLinksAt t c ≡ part
+    part-is =
+        let first = word-of 14 c connections 12 (omega arith) in
+        let count = word-of 14 c connections 13 (omega arith) in
+        λ z. partRows (first z) (count z)
+
+    connection-is : readConnection t j c ≡ connectionBy text (attribute 4) (attribute k) (attribute 10) pairs
+    unfolding readConnection pairsAt readPair
     connection-is =
-        let p4 = name-of 14 c connections 4 (omega arith) in
-        let p10 = name-of 14 c connections 10 (omega arith) in
-        let f = word-of 14 c connections 12 (omega arith) in
-        let m = word-of 14 c connections 13 (omega arith) in
-        let l = leads in
+        let incoming = name-of 14 c connections 4 (omega arith) in
+        let contact = name-of 14 c connections 10 (omega arith) in
+        let connecting = leads in
+        let links-are = part-is in
         λ z.
-        connectionBy text (p4 z) (l z) (p10 z)
-        (gather (λ l. toList (readPair (rawTables text junctions connections links) l)) (partRows (f z) (m z)))
+        connectionBy text (incoming z) (connecting z) (contact z)
+        (gather (λ l. toList (readPair t l)) (links-are z))
 
-    drops : gather (laneLinkWarnings (rawTables text junctions connections links) j c)
-        (laneLinksAt (rawTables text junctions connections links) c)
-        ≡ gather (dropsAt text links j c)
-        (partRows (getD connections (c * 14 + 12) 0) (getD connections (c * 14 + 13) 0))
+    drops-are : gather (laneLinkWarnings t j c) (laneLinksAt t c) ≡ drops
     unfolding dropsAt readPair
-    drops =
-        let f = word-of 14 c connections 12 (omega arith) in
-        let m = word-of 14 c connections 13 (omega arith) in
-        λ z. gather (laneLinkWarnings (rawTables text junctions connections links) j c) (partRows (f z) (m z))
+    drops-are = ap (gather (laneLinkWarnings t j c)) part-is
 
-    module _ (n p w : ℕ) (co po wo : List ℕ)
-        (past : passedOver (rawTables text junctions connections links) j c ≡ false) where
-      kept-as : (o : Option Connection) → readConnection (rawTables text junctions connections links) j c ≡ o
-          → keptConnections (rawTables text junctions connections links) j c ≡ toList o
-      unfolding keptConnections
-      kept-as o q =
-          ap
-          (λ (b : Bool). cond b [] (toList (readConnection (rawTables text junctions connections links) j c)))
-          past
-          ∙ ap toList q
+    -- the connection read, where both of its roads are there, and its row with so many pairs from row p on
+    abbrev connection : Connection
+    connection =
+        record {
+          incoming = spanIn connections (c * 14 + 4);
+          connecting = spanIn connections (c * 14 + k);
+          contact = reads text endText (attribute 10);
+          pairs = pairs;
+        }
 
-      warned-as : (o : Option Connection) → readConnection (rawTables text junctions connections links) j c ≡ o
-          → connectionWarnings (rawTables text junctions connections links) j c
-          ≡ cond (isSome o) (gather (dropsAt text links j c)
-          (partRows (getD connections (c * 14 + 12) 0) (getD connections (c * 14 + 13) 0)))
-          (connectionDropped j c ∷ [])
-      unfolding connectionWarnings
-      warned-as o q =
-          ap (λ (b : Bool).
-          cond b [] (cond (isSome (readConnection (rawTables text junctions connections links) j c))
-          (gather (laneLinkWarnings (rawTables text junctions connections links) j c)
-          (laneLinksAt (rawTables text junctions connections links) c)) (connectionDropped j c ∷ []))) past
-          ∙ ap₂
-          (λ (x : Option Connection) (l : List ReadWarning). cond (isSome x) l (connectionDropped j c ∷ [])) q
-          drops
+    abbrev rowOf : (p size : ℕ) → List ℕ
+    rowOf p size = connectionRead text connections (c * 14) (c * 14 + k) p size
 
-      pub read-dropped : {wo′ : List ℕ}
-          → (isSome (nameIn connections (c * 14 + 4)) && isSome (nameIn connections (c * 14 + k))) ≡ false
-          → (w * 4 + length (1 ∷ j ∷ c ∷ 0 ∷ []) ≤ length wo → wo′ ≡ spliced (w * 4) (1 ∷ j ∷ c ∷ 0 ∷ []) wo)
-          → length wo′ ≡ length wo →
-          ConnectionsRead (keptConnections (rawTables text junctions connections links) j c)
-          (connectionWarnings (rawTables text junctions connections links) j c) n p w n p (w + 1) co po wo co po
-          wo′
-      read-dropped t g h =
-          let o : readConnection (rawTables text junctions connections links) j c ≡ none =
-          connection-is
-          ∙ nothing (connectionBy text (nameIn connections (c * 14 + 4))
-          (nameIn connections (c * 14 + k)) (nameIn connections (c * 14 + 10)) pairs)
-          (by-both text (nameIn connections (c * 14 + 4)) (nameIn connections (c * 14 + k))
-          (nameIn connections (c * 14 + 10)) pairs
-          ∙ t) in
-          connections-as {cs = []} {ws = connectionDropped j c ∷ []}
-          (record {
-            rows = run-none 7 n co;
-            rest = record { pairs = run-none 2 p po; warnings = run-one 4 w (1 ∷ j ∷ c ∷ 0 ∷ []) wo refl g h };
-          }) (sym (kept-as none o)) (sym (warned-as none o))
+    some-read : (isSome (attribute 4) && isSome (attribute k)) ≡ true → readConnection t j c ≡ some connection
+    some-read there =
+        connection-is
+        ∙ ap₂ (λ (a b : Option Span). connectionBy text a b (attribute 10) pairs)
+        (name-some connections (c * 14 + 4) (left-on (isSome (attribute 4)) (isSome (attribute k)) there))
+        (name-some connections (c * 14 + k) (right-on (isSome (attribute 4)) (isSome (attribute k)) there))
 
-      module _ (t : (isSome (nameIn connections (c * 14 + 4)) && isSome (nameIn connections (c * 14 + k))) ≡ true)
-        where
-          read : Connection
-          read =
-              record {
-                incoming = spanIn connections (c * 14 + 4);
-                connecting = spanIn connections (c * 14 + k);
-                contact = reads text endText (nameIn connections (c * 14 + 10));
-                pairs = pairs;
-              }
+    none-read : (isSome (attribute 4) && isSome (attribute k)) ≡ false → readConnection t j c ≡ none
+    none-read missing =
+        connection-is
+        ∙ nothing (connectionBy text (attribute 4) (attribute k) (attribute 10) pairs)
+        (by-both text (attribute 4) (attribute k) (attribute 10) pairs ∙ missing)
 
-          read-is : readConnection (rawTables text junctions connections links) j c ≡ some read
-          unfolding read
-          read-is =
-              connection-is
-              ∙ ap₂ (λ (a b : Option Span). connectionBy text a b (nameIn connections (c * 14 + 10)) pairs)
-              (name-some connections (c * 14 + 4)
-              (left-on (isSome (nameIn connections (c * 14 + 4))) (isSome (nameIn connections (c * 14 + k))) t))
-              (name-some connections (c * 14 + k)
-              (right-on (isSome (nameIn connections (c * 14 + 4))) (isSome (nameIn connections (c * 14 + k))) t))
+    module _ (past : passedOver t j c ≡ false) where
+      -- what was read, by what the connection reads as
+      read-as : {o : Option Connection} {old new : ConnectionOuts} → readConnection t j c ≡ o
+          → ConnectionsRead (toList o) (cond (isSome o) drops (connectionDropped j c ∷ [])) old new
+          → ConnectionsRead (keptConnections t j c) (connectionWarnings t j c) old new
+      unfolding keptConnections connectionWarnings
+      read-as is r =
+          connections-as r
+          (sym (ap (λ (b : Bool). cond b [] (toList (readConnection t j c))) past ∙ ap toList is))
+          (sym (ap (λ (b : Bool). cond b [] (warnedBy (readConnection t j c))) past
+          ∙ ap₂ (λ (x : Option Connection) (l : List ReadWarning). cond (isSome x) l (connectionDropped j c ∷ [])) is
+          drops-are))
 
-          pub read-kept : {p′ w′ size : ℕ} {row co′ po′ wo′ : List ℕ} →
-              LinksRead (gather (pairsAt text links)
-              (partRows (getD connections (c * 14 + 12) 0) (getD connections (c * 14 + 13) 0)))
-              (gather (dropsAt text links j c)
-              (partRows (getD connections (c * 14 + 12) 0) (getD connections (c * 14 + 13) 0))) p w p′ w′ po wo
-              po′ wo′ →
-              row
-              ≡ getD connections (c * 14 + 4) 0 ∷ getD connections (c * 14 + 4 + 1) 0
-              ∷ getD connections (c * 14 + k) 0 ∷ getD connections (c * 14 + k + 1) 0
-              ∷ bit (reads text endText (nameIn connections (c * 14 + 10))) ∷ p ∷ size ∷ [] → p′ ≡ p + size →
-              (n * 7 + length row ≤ length co → co′ ≡ spliced (n * 7) row co) → length co′ ≡ length co →
-              ConnectionsRead (keptConnections (rawTables text junctions connections links) j c)
-              (connectionWarnings (rawTables text junctions connections links) j c) n p w (n + 1) p′ w′ co po wo
-              co′ po′ wo′
-          unfolding read pairs connectionRow
-          read-kept {p′} {w′} {size} {row} {co′} {po′} {wo′} links-read row-is sized g h =
-              let count : size ≡ length pairs = let z = links-read .pairs .count in omega arith in
-              let is : row ≡ connectionRow p read =
-              row-is
-              ∙ (λ z.
-              getD connections (c * 14 + 4) 0 ∷ getD connections (c * 14 + 4 + 1) 0
-              ∷ getD connections (c * 14 + k) 0 ∷ getD connections (c * 14 + k + 1) 0
-              ∷ bit (reads text endText (nameIn connections (c * 14 + 10))) ∷ p ∷ count z ∷ []) in
-              let wide : length row ≡ 7 = ap length row-is in
-              connections-as {cs = read ∷ []} (record {
-                rows = run-as (run-one 7 n row co wide g h) (is ∙ sym (append-nil (connectionRow p read))) refl;
-                rest = links-as links-read (sym (append-nil pairs)) refl;
-              }) (sym (kept-as (some read) read-is)) (sym (warned-as (some read) read-is))
+      module _ {co po wo : List ℕ} {n p w : ℕ} where
+        -- a road is missing
+        pub read-dropped : {after : List ℕ} → (isSome (attribute 4) && isSome (attribute k)) ≡ false
+            → PutIf (w * 4) (1 ∷ j ∷ c ∷ 0 ∷ []) wo after → length after ≡ length wo
+            → ConnectionsRead (keptConnections t j c) (connectionWarnings t j c) (connectionOuts co n po p wo w)
+            (connectionOuts co n po p after (w + 1))
+        read-dropped missing put kept =
+            read-as (none-read missing)
+            (record {
+              rows = run-none 7 (output co n);
+              rest = record { pairs = run-none 2 (output po p); warnings = run-one 4 _ (output wo w) refl put kept };
+            })
+
+        pub read-kept : (size : ℕ) {p′ w′ : ℕ} {row co′ po′ wo′ : List ℕ}
+            → (isSome (attribute 4) && isSome (attribute k)) ≡ true
+            → LinksRead pairs drops (linkOuts po p wo w) (linkOuts po′ p′ wo′ w′)
+            → row ≡ rowOf p size → p′ ≡ p + size → PutIf (n * 7) row co co′ → length co′ ≡ length co
+            → ConnectionsRead (keptConnections t j c) (connectionWarnings t j c) (connectionOuts co n po p wo w)
+            (connectionOuts co′ (n + 1) po′ p′ wo′ w′)
+        unfolding connectionRow
+        read-kept size {row = row} there links-read row-is sized put kept =
+            let count : size ≡ length pairs = omega (arith, links-read .pairs .count) in
+            let is : row ≡ connectionRow p connection = row-is ∙ ap (rowOf p) count in
+            let wide : length row ≡ 7 = ap length row-is in
+            read-as (some-read there)
+            (record {
+              rows = run-as (run-one 7 row (output co n) wide put kept)
+                  (is ∙ sym (append-nil (connectionRow p connection))) refl;
+              rest = links-as links-read (sym (append-nil pairs)) refl;
+            })

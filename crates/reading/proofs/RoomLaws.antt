@@ -10,7 +10,7 @@ use Rattle.words.proofs.Laws.{total-le, total-more}
 use Rattle.words.proofs.Scans.{row-fits}
 use Rattle.rules.specs.Parts.{counts}
 use Rattle.rules.proofs.Fits.{fit-in}
-use Rattle.reading.specs.Laid.{Low, Ready}
+use Rattle.reading.specs.Laid.{Before, Low, Ready}
 
 -- connection c, after n connections, p pairs and w warnings
 pub record Room (connections links : List ℕ) (c n p w : ℕ) : Type 0 where
@@ -24,38 +24,47 @@ pub record Room (connections links : List ℕ) (c n p w : ℕ) : Type 0 where
 
 pub room : {junctions connections links : List ℕ} {c n p w : ℕ} → Ready junctions connections links
     → c < length connections / 14 → Low connections c n p w → Room connections links c n p w
-room {junctions} {connections} {links} {c} {n} {p} {w} r h l =
-    let a = row-fits (length connections / 14) 14 c h in
-    let b = rows-in (length connections) 14 in
-    let d = fit-in 14 12 13 connections (length links / 4) (r .link-parts) c h in
-    let e = r .link-parts .begins c h in
-    let f = r .few-connections in
-    let g = r .few-links in
-    let x = l .connections-low in
-    let y = l .pairs-low in
-    let z = l .warnings-low in
-    record { row = omega arith; small = omega arith; part = d; few = omega arith; pairs = omega arith; warnings = omega arith; kept = omega arith }
+room {connections = connections} {links = links} {c = c} ready there low =
+    let row-ends = row-fits (length connections / 14) 14 c there in
+    let rows-end = rows-in (length connections) 14 in
+    let part = fit-in 14 12 13 connections (length links / 4) (ready .link-parts) c there in
+    let begins = ready .link-parts .begins c there in
+    record {
+      row = omega arith;
+      small = omega (arith, ready .few-connections);
+      part = part;
+      few = omega (arith, ready .few-links);
+      pairs = omega (arith, low .pairs-low, ready .few-links);
+      warnings = omega (arith, low .warnings-low, ready .few-links, ready .few-connections);
+      kept = omega (arith, low .connections-low, ready .few-connections);
+    }
+
+-- the same connections, counted otherwise
+pub low-at : {connections : List ℕ} {c d n p w : ℕ} → c ≡ d → Low connections c n p w → Low connections d n p w
+low-at {connections} {n = n} {p = p} {w = w} e low = subst (λ (c : ℕ). Low connections c n p w) e low
 
 -- one connection more
 pub low-more : {connections : List ℕ} {c n p w : ℕ} (n′ p′ w′ : ℕ) → Low connections c n p w → n′ ≤ n + 1
     → p′ ≤ p + getD connections (c * 14 + 13) 0 → w′ ≤ w + getD connections (c * 14 + 13) 0 + 1
     → Low connections (c + 1) n′ p′ w′
-low-more {connections} {c} n′ p′ w′ l a b d =
-    let e = total-more c (counts 14 13 connections) in
-    let x = l .connections-low in
-    let y = l .pairs-low in
-    let z = l .warnings-low in
-    record { connections-low = omega arith; pairs-low = omega arith; warnings-low = omega arith }
+low-more {connections} {c} n′ p′ w′ low few-connections few-pairs few-warnings =
+    let next = total-more c (counts 14 13 connections) in
+    record {
+      connections-low = omega (arith, low .connections-low);
+      pairs-low = omega (arith, low .pairs-low);
+      warnings-low = omega (arith, low .warnings-low);
+    }
 
 -- several that add no connection, no pair and a warning each
 pub low-dropped : {connections : List ℕ} {c n p w : ℕ} (k : ℕ) → Low connections c n p w
     → Low connections (c + k) n p (w + k)
-low-dropped {connections} {c} k l =
-    let e = total-le c (c + k) (counts 14 13 connections) (omega arith) in
-    let x = l .connections-low in
-    let y = l .pairs-low in
-    let z = l .warnings-low in
-    record { connections-low = omega arith; pairs-low = omega arith; warnings-low = omega arith }
+low-dropped {connections} {c} k low =
+    let grown = total-le c (c + k) (counts 14 13 connections) (omega arith) in
+    record {
+      connections-low = omega (arith, low .connections-low);
+      pairs-low = omega (arith, low .pairs-low);
+      warnings-low = omega (arith, low .warnings-low);
+    }
 
 -- junction j, whose connections are those of its part, after n connections, p pairs and w warnings
 pub record Ground (junctions connections : List ℕ) (j first count n p w : ℕ) : Type 0 where
@@ -73,23 +82,30 @@ pub ground : {junctions connections links : List ℕ} {j first count n p w : ℕ
     → Low connections (total j (counts 8 7 junctions)) n p w → first ≡ getD junctions (j * 8 + 6) 0
     → count ≡ getD junctions (j * 8 + 7) 0 →
     Ground junctions connections j first count n p w
-ground {junctions} {connections} {links} {j} {first} {count} {n} {p} {w} r h l f g =
-    let a = row-fits (length junctions / 8) 8 j h in
-    let b = rows-in (length junctions) 8 in
-    let d = fit-in 8 6 7 junctions (length connections / 14) (r .connection-parts) j h in
-    let e = r .connection-parts .begins j h in
-    let x : first ≡ total j (counts 8 7 junctions) = omega arith in
-    let s = total-le first (length connections / 14) (counts 14 13 connections) (omega arith) in
-    let t = r .link-parts .whole in
-    let u = total-more j (counts 8 7 junctions) in
-    let v : Low connections first n p w = subst (λ (m : ℕ). Low connections m n p w) (sym x) l in
-    let k = r .few-junctions in
-    let o = r .few-connections in
-    let q = r .few-links in
-    let y = v .warnings-low in
-    record { row = omega arith; small = omega arith; part = omega arith; few = omega arith; start = v; kept = v .connections-low; warnings = omega arith; next = omega arith }
+ground {junctions} {connections} {links} {j} {first} {count} {n} {p} {w} ready there before first-is count-is =
+    let row-ends = row-fits (length junctions / 8) 8 j there in
+    let rows-end = rows-in (length junctions) 8 in
+    let part-there = fit-in 8 6 7 junctions (length connections / 14) (ready .connection-parts) j there in
+    let begins = ready .connection-parts .begins j there in
+    let first-total : first ≡ total j (counts 8 7 junctions) = omega arith in
+    let low : Low connections first n p w = low-at (sym first-total) before in
+    let links-before = total-le first (length connections / 14) (counts 14 13 connections) (omega arith) in
+    let all-links = ready .link-parts .whole in
+    record {
+      row = omega arith;
+      small = omega (arith, ready .few-junctions);
+      part = omega arith;
+      few = omega (arith, ready .few-connections);
+      start = low;
+      kept = low .connections-low;
+      warnings = omega (arith, low .warnings-low, ready .few-connections, ready .few-links);
+      next = omega (arith, total-more j (counts 8 7 junctions));
+    }
 
--- before the first junction, and after the last
-pub low-begin : (junctions connections : List ℕ) → Low connections (total 0 (counts 8 7 junctions)) 0 0 0
-low-begin junctions connections =
-    record { connections-low = omega arith; pairs-low = omega arith; warnings-low = omega arith }
+-- before the first junction
+pub before-all : (junctions connections : List ℕ) → Before junctions connections 0 0 0 0 0
+before-all junctions connections =
+    record {
+      junctions-low = omega arith;
+      low = record { connections-low = omega arith; pairs-low = omega arith; warnings-low = omega arith };
+    }

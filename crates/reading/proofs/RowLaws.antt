@@ -1,29 +1,28 @@
 -- Rows by number: what a loop over rows has written, and the outcome of a call that writes one table.
 use Prim.Native.Nat.{ℕ, zero, suc, _+_, _*_, _/_, _<_, _≤_}
-use mathlib.Core.Path.{_≡_, refl, sym, ap, ap₂, _∙_}
+use mathlib.Core.Path.{_≡_, refl, sym, ap, _∙_}
 use mathlib.Core.List.{List, [], _∷_, _++_, append-assoc, append-nil}
-use mathlib.Core.Bool.{Bool, true, false, _&&_, cond}
-use mathlib.Core.Option.{Option, none, some}
+use mathlib.Core.Bool.{true}
 use native.Mathlib.Nat.{add-zero, suc-mul, zero-mul, mul-div-cancel}
 use native.Mathlib.Numerals.{add-one}
 use native.Mathlib.Omega.{arith}
 use lib.ListN.{length, drop, length-append}
 use lib.Seq.{drop-drop}
-use borrow.Author.Tests.{le-leb, lt-leb}
-use Rattle.model.specs.Calls.{called, longEnough, refused, settled, tableWriting}
+use Rattle.model.specs.Calls.{called, outcome, refused, tableWriting, wrote}
 use Rattle.model.specs.Lists.{gather}
 use Rattle.model.specs.Reading.{partRows, rowAt}
 use Rattle.model.specs.Rows.{rows, table, written}
-use Rattle.model.specs.Rules.{Rule, firstBroken, fits, refusalWord, rule}
-use Rattle.laws.proofs.RulesReversed.{broken-append}
-use Rattle.tables.specs.Verdicts.{refusalOf}
+use Rattle.model.specs.Rules.{Rule, firstBroken}
+use Rattle.tables.specs.Verdicts.{admits, refusalOf}
 use Rattle.tables.specs.declared.verdict.Verdict.{Verdict}
-use Rattle.tables.specs.declared.verdict.Verdict.the-variants.{OutputShort}
-use Rattle.tables.proofs.Order.{first-stays}
+use Rattle.tables.proofs.Called.{all-written, call-admitted, one-fits, one-short, too-short}
 use Rattle.words.specs.Rows.{spliced}
 use Rattle.words.proofs.Laws.{put-step, written-none}
-use Rattle.reading.specs.Answers.{outcomeOf}
-use Rattle.reading.specs.declared.lanes.ReadTable.the-variants.{Refused, Written}
+use Rattle.words.proofs.Scans.{row-fits}
+
+-- row i of n has room in an output that has room for all
+pub row-room : {i n l : ℕ} (w : ℕ) → i < n → n * w ≤ l → i * w + w ≤ l
+row-room {i} {n} w inside room = omega (arith, row-fits n w i inside)
 
 -- ---- rows of a part
 module _ {A : Type 0} (f : ℕ → List A) where
@@ -43,8 +42,8 @@ module _ {A : Type 0} (f : ℕ → List A) where
   pub part-even : (w : ℕ) → ((k : ℕ) → length (f k) ≡ w) → (a n : ℕ) → length (gather f (partRows a n)) ≡ n * w
   part-even w h a zero = sym (zero-mul w)
   part-even w h a (suc n) =
-      let x = length-append (f a) (gather f (partRows (suc a) n)) in
-      let y = h a in let z = part-even w h (suc a) n in let d = suc-mul n w in omega arith
+      let joined = length-append (f a) (gather f (partRows (suc a) n)) in
+      omega (arith, h a, part-even w h (suc a) n, suc-mul n w)
 
   -- a loop over rows of one width begins, and takes a turn
   pub rows-begin : (out : List A) → out ≡ written (gather f (partRows 0 0)) out
@@ -76,53 +75,17 @@ numbered-rows {A} f w ws =
         ∙ ap (λ (m : ℕ). drop m ws) (let e = suc-mul i w in let z : i * w + w ≡ suc i * w = omega arith in z))
         ∙ go n (suc i))
 
--- ---- the outcome of a call
-module _ {O : Type 0} (rs : List Rule) (counts : List ℕ) (new old : O) where
-  -- refused by one of its rules
-  pub settled-refused : (more : List Rule) (v : Verdict) → (refusalOf v ≡ none → ⊥)
-      → refusalOf v ≡ firstBroken rs
-      → record { answer = refused (refusalWord (refusalOf v)); outs = old }
-      ≡ settled (firstBroken (rs ++ more)) counts new old
-  settled-refused more v n e = go (refusalOf v) n (first-stays rs more (refusalOf v) n e)
-    where
-      go : (o : Option ℕ) → (o ≡ none → ⊥) → o ≡ firstBroken (rs ++ more)
-          → record { answer = refused (refusalWord o); outs = old }
-          ≡ settled (firstBroken (rs ++ more)) counts new old
-      go none n e = absurd (n refl)
-      go (some k) n e = ap (λ o. settled o counts new old) e
+-- ---- a call that writes one table of n rows of w words, from what its checks answer
+module _ (w : ℕ) (rules : List Rule) (content out : List ℕ) (n : ℕ) (wide : length content ≡ n * w) (v : Verdict)
+    (free : admits v ≡ true) (first : refusalOf v ≡ firstBroken rules) where
+  pub table-short : length out < n * w → outcome (refused 9) out ≡ called (tableWriting w) rules content out
+  table-short short =
+      too-short (tableWriting w) content out (one-short content out (omega arith))
+      ∙ call-admitted (tableWriting w) rules content out v free first
 
-  -- by none of them: 9, or written
-  pub settled-nine : (contents lengths : List ℕ) (b : Bool) → none ≡ firstBroken rs → fits contents lengths ≡ b
-      → settled (cond b none (some 9)) counts new old
-      ≡ settled (firstBroken (rs ++ longEnough contents lengths)) counts new old
-  settled-nine contents lengths b e h =
-      ap (λ o. settled o counts new old)
-      (sym (broken-append rs (longEnough contents lengths) (sym e)
-      ∙ ap (λ (t : Bool). firstBroken (rule 9 t ∷ [])) h
-      ∙ last b))
-    where
-      last : (b : Bool) → firstBroken (rule 9 b ∷ []) ≡ cond b none (some 9)
-      last true = refl
-      last false = refl
-
--- that of a call that writes one table
-module _ (rs : List Rule) (w : ℕ) (content out : List ℕ) where
-  pub one-refused : (v : Verdict) → (refusalOf v ≡ none → ⊥) → refusalOf v ≡ firstBroken rs
-      → outcomeOf (Refused v) out ≡ called (tableWriting w) rs content out
-  one-refused v n e =
-      settled-refused rs (length content / w ∷ []) (written content out) out
-      (longEnough (length content ∷ []) (length out ∷ [])) v n e
-
-  pub one-short : none ≡ firstBroken rs → length out < length content
-      → outcomeOf (Refused OutputShort) out ≡ called (tableWriting w) rs content out
-  one-short e h =
-      settled-nine rs (length content / w ∷ []) (written content out) out (length content ∷ [])
-      (length out ∷ []) false e (ap (λ (b : Bool). b && true) (lt-leb (length content) (length out) h))
-
-  pub one-written : {n : ℕ} {out′ : List ℕ} → none ≡ firstBroken rs → 0 < w → length content ≡ n * w
-      → length content ≤ length out → out′ ≡ written content out
-      → outcomeOf (Written n) out′ ≡ called (tableWriting w) rs content out
-  one-written {n} {out′} e p c h f =
-      ap₂ (λ (k : ℕ) (o : List ℕ). outcomeOf (Written k) o) (sym (ap (λ (m : ℕ). m / w) c ∙ mul-div-cancel n p)) f
-      ∙ settled-nine rs (length content / w ∷ []) (written content out) out (length content ∷ [])
-      (length out ∷ []) true e (ap (λ (b : Bool). b && true) (le-leb (length content) (length out) h))
+  pub table-written : {after : List ℕ} → 0 < w → n * w ≤ length out → after ≡ written content out
+      → outcome (wrote (n ∷ [])) after ≡ called (tableWriting w) rules content out
+  table-written positive room put =
+      let rows : n ≡ length content / w = sym (ap (λ (m : ℕ). m / w) wide ∙ mul-div-cancel n positive) in
+      all-written (tableWriting w) content out (one-fits content out (omega arith)) (ap (λ (k : ℕ). k ∷ []) rows) put
+      ∙ call-admitted (tableWriting w) rules content out v free first

@@ -1,8 +1,7 @@
 -- What the readings of targets and lanes and the length check answer, with document 01's number and values for
 -- each case. Definitions only.
-use mathlib.Core.List.{List, [], _∷_}
-use Prim.Native.Nat.{ℕ}
-use Rattle.model.specs.Calls.{Answer, Outcome, refused, wrote}
+use mathlib.Core.List.{[], _∷_}
+use Rattle.model.specs.Calls.{Answer, refused, wrote}
 use Rattle.model.specs.Rules.{refusalWord}
 use Rattle.model.specs.Length.{Checked, fine, reported, uneven}
 use Rattle.tables.specs.Verdicts.{refusalOf}
@@ -15,10 +14,6 @@ use Rattle.reading.specs.declared.length.Length.the-variants.{Fine, Off,
 abbrev pub answerOf : ReadTable → Answer
 answerOf (Written n) = wrote (n ∷ [])
 answerOf (Refused v) = refused (refusalWord (refusalOf v))
-
--- the answer, and the output after the call
-abbrev pub outcomeOf : ReadTable → List ℕ → Outcome (List ℕ)
-outcomeOf q out = record { answer = answerOf q; outs = out }
 
 -- ---- the length check: nothing to report, the sum that is reported, or 16
 abbrev pub checkedOf : Length → Checked

@@ -2,7 +2,7 @@
 -- Definitions only.
 use mathlib.Core.List.{List, [], _∷_}
 use Prim.Native.Nat.{ℕ}
-use Rattle.model.specs.Calls.{Answer, Outcome, refused, wrote}
+use Rattle.model.specs.Calls.{Answer, refused, wrote}
 use Rattle.model.specs.ReadingCalls.{JunctionOutputs}
 use Rattle.model.specs.Rules.{refusalWord}
 use Rattle.tables.specs.Verdicts.{refusalOf}
@@ -15,10 +15,6 @@ answerOf (Written n) = wrote (n .junctions ∷ n .connections ∷ n .pairs ∷ n
 answerOf (Refused v) = refused (refusalWord (refusalOf v))
 
 -- the four outputs
-abbrev pub outs : (junctions connections pairs warnings : List ℕ) → JunctionOutputs
-outs junctions connections pairs warnings =
+abbrev pub outputs : (junctions connections pairs warnings : List ℕ) → JunctionOutputs
+outputs junctions connections pairs warnings =
     record { junctions = junctions; connections = connections; pairs = pairs; warnings = warnings }
-
--- the answer, and the outputs after the call
-abbrev pub outcome : ReadJunctions → JunctionOutputs → Outcome JunctionOutputs
-outcome q o = record { answer = answerOf q; outs = o }

@@ -1,14 +1,15 @@
 -- What the readers of lane links, connections and junctions have done: rows counted, and their words put where
 -- an output has room for them. Definitions only.
 use mathlib.Core.Path.{_≡_}
-use mathlib.Core.List.{List, []}
-use Prim.Native.Nat.{ℕ, _+_, _*_, _/_, _≤_}
-use lib.ListN.{length}
+use mathlib.Core.List.{List, [], _∷_}
+use Prim.Native.Nat.{ℕ, _+_, _*_, _/_, _≤_, _<_}
+use lib.ListN.{length, getD}
 use Rattle.model.specs.Lists.{gather}
-use Rattle.model.specs.Reading.{RawTables, ReadWarning, laneLinkWarnings, readPair, readWarningRow, toList}
+use Rattle.model.specs.Reading.{RawTables, ReadWarning, endText, laneLinkWarnings, readPair, readWarningRow}
+use Rattle.model.specs.Reading.{kindAt, reads, toList}
 use Rattle.model.specs.Records.{Connection, Junction, Pair}
 use Rattle.model.specs.Rows.{rowsFrom}
-use Rattle.model.specs.Tables.{connectionRow, junctionRow, pairRow}
+use Rattle.model.specs.Tables.{bit, connectionRow, junctionRow, kindWord, nameIn, pairRow}
 use Rattle.words.specs.Rows.{spliced, total}
 use Rattle.rules.specs.Parts.{Fit, counts}
 
@@ -24,17 +25,63 @@ pairsAt text laneLinks l = toList (readPair (rawTables text [] [] laneLinks) l)
 unfoldable pub dropsAt : (text laneLinks : List ℕ) → (j c l : ℕ) → List ReadWarning
 dropsAt text laneLinks j c l = laneLinkWarnings (rawTables text [] [] laneLinks) j c l
 
--- k rows of w words after n of them: the count after them, and their words, put in where there is room
-pub record Run (w : ℕ) (words : List ℕ) (k n : ℕ) (out : List ℕ) (n′ : ℕ) (out′ : List ℕ) : Type 0 where
-  pub count : n′ ≡ n + k
-  pub wide : length words ≡ k * w
-  pub put : n * w + length words ≤ length out → out′ ≡ spliced (n * w) words out
-  pub kept : length out′ ≡ length out
+-- ---- outputs so far
+-- how many rows an output has, and its words
+pub record Output : Type 0 where
+  pub rows : ℕ
+  pub words : List ℕ
 
--- pairs and warnings, after p and w of them
-pub record LinksRead (ps : List Pair) (ws : List ReadWarning) (p w p′ w′ : ℕ) (po wo po′ wo′ : List ℕ) : Type 0 where
-  pub pairs : Run 2 (gather pairRow ps) (length ps) p po p′ po′
-  pub warnings : Run 4 (gather readWarningRow ws) (length ws) w wo w′ wo′
+-- those of a reader of lane links
+pub record LinkOuts : Type 0 where
+  pub pairs : Output
+  pub warnings : Output
+
+-- of a reader of connections
+pub record ConnectionOuts : Type 0 where
+  pub connections : Output
+  pub rest : LinkOuts
+
+-- of a reader of junctions
+pub record JunctionOuts : Type 0 where
+  pub junctions : Output
+  pub rest : ConnectionOuts
+
+-- built from the words of each and its number of rows, in the order of the code's parameters
+abbrev pub output : List ℕ → ℕ → Output
+output words rows = record { rows = rows; words = words }
+
+abbrev pub linkOuts : List ℕ → ℕ → List ℕ → ℕ → LinkOuts
+linkOuts po p wo w = record { pairs = output po p; warnings = output wo w }
+
+abbrev pub connectionOuts : List ℕ → ℕ → List ℕ → ℕ → List ℕ → ℕ → ConnectionOuts
+connectionOuts co n po p wo w = record { connections = output co n; rest = linkOuts po p wo w }
+
+abbrev pub junctionOuts : List ℕ → ℕ → List ℕ → ℕ → List ℕ → ℕ → List ℕ → ℕ → JunctionOuts
+junctionOuts jo m co n po p wo w = record { junctions = output jo m; rest = connectionOuts co n po p wo w }
+
+-- the row of the connection whose raw row begins at word `at`, its connecting road's name at word k, with `count`
+-- pairs from row `first` on
+abbrev pub connectionRead : (text connections : List ℕ) → (at k first count : ℕ) → List ℕ
+connectionRead text connections at k first count =
+    getD connections (at + 4) 0 ∷ getD connections (at + 4 + 1) 0 ∷ getD connections k 0 ∷ getD connections (k + 1) 0
+    ∷ bit (reads text endText (nameIn connections (at + 10))) ∷ first ∷ count ∷ []
+
+-- ---- what a run of reading leaves: from the outputs `old` to the outputs `new`
+-- a row put into an output from word `at` on, where there is room
+abbrev pub PutIf : (at : ℕ) → (row out after : List ℕ) → Type 0
+PutIf at row out after = at + length row ≤ length out → after ≡ spliced at row out
+
+-- k rows of w words more: they are counted, and put in where there is room
+pub record Run (w : ℕ) (rows : List ℕ) (k : ℕ) (old new : Output) : Type 0 where
+  pub count : new .rows ≡ old .rows + k
+  pub wide : length rows ≡ k * w
+  pub put : PutIf (old .rows * w) rows (old .words) (new .words)
+  pub kept : length (new .words) ≡ length (old .words)
+
+-- these pairs and warnings were read
+pub record LinksRead (ps : List Pair) (ws : List ReadWarning) (old new : LinkOuts) : Type 0 where
+  pub pairs : Run 2 (gather pairRow ps) (length ps) (old .pairs) (new .pairs)
+  pub warnings : Run 4 (gather readWarningRow ws) (length ws) (old .warnings) (new .warnings)
 
 -- the pairs of connections, and the connections of junctions
 abbrev pub pairsOf : List Connection → List Pair
@@ -43,15 +90,17 @@ pairsOf cs = gather (λ c. c .pairs) cs
 abbrev pub connectionsOf : List Junction → List Connection
 connectionsOf js = gather (λ j. j .connections) js
 
--- connections with their pairs, and warnings, after n, p and w of them
-pub record ConnectionsRead (cs : List Connection) (ws : List ReadWarning) (n p w n′ p′ w′ : ℕ) (co po wo co′ po′ wo′ : List ℕ) : Type 0 where
-  pub rows : Run 7 (rowsFrom connectionRow (λ c. c .pairs) p cs) (length cs) n co n′ co′
-  pub rest : LinksRead (pairsOf cs) ws p w p′ w′ po wo po′ wo′
+-- these connections with their pairs, and these warnings
+pub record ConnectionsRead (cs : List Connection) (ws : List ReadWarning) (old new : ConnectionOuts) : Type 0 where
+  pub rows : Run 7 (rowsFrom connectionRow (λ c. c .pairs) (old .rest .pairs .rows) cs) (length cs)
+      (old .connections) (new .connections)
+  pub rest : LinksRead (pairsOf cs) ws (old .rest) (new .rest)
 
--- junctions with their connections and pairs, and warnings, after m, n, p and w of them
-pub record JunctionsRead (js : List Junction) (ws : List ReadWarning) (m n p w m′ n′ p′ w′ : ℕ) (jo co po wo jo′ co′ po′ wo′ : List ℕ) : Type 0 where
-  pub rows : Run 5 (rowsFrom junctionRow (λ j. j .connections) n js) (length js) m jo m′ jo′
-  pub rest : ConnectionsRead (connectionsOf js) ws n p w n′ p′ w′ co po wo co′ po′ wo′
+-- these junctions with their connections and pairs, and these warnings
+pub record JunctionsRead (js : List Junction) (ws : List ReadWarning) (old new : JunctionOuts) : Type 0 where
+  pub rows : Run 5 (rowsFrom junctionRow (λ j. j .connections) (old .rest .connections .rows) js) (length js)
+      (old .junctions) (new .junctions)
+  pub rest : ConnectionsRead (connectionsOf js) ws (old .rest) (new .rest)
 
 -- what 1 and 5 say of the raw tables
 pub record Ready (junctions connections laneLinks : List ℕ) : Type 0 where
@@ -67,3 +116,14 @@ pub record Low (connections : List ℕ) (c n p w : ℕ) : Type 0 where
   pub connections-low : n ≤ c
   pub pairs-low : p ≤ total c (counts 14 13 connections)
   pub warnings-low : w ≤ c + total c (counts 14 13 connections)
+
+-- connections of junction j are read, whose kind is `kind`
+pub record At (t : RawTables) (j kind : ℕ) : Type 0 where
+  pub ready : Ready (t .junctions) (t .connections) (t .laneLinks)
+  pub junction-there : j < length (t .junctions) / 8
+  pub kind-is : kind ≡ kindWord (kindAt t j)
+
+-- the same of the rows before junction j: at most j junctions, and what their connections give
+pub record Before (junctions connections : List ℕ) (j m n p w : ℕ) : Type 0 where
+  pub junctions-low : m ≤ j
+  pub low : Low connections (total j (counts 8 7 junctions)) n p w

@@ -13,8 +13,10 @@ ghost use Prim.Native.Nat.{_+_, _*_, _/_, _≤_, _<_};
 ghost use lib.ListN.{length, getD};
 ghost use Rattle.model.specs.Lists.{gather, isSome};
 ghost use Rattle.model.specs.Tables.{nameIn, kindWord, bit};
-ghost use Rattle.model.specs.Reading.{reads, endText, sameNames, kindRead, kindAt, passedOver, partRows, keptConnections, connectionWarnings};
-ghost use Rattle.reading.specs.Laid.{ConnectionsRead, Low, Ready, rawTables};
+ghost use Rattle.model.specs.Reading.{RawTables, sameNames, kindRead, kindAt, passedOver, partRows};
+ghost use Rattle.model.specs.Reading.{keptConnections, connectionWarnings};
+ghost use Rattle.reading.specs.Laid.{At, ConnectionOuts, ConnectionsRead, Low, connectionOuts, connectionRead};
+ghost use Rattle.reading.specs.Laid.{rawTables};
 
 // How many connections, pairs and warnings there are.
 pub struct Reach {
@@ -62,9 +64,12 @@ fn passed_over(
     c: usize,
     kind: u32,
 ) -> bool
-    requires { ⌜ (j < length (now junctions) / 8) × (c < length (now connections) / 14) × (j < 16384) × (c < 16384) ⌝ }
-    requires { ⌜ kind ≡ kindWord (kindAt (rawTables (now text) (now junctions) (now connections) []) j) ⌝ }
-    ensures { λ q. ⌜ q ≡ passedOver (rawTables (now (text .entry)) (now (junctions .entry)) (now (connections .entry)) []) j c ⌝ }
+    ghost { RawTables }
+    requires { λ t. ⌜ rawTables (now text) (now junctions) (now connections) [] ≡ t ⌝ }
+    requires { λ _. ⌜ (j < length (now junctions) / 8) × (c < length (now connections) / 14) × (j < 16384)
+        × (c < 16384) ⌝ }
+    requires { λ t. ⌜ kind ≡ kindWord (kindAt t j) ⌝ }
+    ensures { λ t q. ⌜ q ≡ passedOver t j c ⌝ }
 {
     if kind != 2 {
         return false;
@@ -96,7 +101,8 @@ fn both_there(ws: &[u32], a: usize, b: usize) -> bool
     !absent_at(ws, b)
 }
 
-// The row of the connection whose raw row begins at word `at` and whose connecting road stands at word k, with `count` pairs from row `first` on.
+// The row of the connection whose raw row begins at word `at` and whose connecting road stands at word k, with `count`
+// pairs from row `first` on.
 fn connection_row(
     text: &[u8],
     connections: &[u32],
@@ -105,8 +111,9 @@ fn connection_row(
     first: usize,
     count: usize,
 ) -> [u32; 7]
-    requires { ⌜ (at + 14 ≤ length (now connections)) × (k + 1 < length (now connections)) × (first ≤ 16384) × (count ≤ 16384) ⌝ }
-    ensures { λ q. ⌜ q ≡ getD (now (connections .entry)) (at + 4) 0 ∷ getD (now (connections .entry)) (at + 4 + 1) 0 ∷ getD (now (connections .entry)) k 0 ∷ getD (now (connections .entry)) (k + 1) 0 ∷ bit (reads (now (text .entry)) endText (nameIn (now (connections .entry)) (at + 10))) ∷ first ∷ count ∷ [] ⌝ }
+    requires { ⌜ (at + 14 ≤ length (now connections)) × (k + 1 < length (now connections)) × (first ≤ 16384)
+        × (count ≤ 16384) ⌝ }
+    ensures { λ q. ⌜ q ≡ connectionRead (now (text .entry)) (now (connections .entry)) at k first count ⌝ }
 {
     let contact = contact_at(text, connections, at + 10);
     [
@@ -136,10 +143,16 @@ fn read_connection(
     wo: &mut [u32],
     w: usize,
 ) -> Reach
-    requires { ⌜ Ready (now junctions) (now connections) (now links) ⌝ }
-    requires { ⌜ kind ≡ kindWord (kindAt (rawTables (now text) (now junctions) (now connections) []) j) ⌝ }
-    requires { ⌜ (j < length (now junctions) / 8) × (c < length (now connections) / 14) × Low (now connections) c n p w ⌝ }
-    ensures { λ q. ⌜ ConnectionsRead (keptConnections (rawTables (now (text .entry)) (now (junctions .entry)) (now (connections .entry)) (now (links .entry))) j c) (connectionWarnings (rawTables (now (text .entry)) (now (junctions .entry)) (now (connections .entry)) (now (links .entry))) j c) n p w (q .connections) (q .pairs) (q .warnings) (now (co .entry)) (now (po .entry)) (now (wo .entry)) (now (co .exit)) (now (po .exit)) (now (wo .exit)) × Low (now (connections .entry)) (c + 1) (q .connections) (q .pairs) (q .warnings) ⌝ }
+    ghost { RawTables × ConnectionOuts }
+    requires { λ α. ⌜ (
+      rawTables (now text) (now junctions) (now connections) (now links),
+      connectionOuts (now co) n (now po) p (now wo) w,
+    ) ≡ α ⌝ }
+    requires { λ α. ⌜ At (α .0) j kind ⌝ }
+    requires { λ _. ⌜ (c < length (now connections) / 14) × Low (now connections) c n p w ⌝ }
+    ensures { λ α q. ⌜ ConnectionsRead (keptConnections (α .0) j c) (connectionWarnings (α .0) j c) (α .1)
+        (connectionOuts (now (co .exit)) (q .connections) (now (po .exit)) (q .pairs) (now (wo .exit)) (q .warnings))
+        × Low (now (connections .entry)) (c + 1) (q .connections) (q .pairs) (q .warnings) ⌝ }
 {
     if passed_over(text, junctions, connections, j, c, kind) {
         return Reach {
@@ -187,10 +200,17 @@ pub fn read_connections(
     wo: &mut [u32],
     w: usize,
 ) -> Reach
-    requires { ⌜ Ready (now junctions) (now connections) (now links) ⌝ }
-    requires { ⌜ kind ≡ kindWord (kindAt (rawTables (now text) (now junctions) (now connections) []) j) ⌝ }
-    requires { ⌜ (j < length (now junctions) / 8) × (first + count ≤ length (now connections) / 14) × Low (now connections) first n p w ⌝ }
-    ensures { λ q. ⌜ ConnectionsRead (gather (keptConnections (rawTables (now (text .entry)) (now (junctions .entry)) (now (connections .entry)) (now (links .entry))) j) (partRows first count)) (gather (connectionWarnings (rawTables (now (text .entry)) (now (junctions .entry)) (now (connections .entry)) (now (links .entry))) j) (partRows first count)) n p w (q .connections) (q .pairs) (q .warnings) (now (co .entry)) (now (po .entry)) (now (wo .entry)) (now (co .exit)) (now (po .exit)) (now (wo .exit)) × Low (now (connections .entry)) (first + count) (q .connections) (q .pairs) (q .warnings) ⌝ }
+    ghost { RawTables × ConnectionOuts }
+    requires { λ α. ⌜ (
+      rawTables (now text) (now junctions) (now connections) (now links),
+      connectionOuts (now co) n (now po) p (now wo) w,
+    ) ≡ α ⌝ }
+    requires { λ α. ⌜ At (α .0) j kind ⌝ }
+    requires { λ _. ⌜ (first + count ≤ length (now connections) / 14) × Low (now connections) first n p w ⌝ }
+    ensures { λ α q. ⌜ ConnectionsRead (gather (keptConnections (α .0) j) (partRows first count))
+        (gather (connectionWarnings (α .0) j) (partRows first count)) (α .1)
+        (connectionOuts (now (co .exit)) (q .connections) (now (po .exit)) (q .pairs) (now (wo .exit)) (q .warnings))
+        × Low (now (connections .entry)) (first + count) (q .connections) (q .pairs) (q .warnings) ⌝ }
 {
     let mut reach = Reach {
         connections: n,

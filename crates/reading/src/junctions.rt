@@ -1,4 +1,5 @@
-// Junctions with their connections and pairs, and the warnings, as the call reads and writes them: a first run counts, a second writes.
+// Junctions with their connections and pairs, and the warnings, as the call reads and writes them: a first run counts,
+// a second writes.
 use crate::attributes::absent_at;
 use crate::attributes::rows_named;
 use crate::connections::kind_at;
@@ -17,13 +18,14 @@ ghost use Prim.Native.Nat.{_+_, _*_, _/_, _≤_, _<_};
 ghost use lib.ListN.{length};
 ghost use Rattle.model.specs.Lists.{gather};
 ghost use Rattle.model.specs.Rules.{firstBroken, fits};
-ghost use Rattle.model.specs.Reading.{partRows, toList, connectionDropped, readWarningRow, readJunction, readJunctions, readWarnings, junctionWarnings};
+ghost use Rattle.model.specs.Calls.{outcome};
+ghost use Rattle.model.specs.Reading.{RawTables, partRows, toList, connectionDropped, readWarningRow, readJunction};
+ghost use Rattle.model.specs.Reading.{readJunctions, readWarnings, junctionWarnings};
 ghost use Rattle.model.specs.ReadingCalls.{rawJunctionRules, readJunctionsCall};
-ghost use Rattle.words.specs.Rows.{total};
-ghost use Rattle.rules.specs.Parts.{counts};
 ghost use Rattle.tables.specs.Verdicts.{refusalOf};
-ghost use Rattle.reading.specs.Laid.{JunctionsRead, Low, Ready, Run, rawTables};
-ghost use Rattle.reading.specs.JunctionAnswers.{outcome, outs};
+ghost use Rattle.reading.specs.Laid.{Before, JunctionOuts, JunctionsRead, Low, Ready, Run, junctionOuts, output};
+ghost use Rattle.reading.specs.Laid.{rawTables};
+ghost use Rattle.reading.specs.JunctionAnswers.{answerOf, outputs};
 
 // How many rows each output has.
 pub struct Rows {
@@ -42,7 +44,8 @@ pub enum ReadJunctions {
 // Warning 1 for each of `count` connections from row `first` on, after w warnings.
 fn drop_all(j: u32, first: usize, count: usize, wo: &mut [u32], w: usize)
     requires { ⌜ (first + count ≤ 16384) × (w + count ≤ 32768) ⌝ }
-    ensures { λ _. ⌜ Run 4 (gather (λ c. readWarningRow (connectionDropped j c)) (partRows first count)) count w (now (wo .entry)) (w + count) (now (wo .exit)) ⌝ }
+    ensures { λ _. ⌜ Run 4 (gather (λ c. readWarningRow (connectionDropped j c)) (partRows first count)) count
+        (output (now (wo .entry)) w) (output (now (wo .exit)) (w + count)) ⌝ }
 {
     let mut k = 0;
     while k < count {
@@ -67,8 +70,18 @@ fn read_junction(
     wo: &mut [u32],
     w: usize,
 ) -> Rows
-    requires { ⌜ Ready (now junctions) (now connections) (now links) × (j < length (now junctions) / 8) × (m ≤ j) × Low (now connections) (total j (counts 8 7 (now junctions))) n p w ⌝ }
-    ensures { λ q. ⌜ JunctionsRead (toList (readJunction (rawTables (now (text .entry)) (now (junctions .entry)) (now (connections .entry)) (now (links .entry))) j)) (junctionWarnings (rawTables (now (text .entry)) (now (junctions .entry)) (now (connections .entry)) (now (links .entry))) j) m n p w (q .junctions) (q .connections) (q .pairs) (q .warnings) (now (jo .entry)) (now (co .entry)) (now (po .entry)) (now (wo .entry)) (now (jo .exit)) (now (co .exit)) (now (po .exit)) (now (wo .exit)) × (q .junctions ≤ j + 1) × Low (now (connections .entry)) (total (j + 1) (counts 8 7 (now (junctions .entry)))) (q .connections) (q .pairs) (q .warnings) ⌝ }
+    ghost { RawTables × JunctionOuts }
+    requires { λ α. ⌜ (
+      rawTables (now text) (now junctions) (now connections) (now links),
+      junctionOuts (now jo) m (now co) n (now po) p (now wo) w,
+    ) ≡ α ⌝ }
+    requires { λ _. ⌜ Ready (now junctions) (now connections) (now links) ⌝ }
+    requires { λ _. ⌜ (j < length (now junctions) / 8) × Before (now junctions) (now connections) j m n p w ⌝ }
+    ensures { λ α q. ⌜ JunctionsRead (toList (readJunction (α .0) j)) (junctionWarnings (α .0) j) (α .1)
+        (junctionOuts (now (jo .exit)) (q .junctions) (now (co .exit)) (q .connections) (now (po .exit)) (q .pairs)
+        (now (wo .exit)) (q .warnings))
+        × Before (now (junctions .entry)) (now (connections .entry)) (j + 1) (q .junctions) (q .connections) (q .pairs)
+        (q .warnings) ⌝ }
 {
     let at = j * 8;
     let first = rows::word(junctions, at + 6);
@@ -124,8 +137,18 @@ fn read_all(
     po: &mut [u32],
     wo: &mut [u32],
 ) -> Rows
-    requires { ⌜ Ready (now junctions) (now connections) (now links) ⌝ }
-    ensures { λ q. ⌜ JunctionsRead (readJunctions (rawTables (now (text .entry)) (now (junctions .entry)) (now (connections .entry)) (now (links .entry)))) (readWarnings (rawTables (now (text .entry)) (now (junctions .entry)) (now (connections .entry)) (now (links .entry)))) 0 0 0 0 (q .junctions) (q .connections) (q .pairs) (q .warnings) (now (jo .entry)) (now (co .entry)) (now (po .entry)) (now (wo .entry)) (now (jo .exit)) (now (co .exit)) (now (po .exit)) (now (wo .exit)) × (q .junctions ≤ 16384) × Low (now (connections .entry)) (length (now (connections .entry)) / 14) (q .connections) (q .pairs) (q .warnings) ⌝ }
+    ghost { RawTables × JunctionOuts }
+    requires { λ α. ⌜ (
+      rawTables (now text) (now junctions) (now connections) (now links),
+      junctionOuts (now jo) 0 (now co) 0 (now po) 0 (now wo) 0,
+    ) ≡ α ⌝ }
+    requires { λ _. ⌜ Ready (now junctions) (now connections) (now links) ⌝ }
+    ensures { λ α q. ⌜ JunctionsRead (readJunctions (α .0)) (readWarnings (α .0)) (α .1)
+        (junctionOuts (now (jo .exit)) (q .junctions) (now (co .exit)) (q .connections) (now (po .exit)) (q .pairs)
+        (now (wo .exit)) (q .warnings))
+        × (q .junctions ≤ 16384)
+        × Low (now (connections .entry)) (length (now (connections .entry)) / 14) (q .connections) (q .pairs)
+        (q .warnings) ⌝ }
 {
     let mut read = Rows {
         junctions: 0,
@@ -158,7 +181,9 @@ fn read_all(
 
 // All refusals but 9.
 fn junctions_verdict(text: &[u8], junctions: &[u32], connections: &[u32], links: &[u32]) -> Verdict
-    ensures { λ q. ⌜ refusalOf q ≡ firstBroken (rawJunctionRules (rawTables (now (text .entry)) (now (junctions .entry)) (now (connections .entry)) (now (links .entry)))) ⌝ }
+    ghost { RawTables }
+    requires { λ t. ⌜ rawTables (now text) (now junctions) (now connections) (now links) ≡ t ⌝ }
+    ensures { λ t q. ⌜ refusalOf q ≡ firstBroken (rawJunctionRules t) ⌝ }
 {
     let a = both(
         raw_sized(text, 8, junctions.len()),
@@ -183,8 +208,10 @@ fn junctions_verdict(text: &[u8], junctions: &[u32], connections: &[u32], links:
 
 // Whether four contents, in rows, fit their outputs, in words.
 fn fit(rows: Rows, junctions: usize, connections: usize, pairs: usize, warnings: usize) -> bool
-    requires { ⌜ (rows .junctions ≤ 16384) × (rows .connections ≤ 16384) × (rows .pairs ≤ 16384) × (rows .warnings ≤ 32768) ⌝ }
-    ensures { λ q. ⌜ q ≡ fits (rows .junctions * 5 ∷ rows .connections * 7 ∷ rows .pairs * 2 ∷ rows .warnings * 4 ∷ []) (junctions ∷ connections ∷ pairs ∷ warnings ∷ []) ⌝ }
+    requires { ⌜ (rows .junctions ≤ 16384) × (rows .connections ≤ 16384) × (rows .pairs ≤ 16384)
+        × (rows .warnings ≤ 32768) ⌝ }
+    ensures { λ q. ⌜ q ≡ fits (rows .junctions * 5 ∷ rows .connections * 7 ∷ rows .pairs * 2 ∷ rows .warnings * 4 ∷ [])
+        (junctions ∷ connections ∷ pairs ∷ warnings ∷ []) ⌝ }
 {
     let x = both(rows.warnings * 4 <= warnings, true);
     let y = both(rows.pairs * 2 <= pairs, x);
@@ -203,7 +230,14 @@ pub fn read_junctions(
     pairs_out: &mut [u32],
     warnings_out: &mut [u32],
 ) -> ReadJunctions
-    ensures { λ q. ⌜ outcome q (outs (now («junctions_out» .exit)) (now («connections_out» .exit)) (now («pairs_out» .exit)) (now («warnings_out» .exit))) ≡ readJunctionsCall (rawTables (now (text .entry)) (now («raw_junctions» .entry)) (now («raw_connections» .entry)) (now («raw_lane_links» .entry))) (outs (now («junctions_out» .entry)) (now («connections_out» .entry)) (now («pairs_out» .entry)) (now («warnings_out» .entry))) ⌝ }
+    ensures { λ q. ⌜ outcome (answerOf q)
+        (outputs (now («junctions_out» .exit)) (now («connections_out» .exit)) (now («pairs_out» .exit))
+        (now («warnings_out» .exit)))
+        ≡ readJunctionsCall
+        (rawTables (now (text .entry)) (now («raw_junctions» .entry)) (now («raw_connections» .entry))
+        (now («raw_lane_links» .entry)))
+        (outputs (now («junctions_out» .entry)) (now («connections_out» .entry)) (now («pairs_out» .entry))
+        (now («warnings_out» .entry))) ⌝ }
 {
     let v = junctions_verdict(text, raw_junctions, raw_connections, raw_lane_links);
     if !admitted(v) {

@@ -9,12 +9,13 @@ use words::tests::both;
 ghost use mathlib.Core.Path.{_≡_};
 ghost use Prim.Native.Nat.{_+_, _*_, _/_, _≤_, _<_};
 ghost use lib.ListN.{length};
+ghost use Rattle.model.specs.Calls.{outcome};
 ghost use Rattle.model.specs.Rows.{written};
 ghost use Rattle.model.specs.Rules.{firstBroken};
 ghost use Rattle.model.specs.Reading.{readLane, rowAt};
 ghost use Rattle.model.specs.ReadingCalls.{rawSized, rawLaneRules, rawLaneContent, readLanesCall};
 ghost use Rattle.tables.specs.Verdicts.{refusalOf};
-ghost use Rattle.reading.specs.Answers.{outcomeOf};
+ghost use Rattle.reading.specs.Answers.{answerOf};
 
 // What a call that writes one table answers: the rows written, or why it was refused.
 pub enum ReadTable {
@@ -44,7 +45,8 @@ fn lane_row(text: &[u8], raw: &[u32], i: usize) -> [u32; 4]
 // Writes the links of all lanes.
 fn put_lanes(text: &[u8], raw: &[u32], out: &mut [u32])
     requires { ⌜ (length (now raw) / 4 ≤ 16384) × (length (now raw) / 4 * 4 ≤ length (now out)) ⌝ }
-    ensures { λ _. ⌜ now (out .exit) ≡ written (rawLaneContent (now (text .entry)) (now (raw .entry))) (now (out .entry)) ⌝ }
+    ensures { λ _. ⌜ now (out .exit)
+        ≡ written (rawLaneContent (now (text .entry)) (now (raw .entry))) (now (out .entry)) ⌝ }
 {
     let n = raw.len() / 4;
     let mut i = 0;
@@ -70,7 +72,8 @@ fn lanes_verdict(text: &[u8], raw: &[u32]) -> Verdict
 
 // Reads lanes: for each raw row, predecessor id and successor id, a flag and number each.
 pub fn read_lanes(text: &[u8], raw: &[u32], out: &mut [u32]) -> ReadTable
-    ensures { λ q. ⌜ outcomeOf q (now (out .exit)) ≡ readLanesCall (now (text .entry)) (now (raw .entry)) (now (out .entry)) ⌝ }
+    ensures { λ q. ⌜ outcome (answerOf q) (now (out .exit))
+        ≡ readLanesCall (now (text .entry)) (now (raw .entry)) (now (out .entry)) ⌝ }
 {
     let v = lanes_verdict(text, raw);
     if !admitted(v) {

@@ -1,4 +1,5 @@
-// The length check: where a road's plan view ends, against the road's length. All f64, each operation rounded once, in the order written in gaps.rs.
+// The length check: where a road's plan view ends, against the road's length. All f64, each operation rounded once, in
+// the order written in gaps.rs.
 ghost use mathlib.Core.Path.{_≡_};
 ghost use Rattle.model.specs.Length.{farOff, lengthCall};
 ghost use Rattle.reading.specs.Answers.{checkedOf};

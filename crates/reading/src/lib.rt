@@ -1,4 +1,5 @@
-// Attribute reading: lane numbers, targets, lanes and junctions from attributes as a file has them; and the length check.
+// Attribute reading: lane numbers, targets, lanes and junctions from attributes as a file has them; and the length
+// check.
 pub mod attributes;
 pub mod connections;
 pub mod junctions;

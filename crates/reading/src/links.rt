@@ -1,4 +1,5 @@
-// Lane links: pairs, and warning 2 for each that has not two numbers. An output without room for a row is left as it is, so that a first run only counts.
+// Lane links: pairs, and warning 2 for each that has not two numbers. An output without room for a row is left as it is,
+// so that a first run only counts.
 use crate::attributes::number_at;
 use words::rows;
 use words::tests::both;
@@ -8,8 +9,7 @@ ghost use Prim.Native.Nat.{_+_, _*_, _/_, _≤_, _<_};
 ghost use lib.ListN.{length};
 ghost use Rattle.model.specs.Lists.{gather};
 ghost use Rattle.model.specs.Reading.{partRows};
-ghost use Rattle.words.specs.Rows.{spliced};
-ghost use Rattle.reading.specs.Laid.{LinksRead, pairsAt, dropsAt};
+ghost use Rattle.reading.specs.Laid.{LinkOuts, LinksRead, PutIf, linkOuts, pairsAt, dropsAt};
 
 // How many pairs and warnings there are.
 pub struct Links {
@@ -20,7 +20,7 @@ pub struct Links {
 // Writes a row, if there is room for it.
 pub fn put_if(out: &mut [u32], at: usize, row: &[u32])
     requires { ⌜ (at ≤ 1048576) × (length (now row) ≤ 7) ⌝ }
-    ensures { λ _. ⌜ (at + length (now (row .entry)) ≤ length (now (out .entry)) → now (out .exit) ≡ spliced at (now (row .entry)) (now (out .entry))) ⌝ }
+    ensures { λ _. ⌜ PutIf at (now (row .entry)) (now (out .entry)) (now (out .exit)) ⌝ }
 {
     if at + row.len() <= out.len() {
         rows::put(out, at, row);
@@ -39,8 +39,13 @@ fn read_link(
     wo: &mut [u32],
     w: usize,
 ) -> Links
-    requires { ⌜ (l < length (now links) / 4) × (l < 16384) × (p ≤ 16384) × (w ≤ 32768) ⌝ }
-    ensures { λ q. ⌜ LinksRead (pairsAt (now (text .entry)) (now (links .entry)) l) (dropsAt (now (text .entry)) (now (links .entry)) j c l) p w (q .pairs) (q .warnings) (now (po .entry)) (now (wo .entry)) (now (po .exit)) (now (wo .exit)) × (q .pairs ≤ p + 1) × (q .warnings ≤ w + 1) ⌝ }
+    ghost { LinkOuts }
+    requires { λ old. ⌜ linkOuts (now po) p (now wo) w ≡ old ⌝ }
+    requires { λ _. ⌜ (l < length (now links) / 4) × (l < 16384) × (p ≤ 16384) × (w ≤ 32768) ⌝ }
+    ensures { λ old q. ⌜ LinksRead (pairsAt (now (text .entry)) (now (links .entry)) l)
+        (dropsAt (now (text .entry)) (now (links .entry)) j c l) old
+        (linkOuts (now (po .exit)) (q .pairs) (now (wo .exit)) (q .warnings))
+        × (q .pairs ≤ p + 1) × (q .warnings ≤ w + 1) ⌝ }
 {
     let from = number_at(text, links, l * 4);
     let to = number_at(text, links, l * 4 + 2);
@@ -71,8 +76,14 @@ pub fn read_links(
     wo: &mut [u32],
     w: usize,
 ) -> Links
-    requires { ⌜ (first + count ≤ length (now links) / 4) × (first + count ≤ 16384) × (p + count ≤ 16384) × (w + count ≤ 32768) ⌝ }
-    ensures { λ q. ⌜ LinksRead (gather (pairsAt (now (text .entry)) (now (links .entry))) (partRows first count)) (gather (dropsAt (now (text .entry)) (now (links .entry)) j c) (partRows first count)) p w (q .pairs) (q .warnings) (now (po .entry)) (now (wo .entry)) (now (po .exit)) (now (wo .exit)) × (q .pairs ≤ p + count) × (q .warnings ≤ w + count) ⌝ }
+    ghost { LinkOuts }
+    requires { λ old. ⌜ linkOuts (now po) p (now wo) w ≡ old ⌝ }
+    requires { λ _. ⌜ (first + count ≤ length (now links) / 4) × (first + count ≤ 16384) × (p + count ≤ 16384)
+        × (w + count ≤ 32768) ⌝ }
+    ensures { λ old q. ⌜ LinksRead (gather (pairsAt (now (text .entry)) (now (links .entry))) (partRows first count))
+        (gather (dropsAt (now (text .entry)) (now (links .entry)) j c) (partRows first count)) old
+        (linkOuts (now (po .exit)) (q .pairs) (now (wo .exit)) (q .warnings))
+        × (q .pairs ≤ p + count) × (q .warnings ≤ w + count) ⌝ }
 {
     let mut at = p;
     let mut warned = w;

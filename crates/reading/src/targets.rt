@@ -15,6 +15,7 @@ use words::tests::most;
 ghost use mathlib.Core.Path.{_≡_};
 ghost use Prim.Native.Nat.{_+_, _*_, _/_, _≤_, _<_};
 ghost use lib.ListN.{length, drop};
+ghost use Rattle.model.specs.Calls.{outcome};
 ghost use Rattle.model.specs.Lists.{every};
 ghost use Rattle.model.specs.Rows.{table, written};
 ghost use Rattle.model.specs.Rules.{firstBroken};
@@ -22,7 +23,7 @@ ghost use Rattle.model.specs.Tables.{targetWords};
 ghost use Rattle.model.specs.Reading.{readTarget, rowAt};
 ghost use Rattle.model.specs.ReadingCalls.{rawTargetWorded, targetRules, targetContent, readTargetsCall};
 ghost use Rattle.tables.specs.Verdicts.{refusalOf};
-ghost use Rattle.reading.specs.Answers.{outcomeOf};
+ghost use Rattle.reading.specs.Answers.{answerOf};
 
 // 2: the raw target from word `at` on.
 fn target_fits(text: &[u8], raw: &[u32], at: usize) -> bool
@@ -75,7 +76,8 @@ fn target_row(text: &[u8], raw: &[u32], i: usize) -> [u32; 7]
 // Writes all targets.
 fn put_targets(text: &[u8], raw: &[u32], out: &mut [u32])
     requires { ⌜ (length (now raw) / 9 ≤ 16384) × (length (now raw) / 9 * 7 ≤ length (now out)) ⌝ }
-    ensures { λ _. ⌜ now (out .exit) ≡ written (targetContent (now (text .entry)) (now (raw .entry))) (now (out .entry)) ⌝ }
+    ensures { λ _. ⌜ now (out .exit)
+        ≡ written (targetContent (now (text .entry)) (now (raw .entry))) (now (out .entry)) ⌝ }
 {
     let n = raw.len() / 9;
     let mut i = 0;
@@ -99,9 +101,11 @@ fn targets_verdict(text: &[u8], raw: &[u32]) -> Verdict
     Verdict::Admitted
 }
 
-// Reads targets: for each raw row, element flag and elementType, elementId, contactPoint and elementS, a target's seven words.
+// Reads targets: for each raw row, element flag and elementType, elementId, contactPoint and elementS, a target's seven
+// words.
 pub fn read_targets(text: &[u8], raw: &[u32], out: &mut [u32]) -> ReadTable
-    ensures { λ q. ⌜ outcomeOf q (now (out .exit)) ≡ readTargetsCall (now (text .entry)) (now (raw .entry)) (now (out .entry)) ⌝ }
+    ensures { λ q. ⌜ outcome (answerOf q) (now (out .exit))
+        ≡ readTargetsCall (now (text .entry)) (now (raw .entry)) (now (out .entry)) ⌝ }
 {
     let v = targets_verdict(text, raw);
     if !admitted(v) {

@@ -16,7 +16,7 @@ use Rattle.model.specs.Tables.{bit, targetIn, targetOf, connectionIn}
 use Rattle.laws.proofs.Encoded.{flag-bit}
 use Rattle.words.specs.Rows.{from, nameAt, span}
 use Rattle.rules.proofs.Forms.{name-at}
-use Rattle.repair.specs.Now.{endNow, endOpt, nowWords, targetNow, roadNow, connectionAt}
+use Rattle.repair.specs.Now.{connectionAt, endNow, endOpt, nowWords, roadNow, targetNow, wordsNow}
 
 -- past the end of a table
 pub at-past : (ws : List ℕ) (k : ℕ) → length ws ≤ k → 0 ≡ getD ws k 0
@@ -85,8 +85,16 @@ now-means roads junctions ends r (suc zero) h =
     ∙ means-at (getD ends (r * 2 + 1) 0) roads junctions r true
 now-means roads junctions ends r (suc (suc e)) h = absurd (omega arith)
 
+-- a target's words, and what they mean, by the word w of its end
+pub by-word : (roads junctions ends : List ℕ) (r e w : ℕ) {q : List ℕ} → e ≤ 1
+    → w ≡ getD ends (r * 2 + e) 0 → q ≡ nowWords w roads junctions (r * 20 + 4 + e * 7) e
+    → (q ≡ wordsNow roads junctions ends r e) × (targetIn q 0 ≡ targetNow roads junctions ends r (eqb e 1))
+by-word roads junctions ends r e w small read words =
+    let all = words ∙ ap (λ (w : ℕ). nowWords w roads junctions (r * 20 + 4 + e * 7) e) read in
+    (all, ap (λ (t : List ℕ). targetIn t 0) all ∙ now-means roads junctions ends r e small)
+
 -- ---- tests of a target's words
-pub names-is : (same : Span → Span → Bool) (j : Span) (p k s n c g a : ℕ)
+names-is : (same : Span → Span → Bool) (j : Span) (p k s n c g a : ℕ)
     → (eqb p 1 && eqb k 1) && same (span s n) j ≡ namesJunction same j (targetOf p k s n c g a)
 names-is same j p k s n c g a = go (eqb p 1)
   where
@@ -98,8 +106,15 @@ names-is same j p k s n c g a = go (eqb p 1)
     go true = refl
     go false = refl
 
+pub names-of : (same : Span → Span → Bool) (j : Span) (ws : List ℕ)
+    → (eqb (getD ws 0 0) 1 && eqb (getD ws 1 0) 1) && same (span (getD ws 2 0) (getD ws 3 0)) j
+    ≡ namesJunction same j (targetIn ws 0)
+names-of same j ws =
+    names-is same j (getD ws 0 0) (getD ws 1 0) (getD ws 2 0) (getD ws 3 0) (getD ws 4 0) (getD ws 5 0)
+    (getD ws 6 0)
+
 module _ (same : Span → Span → Bool) (m : Span) (p k s n c g a : ℕ) where
-  pub back-none : ((eqb p 1 && not (eqb k 1)) && same (span s n) m) && eqb g 1 ≡ false
+  back-none : ((eqb p 1 && not (eqb k 1)) && same (span s n) m) && eqb g 1 ≡ false
       → none ≡ bindO (targetOf p k s n c g a) (backEnd same m)
   unfolding backEnd
   back-none e = go (eqb p 1) e
@@ -112,7 +127,7 @@ module _ (same : Span → Span → Bool) (m : Span) (p k s n c g a : ℕ) where
       go true e = sym (ap (λ b. cond b (some (eqb c 1)) none) e)
       go false e = refl
 
-  pub back-some : ((eqb p 1 && not (eqb k 1)) && same (span s n) m) && eqb g 1 ≡ true
+  back-some : ((eqb p 1 && not (eqb k 1)) && same (span s n) m) && eqb g 1 ≡ true
       → some (eqb c 1) ≡ bindO (targetOf p k s n c g a) (backEnd same m)
   unfolding backEnd
   back-some e = go (eqb p 1) e
@@ -125,6 +140,23 @@ module _ (same : Span → Span → Bool) (m : Span) (p k s n c g a : ℕ) where
       go true e = sym (ap (λ b. cond b (some (eqb c 1)) none) e)
       go false e = absurd (mathlib.Core.Bool.false≢true e)
 
+-- the end plus 1 that a target names
+module _ (same : Span → Span → Bool) (m : Span) (ws : List ℕ) where
+  abbrev pub namesBack : Bool
+  namesBack =
+      ((eqb (getD ws 0 0) 1 && not (eqb (getD ws 1 0) 1)) && same (span (getD ws 2 0) (getD ws 3 0)) m) && eqb
+      (getD ws 5 0) 1
+
+  pub back-nowhere : namesBack ≡ false → none ≡ bindO (targetIn ws 0) (backEnd same m)
+  back-nowhere =
+      back-none same m (getD ws 0 0) (getD ws 1 0) (getD ws 2 0) (getD ws 3 0) (getD ws 4 0) (getD ws 5 0)
+      (getD ws 6 0)
+
+  pub back-there : namesBack ≡ true → some (eqb (getD ws 4 0) 1) ≡ bindO (targetIn ws 0) (backEnd same m)
+  back-there =
+      back-some same m (getD ws 0 0) (getD ws 1 0) (getD ws 2 0) (getD ws 3 0) (getD ws 4 0) (getD ws 5 0)
+      (getD ws 6 0)
+
 -- an end plus 1
 pub end-one : (c : ℕ) → endOpt (1 + bit (eqb c 1)) ≡ some (eqb c 1)
 end-one c = go (eqb c 1)
@@ -134,7 +166,7 @@ end-one c = go (eqb c 1)
     go false = refl
 
 -- is there a target?
-pub present-is : (p k s n c g a : ℕ) → isSome (targetOf p k s n c g a) ≡ eqb p 1
+present-is : (p k s n c g a : ℕ) → isSome (targetOf p k s n c g a) ≡ eqb p 1
 present-is p k s n c g a = go (eqb p 1)
   where
     go : (b : Bool)
@@ -144,6 +176,10 @@ present-is p k s n c g a = go (eqb p 1)
     go true = refl
     go false = refl
 
+pub present-of : (ws : List ℕ) → isSome (targetIn ws 0) ≡ eqb (getD ws 0 0) 1
+present-of ws =
+    present-is (getD ws 0 0) (getD ws 1 0) (getD ws 2 0) (getD ws 3 0) (getD ws 4 0) (getD ws 5 0) (getD ws 6 0)
+
 -- the target at an end of a road now
 pub at-end : (ss roads junctions ends : List ℕ) (r : ℕ) (e : Bool)
     → targetAt e (roadNow ss roads junctions ends r) ≡ targetNow roads junctions ends r e
@@ -152,11 +188,13 @@ at-end ss roads junctions ends r true = refl
 at-end ss roads junctions ends r false = refl
 
 module _ (ss roads junctions ends : List ℕ) (r : ℕ) where
-  pub vacant-is : (e : ℕ) (b : Bool) → isSome (targetNow roads junctions ends r (eqb e 1)) ≡ b
-      → cond b none (some (eqb e 1)) ≡ bindO (endOpt (suc e)) (vacantEnd (roadNow ss roads junctions ends r))
+  -- an end, as its word d, if it is vacant
+  pub vacant-is : (e d : ℕ) (b : Bool) → suc e ≡ d → isSome (targetNow roads junctions ends r (eqb e 1)) ≡ b
+      → cond b none (some (eqb e 1)) ≡ bindO (endOpt d) (vacantEnd (roadNow ss roads junctions ends r))
   unfolding vacantEnd
-  vacant-is e b h =
-      ap (λ x. cond x none (some (eqb e 1))) (sym (ap isSome (at-end ss roads junctions ends r (eqb e 1)) ∙ h))
+  vacant-is e d b word has =
+      ap (λ x. cond x none (some (eqb e 1))) (sym (ap isSome (at-end ss roads junctions ends r (eqb e 1)) ∙ has))
+      ∙ ap (λ (k : ℕ). bindO (endOpt k) (vacantEnd (roadNow ss roads junctions ends r))) word
 
   module _ (same : Span → Span → Bool) (j : Span) where
     pub meets-is : meets same j (roadNow ss roads junctions ends r)

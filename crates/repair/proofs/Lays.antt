@@ -7,20 +7,22 @@ use native.Mathlib.Omega.{arith}
 use lib.ListN.{length, getD, take, drop, length-append, length-drop}
 use lib.Seq.{length-take-le, getD-take, getD-drop, ext-getD}
 use lib.Dec.{eqb}
-use Rattle.model.specs.Lists.{gather, listO}
+use Rattle.model.specs.Lists.{gather}
 use Rattle.model.specs.Records.{Pair, Connection}
 use Rattle.model.specs.Repair.{backAt, swapped}
 use Rattle.model.specs.Rows.{part, rowsFrom}
 use Rattle.model.specs.Tables.{bit, connectionIn, connectionRow, pairIn, pairRow, pairsIn}
 use Rattle.laws.proofs.WordsReversed.{gather-append}
 use Rattle.words.specs.Rows.{tab}
-use Rattle.words.proofs.Laws.{map-tab, tab-at, tab-length, tab-more}
+use Rattle.words.proofs.Laws.{map-tab, tab-at, tab-length, tab-more, total-le}
 use Rattle.words.proofs.Scans.{map-rows}
-use Rattle.rules.proofs.Fits.{fit-in}
+use Rattle.rules.specs.Parts.{counts}
+use Rattle.rules.proofs.Fits.{fit-in, fit-next}
 use Rattle.rules.proofs.Locals.{short}
-use Rattle.repair.specs.Now.{run, endOpt, connectionAt}
+use Rattle.repair.specs.Now.{run, connectionAt}
 use Rattle.repair.proofs.Ends.{end-bit}
-use Rattle.repair.specs.Laying.{Laid, Small, pairAt, rowWords, turnedConnection, turnedPair}
+use Rattle.repair.specs.Laying.{Laid, Pile, RoomFor, RoomForAll, Small, backList, pairAt, pairCount}
+use Rattle.repair.specs.Laying.{pairsBefore, pile, rowWords, turnedConnection, turnedPair, turnedPairs}
 
 -- ---- lists by row numbers
 pub gather-tab : {A B : Type 0} (f : A → List B) (g : ℕ → A) (i : ℕ)
@@ -128,19 +130,19 @@ module _ (pairs ws : List ℕ) (s : Small pairs ws) (c : ℕ) (h : c < length ws
 
   -- one connection laid
   pub lay-one : (b n p f m : ℕ) (cs ps : List ℕ) {cs′ ps′ : List ℕ} → b ≤ 2 → f ≡ getD ws (c * 7 + 5) 0
-      → m ≡ getD ws (c * 7 + 6) 0 → take ((n + 1) * 7) cs′ ≡ take (n * 7) cs ++ rowWords b ws c p →
-      take ((p + m) * 2) ps′ ≡ take (p * 2) ps ++ gather pairRow (run (λ q. turnedPair b (pairAt pairs q)) f m)
-      → Laid (turnedConnection b (connectionAt pairs ws c) ∷ []) n p (n + 1) (p + m) cs ps cs′ ps′
-  lay-one b n p f m cs ps l ef em e g = record {
+      → m ≡ getD ws (c * 7 + 6) 0 → take ((n + 1) * 7) cs′ ≡ take (n * 7) cs ++ rowWords b ws c p
+      → take ((p + m) * 2) ps′ ≡ take (p * 2) ps ++ gather pairRow (turnedPairs b pairs f m)
+      → Laid (turnedConnection b (connectionAt pairs ws c) ∷ []) (pile n p cs ps) (pile (n + 1) (p + m) cs′ ps′)
+  lay-one b n p f m cs ps contact first count row pair-row = record {
     rows = omega arith;
     pair-rows = ap (λ (k : ℕ). p + k)
-        (em ∙ sym (ap length (append-nil (turnedConnection b (connectionAt pairs ws c) .pairs)) ∙ turned-count b));
-    words = e
+        (count ∙ sym (ap length (append-nil (turnedConnection b (connectionAt pairs ws c) .pairs)) ∙ turned-count b));
+    words = row
         ∙ ap (λ (x : List ℕ). take (n * 7) cs ++ x)
-        (sym (append-nil (connectionRow p (turnedConnection b (connectionAt pairs ws c))) ∙ turned-row b p l));
-    pair-words = g
+        (sym (append-nil (connectionRow p (turnedConnection b (connectionAt pairs ws c))) ∙ turned-row b p contact));
+    pair-words = pair-row
         ∙ ap (λ (x : List Pair). take (p * 2) ps ++ gather pairRow x)
-        (ap₂ (run (λ q. turnedPair b (pairAt pairs q))) ef em
+        (ap₂ (turnedPairs b pairs) first count
         ∙ sym (append-nil (turnedConnection b (connectionAt pairs ws c) .pairs) ∙ turned-pairs b));
   }
 
@@ -162,64 +164,81 @@ rows-append row f i (x ∷ xs) ys = ap (λ (l : List ℕ). row i x ++ l) (rows-a
     (add-assoc i (length (f x)) (length (gather f xs))
     ∙ ap (λ (k : ℕ). i + k) (sym (length-append (f x) (gather f xs))))
 
-pub laid-none : (n p : ℕ) (cs ps : List ℕ) → Laid [] n p n p cs ps cs ps
-laid-none n p cs ps =
+pub laid-none : (x : Pile) → Laid [] x x
+laid-none x =
     record {
       rows = omega arith;
       pair-rows = omega arith;
-      words = sym (append-nil (take (n * 7) cs));
-      pair-words = sym (append-nil (take (p * 2) ps));
+      words = sym (append-nil (take (x .rows * 7) (x .words)));
+      pair-words = sym (append-nil (take (x .pair-rows * 2) (x .pair-words)));
     }
 
-pub laid-on : (xs ys : List Connection) (n p n₁ p₁ n₂ p₂ : ℕ) (cs ps cs₁ ps₁ cs₂ ps₂ : List ℕ)
-    → Laid xs n p n₁ p₁ cs ps cs₁ ps₁ → Laid ys n₁ p₁ n₂ p₂ cs₁ ps₁ cs₂ ps₂
-    → Laid (xs ++ ys) n p n₂ p₂ cs ps cs₂ ps₂
-laid-on xs ys n p n₁ p₁ n₂ p₂ cs ps cs₁ ps₁ cs₂ ps₂ a b = record {
-  rows = let e = length-append xs ys in let f = a .rows in let g = b .rows in omega arith;
-  pair-rows = let e = ap length (gather-append pairsOf xs ys)
-      ∙ length-append (gather pairsOf xs) (gather pairsOf ys) in let f = a .pair-rows in let g = b .pair-rows in
-      omega arith;
+pub laid-on : (xs ys : List Connection) {a b c : Pile} → Laid xs a b → Laid ys b c → Laid (xs ++ ys) a c
+laid-on xs ys {a} first second = record {
+  rows = let both = length-append xs ys in omega (arith, both, first .rows, second .rows);
+  pair-rows = let both = ap length (gather-append pairsOf xs ys)
+      ∙ length-append (gather pairsOf xs) (gather pairsOf ys) in
+      omega (arith, both, first .pair-rows, second .pair-rows);
   words =
-      b .words
-      ∙ ap₂ (λ (x : List ℕ) (k : ℕ). x ++ rowsFrom connectionRow pairsOf k ys) (a .words) (a .pair-rows)
-      ∙ append-assoc (take (n * 7) cs) (rowsFrom connectionRow pairsOf p xs)
-      (rowsFrom connectionRow pairsOf (p + length (gather pairsOf xs)) ys)
-      ∙ ap (λ (x : List ℕ). take (n * 7) cs ++ x) (sym (rows-append connectionRow pairsOf p xs ys));
+      second .words
+      ∙ ap₂ (λ (x : List ℕ) (k : ℕ). x ++ rowsFrom connectionRow pairsOf k ys) (first .words) (first .pair-rows)
+      ∙ append-assoc (take (a .rows * 7) (a .words)) (rowsFrom connectionRow pairsOf (a .pair-rows) xs)
+      (rowsFrom connectionRow pairsOf (a .pair-rows + length (gather pairsOf xs)) ys)
+      ∙ ap (λ (x : List ℕ). take (a .rows * 7) (a .words) ++ x)
+      (sym (rows-append connectionRow pairsOf (a .pair-rows) xs ys));
   pair-words =
-      b .pair-words
-      ∙ ap (λ (x : List ℕ). x ++ gather pairRow (gather pairsOf ys)) (a .pair-words)
-      ∙ append-assoc (take (p * 2) ps) (gather pairRow (gather pairsOf xs)) (gather pairRow (gather pairsOf ys))
-      ∙ ap (λ (x : List ℕ). take (p * 2) ps ++ x)
+      second .pair-words
+      ∙ ap (λ (x : List ℕ). x ++ gather pairRow (gather pairsOf ys)) (first .pair-words)
+      ∙ append-assoc (take (a .pair-rows * 2) (a .pair-words)) (gather pairRow (gather pairsOf xs))
+      (gather pairRow (gather pairsOf ys))
+      ∙ ap (λ (x : List ℕ). take (a .pair-rows * 2) (a .pair-words) ++ x)
       (sym (ap (gather pairRow) (gather-append pairsOf xs ys)
       ∙ gather-append pairRow (gather pairsOf xs) (gather pairsOf ys)));
 }
 
+pub laid-same : {xs ys : List Connection} {a b : Pile} → xs ≡ ys → Laid xs a b → Laid ys a b
+laid-same {a = a} {b = b} e laid = subst (λ (l : List Connection). Laid l a b) e laid
+
+pub laid-rows : {xs : List Connection} {a : Pile} {n n′ p : ℕ} {cs ps : List ℕ} → n ≡ n′
+    → Laid xs a (pile n p cs ps) → Laid xs a (pile n′ p cs ps)
+laid-rows {xs} {a} {p = p} {cs = cs} {ps = ps} e laid = subst (λ (n : ℕ). Laid xs a (pile n p cs ps)) e laid
+
 -- a connection more, as read
-pub laid-own : (f : ℕ → Connection) (i n p p₁ p₂ : ℕ) (cs ps cs₁ ps₁ cs₂ ps₂ : List ℕ)
-    → Laid (tab i f) n p (n + i) p₁ cs ps cs₁ ps₁ → Laid (f i ∷ []) (n + i) p₁ (n + i + 1) p₂ cs₁ ps₁ cs₂ ps₂
-    → Laid (tab (i + 1) f) n p (n + (i + 1)) p₂ cs ps cs₂ ps₂
-laid-own f i n p p₁ p₂ cs ps cs₁ ps₁ cs₂ ps₂ a b =
-    let z : n + i + 1 ≡ n + (i + 1) = omega arith in
-    subst (λ (k : ℕ). Laid (tab (i + 1) f) n p k p₂ cs ps cs₂ ps₂) z
-    (subst (λ (l : List Connection). Laid l n p (n + i + 1) p₂ cs ps cs₂ ps₂) (sym (tab-more i f))
-    (laid-on (tab i f) (f i ∷ []) n p (n + i) p₁ (n + i + 1) p₂ cs ps cs₁ ps₁ cs₂ ps₂ a b))
+pub laid-own : (f : ℕ → Connection) (i : ℕ) {a b c : Pile} → Laid (tab i f) a b → Laid (f i ∷ []) b c
+    → Laid (tab (i + 1) f) a c
+laid-own f i before one = laid-same (sym (tab-more i f)) (laid-on (tab i f) (f i ∷ []) before one)
 
 -- what each gives
-pub laid-more : (F : Connection → List Connection) (f : ℕ → Connection) (i n p n₁ p₁ n₂ p₂ : ℕ)
-    (cs ps cs₁ ps₁ cs₂ ps₂ : List ℕ) {xs : List Connection} → Laid (gather F (tab i f)) n p n₁ p₁ cs ps cs₁ ps₁
-    → Laid xs n₁ p₁ n₂ p₂ cs₁ ps₁ cs₂ ps₂ → xs ≡ F (f i) →
-    Laid (gather F (tab (i + 1) f)) n p n₂ p₂ cs ps cs₂ ps₂
-laid-more F f i n p n₁ p₁ n₂ p₂ cs ps cs₁ ps₁ cs₂ ps₂ a b e =
-    subst (λ (l : List Connection). Laid l n p n₂ p₂ cs ps cs₂ ps₂) (sym (gather-tab F f i))
-    (laid-on (gather F (tab i f)) (F (f i)) n p n₁ p₁ n₂ p₂ cs ps cs₁ ps₁ cs₂ ps₂ a
-    (subst (λ (l : List Connection). Laid l n₁ p₁ n₂ p₂ cs₁ ps₁ cs₂ ps₂) e b))
-
-pub laid-same : {xs ys : List Connection} (n p n₁ p₁ : ℕ) (cs ps cs₁ ps₁ : List ℕ) → xs ≡ ys
-    → Laid xs n p n₁ p₁ cs ps cs₁ ps₁ → Laid ys n p n₁ p₁ cs ps cs₁ ps₁
-laid-same n p n₁ p₁ cs ps cs₁ ps₁ e a = subst (λ (l : List Connection). Laid l n p n₁ p₁ cs ps cs₁ ps₁) e a
+pub laid-more : (F : Connection → List Connection) (f : ℕ → Connection) (i : ℕ) {xs : List Connection}
+    {a b c : Pile} → Laid (gather F (tab i f)) a b → Laid xs b c → xs ≡ F (f i)
+    → Laid (gather F (tab (i + 1) f)) a c
+laid-more F f i before one given =
+    laid-same (sym (gather-tab F f i)) (laid-on (gather F (tab i f)) (F (f i)) before (laid-same given one))
 
 -- a connection the other way, by its contact plus 1
 pub back-list : (b : ℕ) (c : Connection) → (b ≡ 0 → ⊥)
-    → turnedConnection b c ∷ [] ≡ listO (endOpt b) (λ e. backAt c e ∷ [])
+    → turnedConnection b c ∷ [] ≡ backList b c
 back-list zero c n = absurd (n refl)
 back-list (suc e) c n = refl
+
+-- ---- the i-th of m connections from first on
+pub pairs-next : (connections : List ℕ) (first i : ℕ)
+    → pairsBefore connections (first + (i + 1))
+    ≡ pairsBefore connections (first + i) + pairCount connections (first + i)
+pairs-next connections first i =
+    let on : first + (i + 1) ≡ first + i + 1 = omega arith in
+    ap (pairsBefore connections) on ∙ fit-next 7 6 connections (first + i)
+
+-- it has room where all have
+pub room-at : {connections : List ℕ} {first m n p : ℕ} → RoomForAll connections first m n p → (i x y b : ℕ) → i < m
+    → x ≤ n + i → y + pairsBefore connections first ≤ p + pairsBefore connections (first + i) → b ≤ 2
+    → RoomFor connections (first + i) b x y
+room-at {connections} {first} {m} {n} {p} room i x y b turn rows pair-rows contact =
+    let next = pairs-next connections first i in
+    let rest = total-le (first + (i + 1)) (first + m) (counts 7 6 connections) (omega arith) in
+    record {
+      inside = omega (arith, turn, room .inside);
+      contact = contact;
+      rows = omega (arith, turn, rows, room .rows);
+      pair-rows = omega (arith, next, rest, pair-rows, room .pair-rows);
+    }

@@ -4,6 +4,7 @@ use mathlib.Core.Bool.{Bool, true, false, cond}
 use mathlib.Core.Option.{Option, none, some}
 use mathlib.Core.List.{List, [], _∷_, _++_, append-nil, append-assoc}
 use Prim.Native.Nat.{ℕ, suc, _+_, _*_, _/_, _≤_, _<_}
+use native.Mathlib.Omega.{arith}
 use lib.ListN.{length, set, take, drop, length-append}
 use lib.Seq.{length-take-le, take-at}
 use lib.Dec.{eqb}
@@ -12,14 +13,16 @@ use Rattle.model.specs.Lists.{amend, bindO, gather, listO}
 use Rattle.model.specs.Records.{Span, Target, Road, Connection, targetAt}
 use Rattle.model.specs.Repair.{Warning, backEnd, linked, linkAtEnd, meets, missingEnd, missingLink}
 use Rattle.model.specs.Repair.{missingLinks, putTarget, roadOf, vacantEnd, warnOne, warnAll}
-use Rattle.model.specs.Tables.{bit, roadIn, mapTables}
-use Rattle.model.specs.Text.{sameIn}
+use Rattle.model.specs.Rules.{same}
+use Rattle.model.specs.Tables.{Tables, bit, roadIn, roadsOf}
 use Rattle.laws.proofs.WordsReversed.{gather-append}
-use Rattle.words.specs.Keys.{bears, nameBefore}
-use Rattle.words.specs.Rows.{any, from, lastOf, nameAt, spliced, tab}
+use Rattle.words.specs.Keys.{nameBefore}
+use Rattle.words.specs.Rows.{any, from, nameAt, spliced, tab}
 use Rattle.words.proofs.Laws.{tab-more}
+use Rattle.rules.specs.ByRow.{roadRowOf}
 use Rattle.rules.proofs.Forms.{name-at, roads-tab}
-use Rattle.repair.specs.Now.{roadNow, roadsNow, connectionAt}
+use Rattle.repair.specs.Now.{junctionName, roadWith, roadsNow, roadsWith, rowConnection}
+use Rattle.repair.specs.Laying.{Linked, shownEnd}
 use Rattle.repair.proofs.Ends.{incoming-is, end-bit}
 use Rattle.repair.proofs.Found.{foundRoad, road-found, amend-row, row-found, now-name, other-roads, this-road}
 
@@ -31,131 +34,123 @@ put-on row buf {a = a} e h l = ap₂ (λ (n : ℕ) (b : List ℕ). take n b) l e
     ∙ take-at (take a buf ++ row) (drop (a + length row) buf) (a + length row)
     (length-append (take a buf) row ∙ ap (λ (n : ℕ). n + length row) (length-take-le a buf h))
 
--- ---- what is found, step by step
-module _ (same : Span → Span → Bool) (rs : List Road) (j : Span) (R : Road) (n m : Span) (ct : Bool) where
-  pub met-already : meets same j R ≡ true
-      → none
-      ≡ cond (meets same j R) none
-      (bindO (bindO (bindO (roadOf same rs n) (targetAt ct)) (backEnd same m)) (vacantEnd R))
-  met-already h =
-      sym (ap (λ b.
-      cond b none (bindO (bindO (bindO (roadOf same rs n) (targetAt ct)) (backEnd same m)) (vacantEnd R))) h)
+-- ---- the end that a connection shows, step by step
+module _ (same : Span → Span → Bool) (rs : List Road) (j : Span) (c : Connection) (R : Road) where
+  abbrev shownBy : Bool → Option Road → Option Bool
+  shownBy met o = cond met none
+      (bindO (bindO (bindO o (targetAt (c .contact))) (backEnd same (c .incoming))) (vacantEnd R))
 
-  pub no-connecting : meets same j R ≡ false → roadOf same rs n ≡ none
-      → none
-      ≡ cond (meets same j R) none
-      (bindO (bindO (bindO (roadOf same rs n) (targetAt ct)) (backEnd same m)) (vacantEnd R))
-  no-connecting h o =
-      sym (ap₂ (λ b x. cond b none (bindO (bindO (bindO x (targetAt ct)) (backEnd same m)) (vacantEnd R))) h o)
+  pub met-already : meets same j R ≡ true → none ≡ shownEnd same rs j c R
+  met-already met = sym (ap (λ b. shownBy b (roadOf same rs (c .connecting))) met)
+
+  pub no-connecting : meets same j R ≡ false → roadOf same rs (c .connecting) ≡ none → none ≡ shownEnd same rs j c R
+  no-connecting apart unknown = sym (ap₂ shownBy apart unknown)
 
   pub ends-back : {q : Option Bool} (S : Road) (T : Option Target) (B : Option Bool) → meets same j R ≡ false
-      → roadOf same rs n ≡ some S → targetAt ct S ≡ T → B ≡ bindO T (backEnd same m) → q ≡ bindO B (vacantEnd R)
-      → q
-      ≡ cond (meets same j R) none
-      (bindO (bindO (bindO (roadOf same rs n) (targetAt ct)) (backEnd same m)) (vacantEnd R))
-  ends-back S T B h o t b v =
-      v
-      ∙ ap (λ x. bindO x (vacantEnd R)) (b ∙ ap (λ x. bindO x (backEnd same m)) (sym t))
-      ∙ sym
-      (ap₂ (λ b x. cond b none (bindO (bindO (bindO x (targetAt ct)) (backEnd same m)) (vacantEnd R))) h o)
+      → roadOf same rs (c .connecting) ≡ some S → targetAt (c .contact) S ≡ T
+      → B ≡ bindO T (backEnd same (c .incoming)) → q ≡ bindO B (vacantEnd R) → q ≡ shownEnd same rs j c R
+  ends-back S T B apart known target back vacant =
+      vacant
+      ∙ ap (λ x. bindO x (vacantEnd R)) (back ∙ ap (λ x. bindO x (backEnd same (c .incoming))) (sym target))
+      ∙ sym (ap₂ shownBy apart known)
 
-module _ (text roads ss junctions connections ps ends : List ℕ) (k c : ℕ)
-    (once : any (length roads / 20) (nameBefore text 20 0 roads) ≡ false) where
-  pub road-is : (f : ℕ) → f ≡ lastOf (length roads / 20) (bears text 20 0 roads (nameAt 7 0 connections c))
-      → roadOf (sameIn text) (roadsNow ss roads junctions ends) (connectionAt ps connections c .incoming)
-      ≡ foundRoad (roadNow ss roads junctions ends) f
-  unfolding roadsNow
-  road-is f e =
-      ap (roadOf (sameIn text) (roadsNow ss roads junctions ends)) (incoming-is ps connections c)
-      ∙ road-found text roads (nameAt 7 0 connections c) once (roadNow ss roads junctions ends)
-      (now-name ss roads junctions ends) f e
+-- ---- connection row c of junction row k
+module _ (t : Tables) (ends : List ℕ)
+    (once : any (length (t .roads) / 20) (nameBefore (t .text) 20 0 (t .roads)) ≡ false) where
+  -- a road by its name's row plus 1
+  pub road-is : (n : Span) (f : ℕ) → f ≡ roadRowOf (t .text) (t .roads) n
+      → roadOf (same t) (roadsWith t ends) n ≡ foundRoad (roadWith t ends) f
+  unfolding roadsNow roadRowOf
+  road-is n f e =
+      road-found (t .text) (t .roads) n once (roadWith t ends)
+      (now-name (t .sections) (t .roads) (t .junctions) ends) f e
 
-  -- the end at which the junction is missing
-  pub end-unknown : 0 ≡ lastOf (length roads / 20) (bears text 20 0 roads (nameAt 7 0 connections c))
-      → missingEnd (sameIn text) (roadsNow ss roads junctions ends) (nameAt 5 0 junctions k)
-      (connectionAt ps connections c) ≡ none
-  unfolding missingEnd
-  end-unknown e = let h = road-is 0 e in rw h
+  module _ (k c : ℕ) where
+    abbrev connection : Connection
+    connection = rowConnection t c
 
-  pub end-known : (r : ℕ) {q : Option Bool}
-      → suc r ≡ lastOf (length roads / 20) (bears text 20 0 roads (nameAt 7 0 connections c)) →
-      q
-      ≡ cond (meets (sameIn text) (nameAt 5 0 junctions k) (roadNow ss roads junctions ends r)) none
-      (bindO (bindO (bindO
-      (roadOf (sameIn text) (roadsNow ss roads junctions ends) (connectionAt ps connections c .connecting))
-      (targetAt (connectionAt ps connections c .contact)))
-      (backEnd (sameIn text) (connectionAt ps connections c .incoming)))
-      (vacantEnd (roadNow ss roads junctions ends r))) →
-      missingEnd (sameIn text) (roadsNow ss roads junctions ends) (nameAt 5 0 junctions k)
-      (connectionAt ps connections c) ≡ q
-  unfolding missingEnd
-  end-known r e b = let h = road-is (suc r) e in rw h (sym b)
+    abbrev incoming : Span
+    incoming = nameAt 7 0 (t .connections) c
 
-  -- nothing is missing
-  module _ (h : missingEnd (sameIn text) (roadsNow ss roads junctions ends) (nameAt 5 0 junctions k) (connectionAt ps connections c) ≡ none)
-    where
-      pub still-roads : roadsNow ss roads junctions ends
-          ≡ missingLink (sameIn text) (nameAt 5 0 junctions k) (connectionAt ps connections c)
-          (roadsNow ss roads junctions ends)
-      unfolding missingLink
-      still-roads =
-          sym (ap (linkAtEnd (sameIn text) (roadsNow ss roads junctions ends) (nameAt 5 0 junctions k)
-          (connectionAt ps connections c)) h)
+    abbrev shows : Option Bool
+    shows = missingEnd (same t) (roadsWith t ends) (junctionName t k) connection
 
-      pub still-warned : (w : List ℕ)
-          → w
-          ≡ w
-          ++ gather (warningRow (mapTables text roads ss junctions connections ps))
-          (warnOne (sameIn text) k (nameAt 5 0 junctions k) (connectionAt ps connections c)
-          (roadsNow ss roads junctions ends))
-      unfolding warnOne
-      still-warned w =
-          sym (ap (λ o.
-          w
-          ++ gather (warningRow (mapTables text roads ss junctions connections ps))
-          (listO o
-          (λ e. record { junctionRow = k; road = connectionAt ps connections c .incoming; atEnd = e } ∷ []))) h
-          ∙ append-nil w)
+    incoming-road : (f : ℕ) → f ≡ roadRowOf (t .text) (t .roads) incoming
+        → roadOf (same t) (roadsWith t ends) (connection .incoming) ≡ foundRoad (roadWith t ends) f
+    incoming-road f found =
+        ap (roadOf (same t) (roadsWith t ends)) (incoming-is (t .pairs) (t .connections) c)
+        ∙ road-is incoming f found
 
-  -- road r is given the junction at end e
-  module _ (r e : ℕ) (small : e ≤ 1) (len : length ends ≡ 32768) (few : r < 16384) (found : suc r ≡ lastOf (length roads / 20) (bears text 20 0 roads (nameAt 7 0 connections c)))
-      (h : missingEnd (sameIn text) (roadsNow ss roads junctions ends) (nameAt 5 0 junctions k)
-      (connectionAt ps connections c) ≡ some (eqb e 1)) where
-    pub linked-roads : roadsNow ss roads junctions (set ends (r * 2 + e) (k + 2))
-        ≡ missingLink (sameIn text) (nameAt 5 0 junctions k) (connectionAt ps connections c)
-        (roadsNow ss roads junctions ends)
-    unfolding missingLink roadsNow
-    linked-roads =
-        sym (ap (linkAtEnd (sameIn text) (roadsNow ss roads junctions ends) (nameAt 5 0 junctions k)
-        (connectionAt ps connections c)) h
-        ∙ ap (λ (n : Span).
-        amend (λ r. sameIn text (r .name) n) (putTarget (eqb e 1) (linked (nameAt 5 0 junctions k) (eqb e 1)))
-        (roadsNow ss roads junctions ends)) (incoming-is ps connections c)
-        ∙ amend-row text roads (nameAt 7 0 connections c) once (roadNow ss roads junctions ends)
-        (now-name ss roads junctions ends) r found
-        (putTarget (eqb e 1) (linked (nameAt 5 0 junctions k) (eqb e 1)))
-        (roadNow ss roads junctions (set ends (r * 2 + bit (eqb e 1)) (k + 2)))
-        (this-road ss roads junctions ends r k (eqb e 1) len few)
-        (other-roads ss roads junctions ends r k (eqb e 1) len few)
-        ∙ ap (λ (b : ℕ). roadsNow ss roads junctions (set ends (r * 2 + b) (k + 2))) (end-bit e small))
+    -- the end at which the junction is missing
+    pub end-unknown : 0 ≡ roadRowOf (t .text) (t .roads) incoming → shows ≡ none
+    unfolding missingEnd
+    end-unknown found = let unknown = incoming-road 0 found in rw unknown
 
-    pub linked-warned : gather (warningRow (mapTables text roads ss junctions connections ps))
-        (warnOne (sameIn text) k (nameAt 5 0 junctions k) (connectionAt ps connections c)
-        (roadsNow ss roads junctions ends)) ≡ 3 ∷ k ∷ r ∷ e ∷ []
-    unfolding warnOne warningRow roadIn
-    linked-warned =
-        ap (λ o.
-        gather (warningRow (mapTables text roads ss junctions connections ps))
-        (listO o
-        (λ e. record { junctionRow = k; road = connectionAt ps connections c .incoming; atEnd = e } ∷ []))) h
-        ∙ ap₂ (λ (a b : ℕ). 3 ∷ k ∷ a ∷ b ∷ []) row (end-bit e small)
-      where
-        row : rowNamed (sameIn text) (Rattle.model.specs.Tables.roadsIn ss roads)
-            (connectionAt ps connections c .incoming) ≡ r
-        row =
-            ap₂ (rowNamed (sameIn text)) (roads-tab roads ss) (incoming-is ps connections c)
-            ∙ row-found text roads (nameAt 7 0 connections c) once (λ i. roadIn ss (from 20 roads i))
-            (name-at 20 0 roads) r found
+    pub end-known : (r : ℕ) {q : Option Bool} → suc r ≡ roadRowOf (t .text) (t .roads) incoming
+        → q ≡ shownEnd (same t) (roadsWith t ends) (junctionName t k) connection (roadWith t ends r) → shows ≡ q
+    unfolding missingEnd
+    end-known r found shown = let known = incoming-road (suc r) found in rw known (sym shown)
+
+    abbrev warningAt : Option Bool → List Warning
+    warningAt o = listO o (λ e. record { junctionRow = k; road = connection .incoming; atEnd = e } ∷ [])
+
+    one-warned : {o : Option Bool} → shows ≡ o
+        → warnAll (same t) k (junctionName t k) (connection ∷ []) (roadsWith t ends) ≡ warningAt o
+    unfolding warnOne
+    one-warned shown = append-nil _ ∙ ap warningAt shown
+
+    -- nothing is missing
+    pub linked-none : (w : ℕ) (warn : List ℕ) → shows ≡ none → Linked t k (connection ∷ []) ends ends w w warn warn
+    unfolding missingLink
+    linked-none w warn shown = record {
+      roads = sym (ap (linkAtEnd (same t) (roadsWith t ends) (junctionName t k) connection) shown);
+      warned = sym (ap (λ (ws : List Warning). take (w * 4) warn ++ gather (warningRow t) ws) (one-warned shown)
+          ∙ append-nil (take (w * 4) warn));
+    }
+
+    -- road r is given the junction at end e
+    module _ (r e : ℕ) (small : e ≤ 1) (long : length ends ≡ 32768) (few : r < 16384)
+        (found : suc r ≡ roadRowOf (t .text) (t .roads) incoming) (shown : shows ≡ some (eqb e 1)) where
+      linked-roads : roadsWith t (set ends (r * 2 + e) (k + 2))
+          ≡ missingLink (same t) (junctionName t k) connection (roadsWith t ends)
+      unfolding missingLink roadsNow roadRowOf
+      linked-roads =
+          let link = putTarget (eqb e 1) (linked (junctionName t k) (eqb e 1)) in
+          sym (ap (linkAtEnd (same t) (roadsWith t ends) (junctionName t k) connection) shown
+          ∙ ap (λ (n : Span). amend (λ r. same t (r .name) n) link (roadsWith t ends))
+          (incoming-is (t .pairs) (t .connections) c)
+          ∙ amend-row (t .text) (t .roads) incoming once (roadWith t ends)
+          (now-name (t .sections) (t .roads) (t .junctions) ends) r found link
+          (roadWith t (set ends (r * 2 + bit (eqb e 1)) (k + 2)))
+          (this-road (t .sections) (t .roads) (t .junctions) ends r k (eqb e 1) long few)
+          (other-roads (t .sections) (t .roads) (t .junctions) ends r k (eqb e 1) long few)
+          ∙ ap (λ (b : ℕ). roadsWith t (set ends (r * 2 + b) (k + 2))) (end-bit e small))
+
+      row-is : rowNamed (same t) (roadsOf t) (connection .incoming) ≡ r
+      unfolding roadIn roadRowOf
+      row-is =
+          ap₂ (rowNamed (same t)) (roads-tab (t .roads) (t .sections)) (incoming-is (t .pairs) (t .connections) c)
+          ∙ row-found (t .text) (t .roads) incoming once (λ i. roadIn (t .sections) (from 20 (t .roads) i))
+          (name-at 20 0 (t .roads)) r found
+
+      warning-is : gather (warningRow t)
+          (warnAll (same t) k (junctionName t k) (connection ∷ []) (roadsWith t ends)) ≡ 3 ∷ k ∷ r ∷ e ∷ []
+      unfolding warningRow
+      warning-is =
+          ap (gather (warningRow t)) (one-warned shown)
+          ∙ ap₂ (λ (a b : ℕ). 3 ∷ k ∷ a ∷ b ∷ []) row-is (end-bit e small)
+
+      pub linked-one : (w : ℕ) (warn : List ℕ) {warn′ : List ℕ} → w * 4 + 4 ≤ length warn
+          → warn′ ≡ spliced (w * 4) (3 ∷ k ∷ r ∷ e ∷ []) warn
+          → Linked t k (connection ∷ []) ends (set ends (r * 2 + e) (k + 2)) w (w + 1) warn warn′
+      linked-one w warn room put =
+          let row-end : (w + 1) * 4 ≡ w * 4 + 4 = omega arith in
+          let before : w * 4 ≤ length warn = omega arith in
+          record {
+            roads = linked-roads;
+            warned = put-on (3 ∷ k ∷ r ∷ e ∷ []) warn put before row-end
+                ∙ ap (λ (l : List ℕ). take (w * 4) warn ++ l) (sym warning-is);
+          }
 
 -- ---- one connection more
 module _ (same : Span → Span → Bool) (j : Span) where
@@ -166,32 +161,44 @@ module _ (same : Span → Span → Bool) (j : Span) where
 
   warn-snoc : (k : ℕ) (xs : List Connection) (x : Connection) (rs : List Road)
       → warnAll same k j (xs ++ (x ∷ [])) rs
-      ≡ warnAll same k j xs rs ++ warnOne same k j x (missingLinks same j xs rs)
-  warn-snoc k [] x rs = append-nil (warnOne same k j x rs)
+      ≡ warnAll same k j xs rs ++ warnAll same k j (x ∷ []) (missingLinks same j xs rs)
+  warn-snoc k [] x rs = refl
   warn-snoc k (y ∷ xs) x rs =
       ap (λ (l : List Warning). warnOne same k j y rs ++ l) (warn-snoc k xs x (missingLink same j y rs))
       ∙ sym (append-assoc (warnOne same k j y rs) (warnAll same k j xs (missingLink same j y rs))
-      (warnOne same k j x (missingLinks same j xs (missingLink same j y rs))))
+      (warnAll same k j (x ∷ []) (missingLinks same j xs (missingLink same j y rs))))
 
-  module _ (f : ℕ → Connection) (i : ℕ) (rs : List Road) where
-    pub links-more : {now next : List Road} → now ≡ missingLinks same j (tab i f) rs
-        → next ≡ missingLink same j (f i) now → next ≡ missingLinks same j (tab (i + 1) f) rs
-    links-more e h =
-        h
-        ∙ ap (missingLink same j (f i)) e
-        ∙ sym
-        (ap (λ (l : List Connection). missingLinks same j l rs) (tab-more i f) ∙ links-snoc (tab i f) (f i) rs)
+pub linked-start : (t : Tables) (k : ℕ) (ends : List ℕ) (w : ℕ) (warn : List ℕ) → Linked t k [] ends ends w w warn warn
+linked-start t k ends w warn = record { roads = refl; warned = sym (append-nil (take (w * 4) warn)) }
 
-    pub warned-more : (k : ℕ) (W : Warning → List ℕ) {now : List Road} (start : List ℕ) {words words′ : List ℕ}
-        → now ≡ missingLinks same j (tab i f) rs → words ≡ start ++ gather W (warnAll same k j (tab i f) rs)
-        → words′ ≡ words ++ gather W (warnOne same k j (f i) now) →
-        words′ ≡ start ++ gather W (warnAll same k j (tab (i + 1) f) rs)
-    warned-more k W start n e h =
-        h ∙ ap₂ (λ (a b : List ℕ). a ++ b) e (ap (λ (l : List Road). gather W (warnOne same k j (f i) l)) n)
-        ∙ append-assoc start (gather W (warnAll same k j (tab i f) rs))
-        (gather W (warnOne same k j (f i) (missingLinks same j (tab i f) rs)))
-        ∙ ap (λ (l : List ℕ). start ++ l)
-        (sym (ap (λ (l : List Connection). gather W (warnAll same k j l rs)) (tab-more i f)
-        ∙ ap (gather W) (warn-snoc k (tab i f) (f i) rs)
-        ∙ gather-append W (warnAll same k j (tab i f) rs)
-        (warnOne same k j (f i) (missingLinks same j (tab i f) rs))))
+pub linked-more : (t : Tables) (k : ℕ) (f : ℕ → Connection) (i : ℕ) {ends ends₁ ends₂ : List ℕ} {w w₁ w₂ : ℕ}
+    {warn warn₁ warn₂ : List ℕ} → Linked t k (tab i f) ends ends₁ w w₁ warn warn₁
+    → Linked t k (f i ∷ []) ends₁ ends₂ w₁ w₂ warn₁ warn₂
+    → Linked t k (tab (i + 1) f) ends ends₂ w w₂ warn warn₂
+linked-more t k f i {ends} {w = w} {warn = warn} before one = record {
+  roads =
+      one .roads
+      ∙ ap (missingLink (same t) j (f i)) (before .roads)
+      ∙ sym (ap (λ (l : List Connection). missingLinks (same t) j l rs) (tab-more i f)
+      ∙ links-snoc (same t) j (tab i f) (f i) rs);
+  warned =
+      one .warned
+      ∙ ap₂ (λ (a : List ℕ) (l : List Road). a ++ gather W (warnAll (same t) k j (f i ∷ []) l)) (before .warned)
+      (before .roads)
+      ∙ append-assoc (take (w * 4) warn) (gather W (warnAll (same t) k j (tab i f) rs))
+      (gather W (warnAll (same t) k j (f i ∷ []) (missingLinks (same t) j (tab i f) rs)))
+      ∙ ap (λ (l : List ℕ). take (w * 4) warn ++ l)
+      (sym (ap (λ (l : List Connection). gather W (warnAll (same t) k j l rs)) (tab-more i f)
+      ∙ ap (gather W) (warn-snoc (same t) j k (tab i f) (f i) rs)
+      ∙ gather-append W (warnAll (same t) k j (tab i f) rs)
+      (warnAll (same t) k j (f i ∷ []) (missingLinks (same t) j (tab i f) rs))));
+}
+  where
+    j : Span
+    j = junctionName t k
+
+    rs : List Road
+    rs = roadsWith t ends
+
+    W : Warning → List ℕ
+    W = warningRow t

@@ -17,11 +17,11 @@ use Rattle.model.specs.Records.{Connection, Junction, Road}
 use Rattle.model.specs.Repair.{junctionsOver, repair, roadsOver, startRoads, warnOver, warnings, withoutAlong}
 use Rattle.model.specs.Rows.{part, partsFit, rowsFrom, table, word, written}
 use Rattle.model.specs.Rules.{connectionPartsFit, firstBroken, fits, junctionWorded, connectionWorded, mapSized}
-use Rattle.model.specs.Rules.{mapWorded, pairPartsFit, refusalWord, roadWorded, sized}
+use Rattle.model.specs.Rules.{mapWorded, pairPartsFit, roadWorded, same, sized}
 use Rattle.model.specs.Tables.{Tables, allConnections, allPairs, connectionIn, connectionRow, connectionWords}
 use Rattle.model.specs.Tables.{connectionsIn, junctionIn, junctionRow, junctionWords, junctionsIn, kindOf}
-use Rattle.model.specs.Tables.{mapOf, mapTables, pairRow, pairWords, pairsIn, roadWords, roadsIn, spanIn}
-use Rattle.model.specs.Text.{placed, sameIn}
+use Rattle.model.specs.Tables.{mapOf, pairRow, pairWords, pairsIn, roadWords, roadsOf, spanIn}
+use Rattle.model.specs.Text.{placed}
 use Rattle.laws.proofs.RulesReversed.{all-pass}
 use Rattle.words.specs.Keys.{nameBefore}
 use Rattle.words.specs.Rows.{any, from, tab}
@@ -31,11 +31,11 @@ use Rattle.rules.proofs.Counts.{few, junctions-few, sized-few}
 use Rattle.rules.proofs.Forms.{name-at, roads-once}
 use Rattle.rules.proofs.Locals.{junction-local, short}
 use Rattle.tables.proofs.Order.{not-none, parts-of}
-use Rattle.repair.specs.Now.{connectionAt, junctionAt, roadsNow}
-use Rattle.repair.specs.Laying.{Joined, Over, Small}
+use Rattle.repair.specs.Now.{connectionAt, junctionAt, roadsWith, rowJunction}
+use Rattle.repair.specs.Laying.{Joined, Over, Small, State}
 use Rattle.rules.specs.Parts.{Fit}
-use Rattle.repair.specs.Along.{roadNowWords}
-use Rattle.repair.specs.Answers.{contentNow, outputs}
+use Rattle.repair.specs.Along.{roadsBegun}
+use Rattle.repair.specs.Answers.{Begun, contentNow, outputs}
 use Rattle.repair.proofs.Lays.{part-tab}
 use Rattle.rules.proofs.Fits.{fit-in, fit-of}
 use Rattle.repair.proofs.RoadWords.{words-now}
@@ -96,80 +96,68 @@ junction-one : (pairs connections junctions : List ℕ) → Joined junctions con
     → junctionIn (connectionsIn pairs connections) (from 5 junctions k)
     ≡ junctionAt pairs connections junctions k
 unfolding junctionIn junctionAt
-junction-one pairs connections junctions j k h =
-    let c = ap₂ (λ (a b : ℕ). part a b (connectionsIn pairs connections)) (getD-drop (k * 5) junctions 3 0) (getD-drop (k * 5) junctions 4 0) ∙ ap (part (getD junctions (k * 5 + 3) 0) (getD junctions (k * 5 + 4) 0)) (connections-tab pairs connections)
-    ∙ part-tab (length connections / 7) (connectionAt pairs connections) (getD junctions (k * 5 + 3) 0)
-    (getD junctions (k * 5 + 4) 0) (fit-in 5 3 4 junctions (length connections / 7) (j .fit) k h) in
+junction-one pairs connections junctions joined k inside =
+    let first = getD junctions (k * 5 + 3) 0 in
+    let count = getD junctions (k * 5 + 4) 0 in
+    let own =
+    ap₂ (λ (a b : ℕ). part a b (connectionsIn pairs connections)) (getD-drop (k * 5) junctions 3 0)
+    (getD-drop (k * 5) junctions 4 0)
+    ∙ ap (part first count) (connections-tab pairs connections)
+    ∙ part-tab (length connections / 7) (connectionAt pairs connections) first count
+    (fit-in 5 3 4 junctions (length connections / 7) (joined .fit) k inside) in
     λ i.
     record
-    { name = name-at 5 0 junctions k i; kind = kindOf (getD-drop (k * 5) junctions 2 0 i); connections = c i }
+    { name = name-at 5 0 junctions k i; kind = kindOf (getD-drop (k * 5) junctions 2 0 i); connections = own i }
 
 pub junctions-tab : (pairs connections junctions : List ℕ) → Joined junctions connections
     → junctionsIn pairs connections junctions
     ≡ tab (length junctions / 5) (junctionAt pairs connections junctions)
 unfolding junctionsIn junctionIn
-junctions-tab pairs connections junctions j =
+junctions-tab pairs connections junctions joined =
     map-rows 5 junctions (junctionIn (connectionsIn pairs connections)) (λ l. simp (short 5 l))
     ∙ tab-same (length junctions / 5) (λ k. junctionIn (connectionsIn pairs connections) (from 5 junctions k))
-    (junctionAt pairs connections junctions) one
-  where
-    one : (k : ℕ) → k < length junctions / 5
-        → junctionIn (connectionsIn pairs connections) (from 5 junctions k)
-        ≡ junctionAt pairs connections junctions k
-    one k h = junction-one pairs connections junctions j k h
+    (junctionAt pairs connections junctions) (junction-one pairs connections junctions joined)
 
 -- ---- what is written is what repair has to write
-module _ (text roads ss junctions connections pairs : List ℕ) (j : Joined junctions connections) where
-  abbrev t : Tables
-  t = mapTables text roads ss junctions connections pairs
+module _ (t : Tables) (joined : Joined (t .junctions) (t .connections)) where
+  list : tab (length (t .junctions) / 5) (rowJunction t) ≡ mapOf t .junctions
+  unfolding mapOf
+  list = sym (junctions-tab (t .pairs) (t .connections) (t .junctions) joined)
 
-  pub start-is : (ends : List ℕ)
-      → roadsNow ss roads junctions ends
-      ≡ map (withoutAlong (sameIn text) (tab (length junctions / 5) (junctionAt pairs connections junctions)))
-      (roadsIn ss roads) → roadsNow ss roads junctions ends ≡ startRoads (sameIn text) (mapOf t)
+  pub start-is : {rs : List Road} → rs ≡ roadsBegun t → rs ≡ startRoads (same t) (mapOf t)
   unfolding startRoads mapOf
-  start-is ends e =
-      e
-      ∙ ap (λ (js : List Junction). map (withoutAlong (sameIn text) js) (roadsIn ss roads))
-      (sym (junctions-tab pairs connections junctions j))
+  start-is begun = begun ∙ ap (λ (js : List Junction). map (withoutAlong (same t) js) (roadsOf t)) list
 
-  module _ (worded : every (roadWorded text) (table 20 roads) ≡ true) (fit : Fit 20 18 19 roads (length ss)) (ends₀ ends : List ℕ) (n p w : ℕ) (js cs₀ ps₀ cs ps warn : List ℕ)
-      (start : roadsNow ss roads junctions ends₀ ≡ startRoads (sameIn text) (mapOf t))
-      (o : Over (sameIn text) (warningRow t) (junctionAt pairs connections junctions)
-      (roadsNow ss roads junctions ends₀) (roadsNow ss roads junctions ends) (length junctions / 5) n p w js
-      cs₀ ps₀ cs ps warn) where
-    list : tab (length junctions / 5) (junctionAt pairs connections junctions) ≡ mapOf t .junctions
-    unfolding mapOf
-    list = sym (junctions-tab pairs connections junctions j)
+  module _ (worded : every (roadWorded (t .text)) (table 20 (t .roads)) ≡ true) {ends cs ps : List ℕ}
+      {after : State} (begun : Begun t ends) (over : Over t (length (t .junctions) / 5) ends cs ps after) where
+    repaired : junctionsOver (same t) (tab (length (t .junctions) / 5) (rowJunction t)) (roadsWith t ends)
+        ≡ junctionsOver (same t) (mapOf t .junctions) (startRoads (same t) (mapOf t))
+    repaired = ap₂ (junctionsOver (same t)) list (begun .roads)
 
-    after : junctionsOver (sameIn text) (tab (length junctions / 5) (junctionAt pairs connections junctions))
-        (roadsNow ss roads junctions ends₀)
-        ≡ junctionsOver (sameIn text) (mapOf t .junctions) (startRoads (sameIn text) (mapOf t))
-    after = ap₂ (junctionsOver (sameIn text)) list start
-
-    pub content-is : contentNow roads junctions ends js cs ps warn n p w ≡ repairContent t
+    pub content-is : contentNow (t .roads) (t .junctions) (after .ends) (after .junction-words)
+        (after .pile .words) (after .pile .pair-words) (after .warning-words) (after .pile .rows)
+        (after .pile .pair-rows) (after .warnings) ≡ repairContent t
     unfolding repairContent repair warnings junctionWords connectionWords pairWords allConnections allPairs
     content-is =
-        let a =
-        sym (words-now text ss roads junctions ends worded fit)
-        ∙ ap roadWords (o .roads ∙ ap₂ (roadsOver (sameIn text)) list start) in
-        let b = o .rows ∙ ap (rowsFrom junctionRow (λ (x : Junction). x .connections) 0) after in
-        let c =
-        o .laid .words
+        let roads =
+        sym (words-now (t .text) (t .sections) (t .roads) (t .junctions) (after .ends) worded (begun .fit))
+        ∙ ap roadWords (over .roads ∙ ap₂ (roadsOver (same t)) list (begun .roads)) in
+        let junctions = over .rows ∙ ap (rowsFrom junctionRow (λ (x : Junction). x .connections) 0) repaired in
+        let connections =
+        over .laid .words
         ∙ ap (λ (l : List Junction).
         rowsFrom connectionRow (λ (x : Connection). x .pairs) 0
-        (gather (λ (x : Junction). x .connections) l)) after in
-        let d =
-        o .laid .pair-words
+        (gather (λ (x : Junction). x .connections) l)) repaired in
+        let pairs =
+        over .laid .pair-words
         ∙ ap (λ (l : List Junction).
         gather pairRow
-        (gather (λ (x : Connection). x .pairs) (gather (λ (x : Junction). x .connections) l))) after in
-        let e =
-        o .warned
-        ∙ ap₂
-        (λ (l : List Junction) (rs : List Road). gather (warningRow t) (warnOver (sameIn text) 0 l rs))
-        list start in
-        λ i. outputs (a i) (b i) (c i) (d i) (e i)
+        (gather (λ (x : Connection). x .pairs) (gather (λ (x : Junction). x .connections) l))) repaired in
+        let warned =
+        over .warned
+        ∙ ap₂ (λ (l : List Junction) (rs : List Road). gather (warningRow t) (warnOver (same t) 0 l rs)) list
+        (begun .roads) in
+        λ i. outputs (roads i) (junctions i) (connections i) (pairs i) (warned i)
 
 -- what an admission says
 pub record Ready (t : Tables) : Type 0 where

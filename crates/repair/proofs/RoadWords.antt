@@ -25,7 +25,7 @@ use Rattle.words.specs.Rows.{from, nameAt, span, tab, total}
 use Rattle.words.proofs.Laws.{total-more, total-none}
 use Rattle.words.proofs.Scans.{all-at, every-rows}
 use Rattle.rules.proofs.Locals.{road-local}
-use Rattle.repair.specs.Now.{endNow, nowWords, roadNow, roadsNow, targetNow}
+use Rattle.repair.specs.Now.{endNow, nowWords, roadNow, roadsNow, targetNow, wordsNow}
 use Rattle.rules.specs.Parts.{Fit, counts}
 use Rattle.repair.specs.Along.{roadNowWords}
 use Rattle.repair.proofs.Lays.{rows-append}
@@ -46,7 +46,7 @@ now-width zero roads junctions a e = refl
 now-width (suc zero) roads junctions a e = refl
 now-width (suc (suc k)) roads junctions a e = refl
 
-pub seven : (w : ℕ) (roads junctions : List ℕ) (a e : ℕ) (t rest : List ℕ) → t ≡ nowWords w roads junctions a e
+seven : (w : ℕ) (roads junctions : List ℕ) (a e : ℕ) (t rest : List ℕ) → t ≡ nowWords w roads junctions a e
     → getD t 0 0 ∷ getD t 1 0 ∷ getD t 2 0 ∷ getD t 3 0 ∷ getD t 4 0 ∷ getD t 5 0 ∷ getD t 6 0 ∷ rest
     ≡ nowWords w roads junctions a e ++ rest
 seven w roads junctions a e t rest h =
@@ -54,19 +54,36 @@ seven w roads junctions a e t rest h =
     getD t 0 0 ∷ getD t 1 0 ∷ getD t 2 0 ∷ getD t 3 0 ∷ getD t 4 0 ∷ getD t 5 0 ∷ getD t 6 0 ∷ rest) h
     ∙ seven-on w roads junctions a e rest
 
+-- a row of its words, the targets' words among them
+pub row-words : (roads junctions ends : List ℕ) (r : ℕ) {w0 w1 w2 w3 w18 w19 : ℕ} (a b : List ℕ)
+    → w0 ≡ getD roads (r * 20) 0 → w1 ≡ getD roads (r * 20 + 1) 0 → w2 ≡ getD roads (r * 20 + 2) 0
+    → w3 ≡ getD roads (r * 20 + 3) 0 → a ≡ wordsNow roads junctions ends r 0 → b ≡ wordsNow roads junctions ends r 1
+    → w18 ≡ getD roads (r * 20 + 18) 0 → w19 ≡ getD roads (r * 20 + 19) 0
+    → w0 ∷ w1 ∷ w2 ∷ w3 ∷ getD a 0 0 ∷ getD a 1 0 ∷ getD a 2 0 ∷ getD a 3 0 ∷ getD a 4 0 ∷ getD a 5 0 ∷ getD a 6 0
+    ∷ getD b 0 0 ∷ getD b 1 0 ∷ getD b 2 0 ∷ getD b 3 0 ∷ getD b 4 0 ∷ getD b 5 0 ∷ getD b 6 0 ∷ w18 ∷ w19 ∷ []
+    ≡ roadNowWords roads junctions ends r
+unfolding roadNowWords
+row-words roads junctions ends r {w0} {w1} {w2} {w3} {w18} {w19} a b p0 p1 p2 p3 at-start at-end p18 p19 =
+    ap (λ (l : List ℕ).
+    w0 ∷ w1 ∷ w2 ∷ w3 ∷ getD a 0 0 ∷ getD a 1 0 ∷ getD a 2 0 ∷ getD a 3 0 ∷ getD a 4 0 ∷ getD a 5 0 ∷ getD a 6 0 ∷ l)
+    (seven (getD ends (r * 2 + 1) 0) roads junctions (r * 20 + 4 + 1 * 7) 1 b (w18 ∷ w19 ∷ []) at-end)
+    ∙ ap (λ (l : List ℕ). w0 ∷ w1 ∷ w2 ∷ w3 ∷ l)
+    (seven (getD ends (r * 2 + 0) 0) roads junctions (r * 20 + 4 + 0 * 7) 0 a
+    (wordsNow roads junctions ends r 1 ++ (w18 ∷ w19 ∷ [])) at-start)
+    ∙ (λ i.
+    p0 i ∷ p1 i ∷ p2 i ∷ p3 i
+    ∷ (wordsNow roads junctions ends r 0 ++ (wordsNow roads junctions ends r 1 ++ (p18 i ∷ p19 i ∷ []))))
+
 module _ (roads junctions ends : List ℕ) where
   pub road-width : (r : ℕ) → length (roadNowWords roads junctions ends r) ≡ 20
   unfolding roadNowWords
   road-width r =
-      let la = now-width (getD ends (r * 2 + 0) 0) roads junctions (r * 20 + 4 + 0 * 7) 0 in
-      let lb = now-width (getD ends (r * 2 + 1) 0) roads junctions (r * 20 + 4 + 1 * 7) 1 in
-      let c =
-      length-append (nowWords (getD ends (r * 2 + 1) 0) roads junctions (r * 20 + 4 + 1 * 7) 1)
-      (getD roads (r * 20 + 18) 0 ∷ getD roads (r * 20 + 19) 0 ∷ []) in
-      let d =
-      length-append (nowWords (getD ends (r * 2 + 0) 0) roads junctions (r * 20 + 4 + 0 * 7) 0)
-      (nowWords (getD ends (r * 2 + 1) 0) roads junctions (r * 20 + 4 + 1 * 7) 1
-      ++ (getD roads (r * 20 + 18) 0 ∷ getD roads (r * 20 + 19) 0 ∷ [])) in
+      let at-start = now-width (getD ends (r * 2 + 0) 0) roads junctions (r * 20 + 4 + 0 * 7) 0 in
+      let at-end = now-width (getD ends (r * 2 + 1) 0) roads junctions (r * 20 + 4 + 1 * 7) 1 in
+      let sections = getD roads (r * 20 + 18) 0 ∷ getD roads (r * 20 + 19) 0 ∷ [] in
+      let after = length-append (wordsNow roads junctions ends r 1) sections in
+      let before =
+      length-append (wordsNow roads junctions ends r 0) (wordsNow roads junctions ends r 1 ++ sections) in
       omega arith
 
   pub roads-width : (i : ℕ) → length (gather (roadNowWords roads junctions ends) (tab i (λ r. r))) ≡ i * 20

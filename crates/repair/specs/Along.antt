@@ -1,18 +1,20 @@
 -- The roads in virtual junctions, and the words that a road's row has after repair. Definitions only.
 use mathlib.Core.Path.{_≡_}
 use mathlib.Core.Bool.{Bool, not, _&&_}
-use mathlib.Core.List.{List, [], _∷_, _++_}
+use mathlib.Core.List.{List, [], _∷_, _++_, map}
 use Prim.Native.Nat.{ℕ, _+_, _*_, _/_, _≤_, _<_}
 use lib.ListN.{length, getD}
 use lib.Dec.{eqb, leb}
-use Rattle.model.specs.Lists.{pick}
-use Rattle.model.specs.Records.{Span}
-use Rattle.model.specs.Tables.{bit, isAbsent}
+use Rattle.model.specs.Lists.{gather, pick}
+use Rattle.model.specs.Records.{Road, Span}
+use Rattle.model.specs.Repair.{withoutAlong}
+use Rattle.model.specs.Rules.{same}
+use Rattle.model.specs.Tables.{Tables, bit, isAbsent, roadsOf}
 use Rattle.model.specs.Text.{sameIn}
 use Rattle.words.specs.Chain.{Chained}
 use Rattle.words.specs.Keys.{nameHash}
-use Rattle.words.specs.Rows.{any, nameAt, span}
-use Rattle.repair.specs.Now.{nowWords}
+use Rattle.words.specs.Rows.{any, nameAt, span, tab}
+use Rattle.repair.specs.Now.{rowJunction, wordsNow}
 
 -- is junction q virtual, and of name n?
 unfoldable pub isVirtualOf : List ℕ → List ℕ → Span → ℕ → Bool
@@ -44,6 +46,13 @@ pub record Named (text junctions heads next : List ℕ) : Type 0 where
 unfoldable pub roadNowWords : (roads junctions ends : List ℕ) → ℕ → List ℕ
 roadNowWords roads junctions ends r =
     getD roads (r * 20) 0 ∷ getD roads (r * 20 + 1) 0 ∷ getD roads (r * 20 + 2) 0 ∷ getD roads (r * 20 + 3) 0
-    ∷ (nowWords (getD ends (r * 2 + 0) 0) roads junctions (r * 20 + 4 + 0 * 7) 0
-    ++ (nowWords (getD ends (r * 2 + 1) 0) roads junctions (r * 20 + 4 + 1 * 7) 1
-    ++ (getD roads (r * 20 + 18) 0 ∷ getD roads (r * 20 + 19) 0 ∷ [])))
+    ∷ (wordsNow roads junctions ends r 0
+    ++ (wordsNow roads junctions ends r 1 ++ (getD roads (r * 20 + 18) 0 ∷ getD roads (r * 20 + 19) 0 ∷ [])))
+
+-- those of all roads
+abbrev pub roadsNowWords : (roads junctions ends : List ℕ) → List ℕ
+roadsNowWords roads junctions ends = gather (roadNowWords roads junctions ends) (tab (length roads / 20) (λ r. r))
+
+-- the roads before the first junction, with the junctions by their rows
+abbrev pub roadsBegun : Tables → List Road
+roadsBegun t = map (withoutAlong (same t) (tab (length (t .junctions) / 5) (rowJunction t))) (roadsOf t)

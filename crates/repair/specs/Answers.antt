@@ -4,15 +4,13 @@ use mathlib.Core.List.{List, [], _∷_}
 use Prim.Native.Nat.{ℕ, _*_, _/_}
 use lib.ListN.{length, take}
 use Rattle.model.specs.Calls.{Answer, RepairOutputs, refused, wrote}
-use Rattle.model.specs.Lists.{gather}
 use Rattle.model.specs.Repair.{startRoads}
 use Rattle.model.specs.Rules.{refusalWord, same}
 use Rattle.model.specs.Tables.{Tables, mapOf}
-use Rattle.words.specs.Rows.{tab}
 use Rattle.rules.specs.Parts.{Fit}
 use Rattle.tables.specs.Verdicts.{refusalOf}
-use Rattle.repair.specs.Along.{roadNowWords}
-use Rattle.repair.specs.Now.{roadsNow}
+use Rattle.repair.specs.Along.{roadsNowWords}
+use Rattle.repair.specs.Now.{roadsWith}
 use Rattle.repair.specs.declared.call.Repaired.{Repaired}
 use Rattle.repair.specs.declared.call.Repaired.the-variants.{Written, Refused}
 
@@ -30,10 +28,10 @@ outputs roads junctions connections pairs warnings =
 -- connections, p pairs and w warnings
 abbrev pub contentNow : (roads junctions ends js cs ps warn : List ℕ) → (n p w : ℕ) → RepairOutputs
 contentNow roads junctions ends js cs ps warn n p w =
-    outputs (gather (roadNowWords roads junctions ends) (tab (length roads / 20) (λ r. r)))
-    (take (length junctions / 5 * 5) js) (take (n * 7) cs) (take (p * 2) ps) (take (w * 4) warn)
+    outputs (roadsNowWords roads junctions ends) (take (length junctions / 5 * 5) js) (take (n * 7) cs)
+    (take (p * 2) ps) (take (w * 4) warn)
 
 -- where repair begins: the parts of the sections fit, and the ends are those before the first junction
 pub record Begun (t : Tables) (ends : List ℕ) : Type 0 where
   pub fit : Fit 20 18 19 (t .roads) (length (t .sections))
-  pub roads : roadsNow (t .sections) (t .roads) (t .junctions) ends ≡ startRoads (same t) (mapOf t)
+  pub roads : roadsWith t ends ≡ startRoads (same t) (mapOf t)

@@ -9,10 +9,10 @@ use Prim.Native.Nat.{ℕ, zero, suc, _+_, _*_, _/_, _≤_}
 use lib.ListN.{length, getD}
 use lib.Dec.{eqb}
 use Rattle.model.specs.Lists.{pick}
-use Rattle.model.specs.Records.{Target, Road, Connection, Junction}
+use Rattle.model.specs.Records.{Span, Target, Road, Connection, Junction}
 use Rattle.model.specs.Repair.{linked}
 use Rattle.model.specs.Rows.{part, word}
-use Rattle.model.specs.Tables.{bit, spanIn, nameIn, targetIn, pairsIn, connectionIn, kindOf}
+use Rattle.model.specs.Tables.{Tables, bit, spanIn, nameIn, targetIn, pairsIn, connectionIn, kindOf}
 use Rattle.words.specs.Rows.{any, tab, nameAt, from}
 use Rattle.words.specs.Keys.{nameHash, nameBefore}
 use Rattle.words.specs.Chain.{Chained}
@@ -47,6 +47,10 @@ nowWords (suc zero) roads junctions a e = 0 ∷ 0 ∷ 0 ∷ 0 ∷ 0 ∷ 0 ∷ 0 
 nowWords (suc (suc k)) roads junctions a e =
     1 ∷ 1 ∷ getD junctions (k * 5) 0 ∷ getD junctions (k * 5 + 1) 0 ∷ e ∷ 1 ∷ 0 ∷ []
 
+abbrev pub wordsNow : (roads junctions ends : List ℕ) → ℕ → ℕ → List ℕ
+wordsNow roads junctions ends r e =
+    nowWords (getD ends (r * 2 + e) 0) roads junctions (r * 20 + 4 + e * 7) e
+
 -- road r, and all roads
 unfoldable pub roadNow : (sections roads junctions ends : List ℕ) → ℕ → Road
 roadNow sections roads junctions ends r = record {
@@ -70,6 +74,24 @@ junctionAt pairs connections junctions k = record {
   kind = kindOf (getD junctions (k * 5 + 2) 0);
   connections = run (connectionAt pairs connections) (getD junctions (k * 5 + 3) 0) (getD junctions (k * 5 + 4) 0);
 }
+
+-- ---- the same of a map's tables
+-- its roads with those words for their ends
+abbrev pub roadsWith : Tables → (ends : List ℕ) → List Road
+roadsWith t ends = roadsNow (t .sections) (t .roads) (t .junctions) ends
+
+abbrev pub roadWith : Tables → (ends : List ℕ) → ℕ → Road
+roadWith t ends r = roadNow (t .sections) (t .roads) (t .junctions) ends r
+
+-- the connection in row c, the junction in row k, and its name
+abbrev pub rowConnection : Tables → ℕ → Connection
+rowConnection t c = connectionAt (t .pairs) (t .connections) c
+
+abbrev pub rowJunction : Tables → ℕ → Junction
+rowJunction t k = junctionAt (t .pairs) (t .connections) (t .junctions) k
+
+abbrev pub junctionName : Tables → ℕ → Span
+junctionName t k = nameAt 5 0 (t .junctions) k
 
 -- what the code knows of the roads: their names are linked, and single
 pub record Known (text roads heads next : List ℕ) : Type 0 where

@@ -11,14 +11,9 @@ ghost use mathlib.Core.Bool.{cond};
 ghost use mathlib.Core.List.{List, [], _∷_, _++_};
 ghost use Prim.Native.Nat.{ℕ, _+_, _*_, _/_, _≤_, _<_};
 ghost use lib.ListN.{length, getD, take};
-ghost use Rattle.model.specs.Calls.{warningRow};
-ghost use Rattle.model.specs.Tables.{mapTables};
-ghost use Rattle.model.specs.Text.{sameIn};
-ghost use Rattle.model.specs.Repair.{repairJunction};
-ghost use Rattle.words.specs.Rows.{total};
-ghost use Rattle.repair.specs.Now.{Known, roadsNow, junctionAt};
-ghost use Rattle.repair.specs.Laying.{Laid, Small, Chain, Joined, Within, Stepped, Over};
-ghost use Rattle.rules.specs.Parts.{counts};
+ghost use Rattle.model.specs.Tables.{Tables, mapTables};
+ghost use Rattle.repair.specs.Laying.{repairedAt, Ruled, Twice, connectionsBefore, Long, Arrays, Within};
+ghost use Rattle.repair.specs.Laying.{Pile, pile, State, state, Laid, Stepped, Over};
 
 // How many connections, pairs and warnings there are.
 pub struct Counts {
@@ -55,8 +50,17 @@ fn lay_junction(
     cs: &mut [u32],
     ps: &mut [u32],
 ) -> Reach
-    requires { ⌜ Small (now pairs) (now connections) × Joined (now junctions) (now connections) × (k < length (now junctions) / 5) × (n ≤ total k (counts 5 4 (now junctions)) + total k (counts 5 4 (now junctions))) × (p ≤ total (total k (counts 5 4 (now junctions))) (counts 7 6 (now connections)) + total (total k (counts 5 4 (now junctions))) (counts 7 6 (now connections))) × (length (now cs) ≡ 114688) × (length (now ps) ≡ 32768) × Known (now text) (now roads) (now heads) (now next) × Chain (now text) (now connections) (now cheads) (now cnext) ⌝ }
-    ensures { λ q. ⌜ (q .connections ≤ total (k + 1) (counts 5 4 (now (junctions .entry))) + total (k + 1) (counts 5 4 (now (junctions .entry)))) × (q .pairs ≤ total (total (k + 1) (counts 5 4 (now (junctions .entry)))) (counts 7 6 (now (connections .entry))) + total (total (k + 1) (counts 5 4 (now (junctions .entry)))) (counts 7 6 (now (connections .entry)))) × ((ss : List ℕ) → Laid (repairJunction (sameIn (now (text .entry))) (roadsNow ss (now (roads .entry)) (now (junctions .entry)) (now (ends .entry))) (junctionAt (now (pairs .entry)) (now (connections .entry)) (now (junctions .entry)) k) .connections) n p (q .connections) (q .pairs) (now (cs .entry)) (now (ps .entry)) (now (cs .exit)) (now (ps .exit))) ⌝ }
+    ghost { (List ℕ → Tables) × Pile }
+    requires { λ α. ⌜ (
+      (λ sections. mapTables (now text) (now roads) sections (now junctions) (now connections) (now pairs)),
+      pile n p (now cs) (now ps),
+    ) ≡ α ⌝ }
+    requires { λ _. ⌜ Ruled (now text) (now roads) (now junctions) (now connections) (now pairs) (now heads) (now next)
+        (now cheads) (now cnext) ⌝ }
+    requires { λ _. ⌜ (k < length (now junctions) / 5) × Twice (now junctions) (now connections) k n p × Long (now cs) (now ps) ⌝ }
+    ensures { λ _ q. ⌜ Twice (now (junctions .entry)) (now (connections .entry)) (k + 1) (q .connections) (q .pairs) ⌝ }
+    ensures { λ α q. ⌜ ((sections : List ℕ) → Laid (repairedAt (α .0 sections) (now (ends .entry)) k .connections)
+        (α .1) (pile (q .connections) (q .pairs) (now (cs .exit)) (now (ps .exit)))) ⌝ }
 {
     let kind = index_at(junctions, k * 5 + 2);
     let first = index_at(junctions, k * 5 + 3);
@@ -87,7 +91,9 @@ fn lay_junction(
 // Puts junction k's row: its part is of the count of connections from row n on.
 fn put_junction(junctions: &[u32], k: usize, n: usize, count: usize, js: &mut [u32])
     requires { ⌜ (k < 16384) × (n ≤ 16384) × (count ≤ 16384) × (length (now js) ≡ 81920) ⌝ }
-    ensures { λ _. ⌜ take ((k + 1) * 5) (now (js .exit)) ≡ take (k * 5) (now (js .entry)) ++ (getD (now (junctions .entry)) (k * 5 + 0) 0 ∷ getD (now (junctions .entry)) (k * 5 + 0 + 1) 0 ∷ getD (now (junctions .entry)) (k * 5 + 2) 0 ∷ n ∷ count ∷ []) ⌝ }
+    ensures { λ _. ⌜ take ((k + 1) * 5) (now (js .exit)) ≡ take (k * 5) (now (js .entry))
+        ++ (getD (now (junctions .entry)) (k * 5 + 0) 0 ∷ getD (now (junctions .entry)) (k * 5 + 0 + 1) 0
+        ∷ getD (now (junctions .entry)) (k * 5 + 2) 0 ∷ n ∷ count ∷ []) ⌝ }
 {
     let w0 = at(junctions, k * 5 + 0);
     let w1 = at(junctions, k * 5 + 0 + 1);
@@ -117,10 +123,21 @@ fn repair_junction(
     cs: &mut [u32],
     ps: &mut [u32],
 ) -> Counts
-    requires { ⌜ Small (now pairs) (now connections) × Joined (now junctions) (now connections) × (k < length (now junctions) / 5) × (n ≤ total k (counts 5 4 (now junctions)) + total k (counts 5 4 (now junctions))) × (p ≤ total (total k (counts 5 4 (now junctions))) (counts 7 6 (now connections)) + total (total k (counts 5 4 (now junctions))) (counts 7 6 (now connections))) × (w ≤ total k (counts 5 4 (now junctions))) ⌝ }
-    requires { ⌜ (length (now ends) ≡ 32768) × (length (now warn) ≡ 32768) × (length (now js) ≡ 81920) × (length (now cs) ≡ 114688) × (length (now ps) ≡ 32768) × Known (now text) (now roads) (now heads) (now next) × Chain (now text) (now connections) (now cheads) (now cnext) ⌝ }
-    ensures { λ q. ⌜ (q .connections ≤ total (k + 1) (counts 5 4 (now (junctions .entry))) + total (k + 1) (counts 5 4 (now (junctions .entry)))) × (q .pairs ≤ total (total (k + 1) (counts 5 4 (now (junctions .entry)))) (counts 7 6 (now (connections .entry))) + total (total (k + 1) (counts 5 4 (now (junctions .entry)))) (counts 7 6 (now (connections .entry)))) × (q .warnings ≤ total (k + 1) (counts 5 4 (now (junctions .entry)))) ⌝ }
-    ensures { λ q. ⌜ ((ss : List ℕ) → Stepped (sameIn (now (text .entry))) (warningRow (mapTables (now (text .entry)) (now (roads .entry)) ss (now (junctions .entry)) (now (connections .entry)) (now (pairs .entry)))) (junctionAt (now (pairs .entry)) (now (connections .entry)) (now (junctions .entry)) k) k (roadsNow ss (now (roads .entry)) (now (junctions .entry)) (now (ends .entry))) (roadsNow ss (now (roads .entry)) (now (junctions .entry)) (now (ends .exit))) n p w (q .connections) (q .pairs) (q .warnings) (now (js .entry)) (now (cs .entry)) (now (ps .entry)) (now (warn .entry)) (now (js .exit)) (now (cs .exit)) (now (ps .exit)) (now (warn .exit))) ⌝ }
+    ghost { (List ℕ → Tables) × State }
+    requires { λ α. ⌜ (
+      (λ sections. mapTables (now text) (now roads) sections (now junctions) (now connections) (now pairs)),
+      state (now ends) (now js) (pile n p (now cs) (now ps)) w (now warn),
+    ) ≡ α ⌝ }
+    requires { λ _. ⌜ Ruled (now text) (now roads) (now junctions) (now connections) (now pairs) (now heads) (now next)
+        (now cheads) (now cnext) ⌝ }
+    requires { λ _. ⌜ k < length (now junctions) / 5 ⌝ }
+    requires { λ _. ⌜ Twice (now junctions) (now connections) k n p × (w ≤ connectionsBefore (now junctions) k) ⌝ }
+    requires { λ _. ⌜ (length (now ends) ≡ 32768) × Arrays (now js) (now cs) (now ps) (now warn) ⌝ }
+    ensures { λ _ q. ⌜ Twice (now (junctions .entry)) (now (connections .entry)) (k + 1) (q .connections) (q .pairs) ⌝ }
+    ensures { λ _ q. ⌜ q .warnings ≤ connectionsBefore (now (junctions .entry)) (k + 1) ⌝ }
+    ensures { λ α q. ⌜ ((sections : List ℕ) → Stepped (α .0 sections) k (α .1)
+        (state (now (ends .exit)) (now (js .exit)) (pile (q .connections) (q .pairs) (now (cs .exit)) (now (ps .exit)))
+        (q .warnings) (now (warn .exit)))) ⌝ }
 {
     let kind = index_at(junctions, k * 5 + 2);
     let first = index_at(junctions, k * 5 + 3);
@@ -183,9 +200,16 @@ pub fn junctions(
     cs: &mut [u32],
     ps: &mut [u32],
 ) -> Counts
-    requires { ⌜ Small (now pairs) (now connections) × Joined (now table) (now connections) × (length (now ends) ≡ 32768) × (length (now warn) ≡ 32768) × (length (now js) ≡ 81920) × (length (now cs) ≡ 114688) × (length (now ps) ≡ 32768) × Known (now text) (now roads) (now heads) (now next) × Chain (now text) (now connections) (now cheads) (now cnext) ⌝ }
-    ensures { λ q. ⌜ Within (q .connections) (q .pairs) (q .warnings) ⌝ }
-    ensures { λ q. ⌜ ((ss : List ℕ) → Over (sameIn (now (text .entry))) (warningRow (mapTables (now (text .entry)) (now (roads .entry)) ss (now (table .entry)) (now (connections .entry)) (now (pairs .entry)))) (junctionAt (now (pairs .entry)) (now (connections .entry)) (now (table .entry))) (roadsNow ss (now (roads .entry)) (now (table .entry)) (now (ends .entry))) (roadsNow ss (now (roads .entry)) (now (table .entry)) (now (ends .exit))) (length (now (table .entry)) / 5) (q .connections) (q .pairs) (q .warnings) (now (js .exit)) (now (cs .entry)) (now (ps .entry)) (now (cs .exit)) (now (ps .exit)) (now (warn .exit))) ⌝ }
+    ghost { List ℕ → Tables }
+    requires { λ t. ⌜ (λ sections. mapTables (now text) (now roads) sections (now table) (now connections) (now pairs)) ≡ t ⌝ }
+    requires { λ _. ⌜ Ruled (now text) (now roads) (now table) (now connections) (now pairs) (now heads) (now next)
+        (now cheads) (now cnext) ⌝ }
+    requires { λ _. ⌜ (length (now ends) ≡ 32768) × Arrays (now js) (now cs) (now ps) (now warn) ⌝ }
+    ensures { λ _ q. ⌜ Within (q .connections) (q .pairs) (q .warnings) ⌝ }
+    ensures { λ t q. ⌜ ((sections : List ℕ) → Over (t sections) (length (now (table .entry)) / 5)
+        (now (ends .entry)) (now (cs .entry)) (now (ps .entry))
+        (state (now (ends .exit)) (now (js .exit)) (pile (q .connections) (q .pairs) (now (cs .exit)) (now (ps .exit)))
+        (q .warnings) (now (warn .exit)))) ⌝ }
 {
     let mut x = 0;
     let mut y = 0;

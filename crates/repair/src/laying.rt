@@ -5,15 +5,13 @@ use crate::targets::one;
 use words::rows;
 ghost use mathlib.Core.Path.{_≡_};
 ghost use mathlib.Core.List.{[], _∷_, _++_};
-ghost use Prim.Native.Nat.{_+_, _*_, _/_, _≤_, _<_};
+ghost use Prim.Native.Nat.{_+_, _*_, _≤_, _<_};
 ghost use lib.ListN.{length, take};
-ghost use Rattle.model.specs.Lists.{gather, listO};
+ghost use Rattle.model.specs.Lists.{gather};
 ghost use Rattle.model.specs.Tables.{pairRow};
-ghost use Rattle.model.specs.Repair.{backAt};
-ghost use Rattle.words.specs.Rows.{total};
-ghost use Rattle.repair.specs.Now.{run, endOpt, connectionAt};
-ghost use Rattle.repair.specs.Laying.{turnedPair, pairAt, rowWords, turnedConnection, Laid, Small};
-ghost use Rattle.rules.specs.Parts.{counts};
+ghost use Rattle.repair.specs.Now.{run, connectionAt};
+ghost use Rattle.repair.specs.Laying.{turnedPair, turnedPairs, pairAt, rowWords, turnedConnection, backList};
+ghost use Rattle.repair.specs.Laying.{Pile, pile, Laid, Long, Small, RoomFor, RoomForAll, pairCount, pairsBefore};
 
 // How many connections and pairs are laid.
 pub struct Reach {
@@ -37,7 +35,8 @@ fn pair_row(pairs: &[u32], q: usize, b: usize) -> [u32; 2]
 // Lays m pairs from row first on, after p of them.
 fn put_pairs(pairs: &[u32], first: usize, m: usize, b: usize, p: usize, ps: &mut [u32])
     requires { ⌜ (first + m ≤ 16384) × (p + m ≤ 16384) × (length (now ps) ≡ 32768) ⌝ }
-    ensures { λ _. ⌜ take ((p + m) * 2) (now (ps .exit)) ≡ take (p * 2) (now (ps .entry)) ++ gather pairRow (run (λ q. turnedPair b (pairAt (now (pairs .entry)) q)) first m) ⌝ }
+    ensures { λ _. ⌜ take ((p + m) * 2) (now (ps .exit))
+        ≡ take (p * 2) (now (ps .entry)) ++ gather pairRow (turnedPairs b (now (pairs .entry)) first m) ⌝ }
 {
     let mut i = 0;
     while i < m {
@@ -76,8 +75,12 @@ fn put_connection(
     cs: &mut [u32],
     ps: &mut [u32],
 ) -> usize
-    requires { ⌜ Small (now pairs) (now connections) × (c < length (now connections) / 7) × (b ≤ 2) × (n < 16384) × (p + counts 7 6 (now connections) c ≤ 16384) × (length (now cs) ≡ 114688) × (length (now ps) ≡ 32768) ⌝ }
-    ensures { λ q. ⌜ (q ≡ p + counts 7 6 (now (connections .entry)) c) × Laid (turnedConnection b (connectionAt (now (pairs .entry)) (now (connections .entry)) c) ∷ []) n p (n + 1) q (now (cs .entry)) (now (ps .entry)) (now (cs .exit)) (now (ps .exit)) ⌝ }
+    ghost { Pile }
+    requires { λ before. ⌜ pile n p (now cs) (now ps) ≡ before ⌝ }
+    requires { λ _. ⌜ Small (now pairs) (now connections) × RoomFor (now connections) c b n p × Long (now cs) (now ps) ⌝ }
+    ensures { λ _ q. ⌜ q ≡ p + pairCount (now (connections .entry)) c ⌝ }
+    ensures { λ before q. ⌜ Laid (turnedConnection b (connectionAt (now (pairs .entry)) (now (connections .entry)) c) ∷ [])
+        before (pile (n + 1) q (now (cs .exit)) (now (ps .exit))) ⌝ }
 {
     let row = connection_row(connections, c, b, p);
     rows::put(cs, n * 7, &row);
@@ -98,8 +101,12 @@ pub fn put_own(
     cs: &mut [u32],
     ps: &mut [u32],
 ) -> usize
-    requires { ⌜ Small (now pairs) (now connections) × (first + m ≤ length (now connections) / 7) × (n + m ≤ 16384) × (p + total (first + m) (counts 7 6 (now connections)) ≤ 16384 + total first (counts 7 6 (now connections))) × (length (now cs) ≡ 114688) × (length (now ps) ≡ 32768) ⌝ }
-    ensures { λ q. ⌜ (q + total first (counts 7 6 (now (connections .entry))) ≡ p + total (first + m) (counts 7 6 (now (connections .entry)))) × Laid (run (connectionAt (now (pairs .entry)) (now (connections .entry))) first m) n p (n + m) q (now (cs .entry)) (now (ps .entry)) (now (cs .exit)) (now (ps .exit)) ⌝ }
+    ghost { Pile }
+    requires { λ before. ⌜ pile n p (now cs) (now ps) ≡ before ⌝ }
+    requires { λ _. ⌜ Small (now pairs) (now connections) × RoomForAll (now connections) first m n p × Long (now cs) (now ps) ⌝ }
+    ensures { λ _ q. ⌜ q + pairsBefore (now (connections .entry)) first ≡ p + pairsBefore (now (connections .entry)) (first + m) ⌝ }
+    ensures { λ before q. ⌜ Laid (run (connectionAt (now (pairs .entry)) (now (connections .entry))) first m)
+        before (pile (n + m) q (now (cs .exit)) (now (ps .exit))) ⌝ }
 {
     let mut at = p;
     let mut i = 0;
@@ -121,8 +128,12 @@ pub fn put_back(
     cs: &mut [u32],
     ps: &mut [u32],
 ) -> Reach
-    requires { ⌜ Small (now pairs) (now connections) × (c < length (now connections) / 7) × (b ≤ 2) × (n < 16384) × (p + counts 7 6 (now connections) c ≤ 16384) × (length (now cs) ≡ 114688) × (length (now ps) ≡ 32768) ⌝ }
-    ensures { λ q. ⌜ (q .connections ≤ n + 1) × (q .pairs ≤ p + counts 7 6 (now (connections .entry)) c) × Laid (listO (endOpt b) (λ e. backAt (connectionAt (now (pairs .entry)) (now (connections .entry)) c) e ∷ [])) n p (q .connections) (q .pairs) (now (cs .entry)) (now (ps .entry)) (now (cs .exit)) (now (ps .exit)) ⌝ }
+    ghost { Pile }
+    requires { λ before. ⌜ pile n p (now cs) (now ps) ≡ before ⌝ }
+    requires { λ _. ⌜ Small (now pairs) (now connections) × RoomFor (now connections) c b n p × Long (now cs) (now ps) ⌝ }
+    ensures { λ _ q. ⌜ (q .connections ≤ n + 1) × (q .pairs ≤ p + pairCount (now (connections .entry)) c) ⌝ }
+    ensures { λ before q. ⌜ Laid (backList b (connectionAt (now (pairs .entry)) (now (connections .entry)) c))
+        before (pile (q .connections) (q .pairs) (now (cs .exit)) (now (ps .exit))) ⌝ }
 {
     if b == 0 {
         return Reach {

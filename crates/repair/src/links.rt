@@ -5,56 +5,58 @@ use crate::targets::meets;
 use crate::targets::one;
 use crate::targets::road_of;
 use crate::targets::target;
+use tables::lookup::RoadId;
 use words::rows;
 use words::tests::both;
 use words::tests::differs;
 use words::tests::is;
 ghost use mathlib.Core.Path.{_≡_};
-ghost use mathlib.Core.Bool.{cond};
-ghost use mathlib.Core.Option.{none};
-ghost use mathlib.Core.List.{List, _++_};
+ghost use mathlib.Core.List.{List, [], _∷_};
 ghost use Prim.Native.Nat.{ℕ, _+_, _*_, _≤_, _<_};
-ghost use lib.ListN.{length, take};
-ghost use Rattle.model.specs.Lists.{bindO, gather};
-ghost use Rattle.model.specs.Records.{targetAt};
-ghost use Rattle.model.specs.Tables.{targetIn, mapTables};
+ghost use lib.ListN.{length};
+ghost use Rattle.model.specs.Lists.{bindO};
+ghost use Rattle.model.specs.Records.{Road};
+ghost use Rattle.model.specs.Repair.{backEnd, vacantEnd};
+ghost use Rattle.model.specs.Tables.{Tables, mapTables, targetIn};
 ghost use Rattle.model.specs.Text.{sameIn};
-ghost use Rattle.model.specs.Calls.{warningRow};
-ghost use Rattle.model.specs.Repair.{backEnd, vacantEnd, meets, roadOf, missingLink, missingLinks, warnOne, warnAll};
 ghost use Rattle.words.specs.Rows.{nameAt};
-ghost use Rattle.repair.specs.Now.{Known, endOpt, run, roadNow, roadsNow, connectionAt};
+ghost use Rattle.repair.specs.Now.{Known, endOpt, run, roadNow, rowConnection};
+ghost use Rattle.repair.specs.Laying.{shownAt, Linked};
 
 // The end of connection c's incoming road that a target names, plus 1; 0 where it names none.
-fn back_end(text: &[u8], t: [u32; 7], connections: &[u32], c: usize) -> usize
+fn back_end(text: &[u8], words: [u32; 7], connections: &[u32], c: usize) -> usize
     requires { ⌜ c < 8192 ⌝ }
-    ensures { λ q. ⌜ (q ≤ 2) × (endOpt q ≡ bindO (targetIn t 0) (backEnd (sameIn (now (text .entry))) (nameAt 7 0 (now (connections .entry)) c))) ⌝ }
+    ensures { λ q. ⌜ (q ≤ 2) × (endOpt q
+        ≡ bindO (targetIn words 0) (backEnd (sameIn (now (text .entry))) (nameAt 7 0 (now (connections .entry)) c))) ⌝ }
 {
     let s = at(connections, c * 7 + 0);
     let l = at(connections, c * 7 + 0 + 1);
-    let a = both(is(t[0], 1), differs(t[1], 1));
-    let b = both(a, alike(text, t[2], t[3], s, l));
-    if both(b, is(t[5], 1)) {
-        return 1 + one(t[4]);
+    let a = both(is(words[0], 1), differs(words[1], 1));
+    let b = both(a, alike(text, words[2], words[3], s, l));
+    if both(b, is(words[5], 1)) {
+        return 1 + one(words[4]);
     }
     0
 }
 
-// That end, if it is vacant in road r.
-fn vacant_end(roads: &[u32], junctions: &[u32], ends: &[u32], r: usize, e: usize) -> usize
-    requires { ⌜ (r < 16384) × (e ≤ 2) ⌝ }
-    ensures { λ q. ⌜ (q ≤ 2) × ((ss : List ℕ) → endOpt q ≡ bindO (endOpt e) (vacantEnd (roadNow ss (now (roads .entry)) (now (junctions .entry)) (now (ends .entry)) r))) ⌝ }
+// That end, if it is vacant in a road.
+fn vacant_end(roads: &[u32], junctions: &[u32], ends: &[u32], road: RoadId, e: usize) -> usize
+    ghost { List ℕ → Road }
+    requires { λ R. ⌜ (λ sections. roadNow sections (now roads) (now junctions) (now ends) (road .0)) ≡ R ⌝ }
+    requires { λ _. ⌜ (road .0 < 16384) × (e ≤ 2) ⌝ }
+    ensures { λ R q. ⌜ (q ≤ 2) × ((sections : List ℕ) → endOpt q ≡ bindO (endOpt e) (vacantEnd (R sections))) ⌝ }
 {
     if e == 0 {
         return 0;
     }
-    let t = target(roads, junctions, ends, r, e - 1);
+    let t = target(roads, junctions, ends, road, e - 1);
     if t[0] == 1 {
         return 0;
     }
     e
 }
 
-// The end of road r, plus 1, at which connection c shows that junction k is left out; 0 where it shows none.
+// The end of a road, plus 1, at which connection c shows that junction k is left out; 0 where it shows none.
 fn missing_end(
     text: &[u8],
     roads: &[u32],
@@ -63,14 +65,18 @@ fn missing_end(
     heads: &[u32],
     next: &[u32],
     ends: &[u32],
-    r: usize,
+    road: RoadId,
     k: usize,
     c: usize,
 ) -> usize
-    requires { ⌜ (r < 16384) × (k < 16384) × (c < 8192) × Known (now text) (now roads) (now heads) (now next) ⌝ }
-    ensures { λ q. ⌜ (q ≤ 2) × ((ss ps : List ℕ) → endOpt q ≡ cond (meets (sameIn (now (text .entry))) (nameAt 5 0 (now (junctions .entry)) k) (roadNow ss (now (roads .entry)) (now (junctions .entry)) (now (ends .entry)) r)) none (bindO (bindO (bindO (roadOf (sameIn (now (text .entry))) (roadsNow ss (now (roads .entry)) (now (junctions .entry)) (now (ends .entry))) (connectionAt ps (now (connections .entry)) c .connecting)) (targetAt (connectionAt ps (now (connections .entry)) c .contact))) (backEnd (sameIn (now (text .entry))) (connectionAt ps (now (connections .entry)) c .incoming))) (vacantEnd (roadNow ss (now (roads .entry)) (now (junctions .entry)) (now (ends .entry)) r)))) ⌝ }
+    ghost { List ℕ → List ℕ → Tables }
+    requires { λ t. ⌜ (λ sections pairs. mapTables (now text) (now roads) sections (now junctions) (now connections) pairs) ≡ t ⌝ }
+    requires { λ _. ⌜ (road .0 < 16384) × (k < 16384) × (c < 8192) × Known (now text) (now roads) (now heads) (now next) ⌝ }
+    ensures { λ _ q. ⌜ q ≤ 2 ⌝ }
+    ensures { λ t q. ⌜ ((sections pairs : List ℕ) → endOpt q ≡ shownAt (t sections pairs) (now (ends .entry)) k c (road .0)) ⌝ }
 {
-    if meets(text, roads, junctions, ends, r, k) {
+    let r = road.0;
+    if meets(text, roads, junctions, ends, RoadId(r), k) {
         return 0;
     }
     let g = road_of(text, roads, heads, next, connections, c * 7 + 2);
@@ -78,9 +84,10 @@ fn missing_end(
         return 0;
     }
     let contact = one(at(connections, c * 7 + 4));
-    let t = target(roads, junctions, ends, g - 1, contact);
+    let s = g - 1;
+    let t = target(roads, junctions, ends, RoadId(s as u32), contact);
     let e = back_end(text, t, connections, c);
-    vacant_end(roads, junctions, ends, r, e)
+    vacant_end(roads, junctions, ends, RoadId(r), e)
 }
 
 // Gives connection c's incoming road junction k where it is left out, with a warning. Returns how many warnings there are.
@@ -97,13 +104,19 @@ fn missing_link(
     c: usize,
     w: usize,
 ) -> usize
-    requires { ⌜ (k < 16384) × (c < 8192) × (w * 4 + 4 ≤ length (now warn)) × (w < 16384) × (length (now ends) ≡ 32768) × Known (now text) (now roads) (now heads) (now next) ⌝ }
-    ensures { λ q. ⌜ (q ≤ w + 1) × ((ss ps : List ℕ) → (roadsNow ss (now (roads .entry)) (now (junctions .entry)) (now (ends .exit)) ≡ missingLink (sameIn (now (text .entry))) (nameAt 5 0 (now (junctions .entry)) k) (connectionAt ps (now (connections .entry)) c) (roadsNow ss (now (roads .entry)) (now (junctions .entry)) (now (ends .entry)))) × (take (q * 4) (now (warn .exit)) ≡ take (w * 4) (now (warn .entry)) ++ gather (warningRow (mapTables (now (text .entry)) (now (roads .entry)) ss (now (junctions .entry)) (now (connections .entry)) ps)) (warnOne (sameIn (now (text .entry))) k (nameAt 5 0 (now (junctions .entry)) k) (connectionAt ps (now (connections .entry)) c) (roadsNow ss (now (roads .entry)) (now (junctions .entry)) (now (ends .entry)))))) ⌝ }
+    ghost { List ℕ → List ℕ → Tables }
+    requires { λ t. ⌜ (λ sections pairs. mapTables (now text) (now roads) sections (now junctions) (now connections) pairs) ≡ t ⌝ }
+    requires { λ _. ⌜ (k < 16384) × (c < 8192) × (w < 16384) × (w * 4 + 4 ≤ length (now warn)) ⌝ }
+    requires { λ _. ⌜ (length (now ends) ≡ 32768) × Known (now text) (now roads) (now heads) (now next) ⌝ }
+    ensures { λ _ q. ⌜ q ≤ w + 1 ⌝ }
+    ensures { λ t q. ⌜ ((sections pairs : List ℕ) → Linked (t sections pairs) k (rowConnection (t sections pairs) c ∷ [])
+        (now (ends .entry)) (now (ends .exit)) w q (now (warn .entry)) (now (warn .exit))) ⌝ }
 {
     let f = road_of(text, roads, heads, next, connections, c * 7 + 0);
     if f == 0 {
         return w;
     }
+    let r = f - 1;
     let e = missing_end(
         text,
         roads,
@@ -112,15 +125,16 @@ fn missing_link(
         heads,
         next,
         ends,
-        f - 1,
+        RoadId(r as u32),
         k,
         c,
     );
     if e == 0 {
         return w;
     }
-    ends[(f - 1) * 2 + (e - 1)] = (k + 2) as u32;
-    let row = [3, k as u32, (f - 1) as u32, (e - 1) as u32];
+    let end = e - 1;
+    ends[r * 2 + end] = (k + 2) as u32;
+    let row = [3, k as u32, r as u32, end as u32];
     rows::put(warn, w * 4, &row);
     w + 1
 }
@@ -140,8 +154,14 @@ pub fn missing_links(
     m: usize,
     w: usize,
 ) -> usize
-    requires { ⌜ (k < 16384) × (first + m ≤ 8192) × (w ≤ first) × (length (now warn) ≡ 32768) × (length (now ends) ≡ 32768) × Known (now text) (now roads) (now heads) (now next) ⌝ }
-    ensures { λ q. ⌜ (q ≤ w + m) × ((ss ps : List ℕ) → (roadsNow ss (now (roads .entry)) (now (junctions .entry)) (now (ends .exit)) ≡ missingLinks (sameIn (now (text .entry))) (nameAt 5 0 (now (junctions .entry)) k) (run (connectionAt ps (now (connections .entry))) first m) (roadsNow ss (now (roads .entry)) (now (junctions .entry)) (now (ends .entry)))) × (take (q * 4) (now (warn .exit)) ≡ take (w * 4) (now (warn .entry)) ++ gather (warningRow (mapTables (now (text .entry)) (now (roads .entry)) ss (now (junctions .entry)) (now (connections .entry)) ps)) (warnAll (sameIn (now (text .entry))) k (nameAt 5 0 (now (junctions .entry)) k) (run (connectionAt ps (now (connections .entry))) first m) (roadsNow ss (now (roads .entry)) (now (junctions .entry)) (now (ends .entry)))))) ⌝ }
+    ghost { List ℕ → List ℕ → Tables }
+    requires { λ t. ⌜ (λ sections pairs. mapTables (now text) (now roads) sections (now junctions) (now connections) pairs) ≡ t ⌝ }
+    requires { λ _. ⌜ (k < 16384) × (first + m ≤ 8192) × (w ≤ first) ⌝ }
+    requires { λ _. ⌜ (length (now ends) ≡ 32768) × (length (now warn) ≡ 32768) ⌝ }
+    requires { λ _. ⌜ Known (now text) (now roads) (now heads) (now next) ⌝ }
+    ensures { λ _ q. ⌜ q ≤ w + m ⌝ }
+    ensures { λ t q. ⌜ ((sections pairs : List ℕ) → Linked (t sections pairs) k (run (rowConnection (t sections pairs)) first m)
+        (now (ends .entry)) (now (ends .exit)) w q (now (warn .entry)) (now (warn .exit))) ⌝ }
 {
     let mut at = w;
     let mut i = 0;

@@ -6,21 +6,20 @@ use crate::targets::at;
 use crate::targets::index_at;
 use crate::targets::meeting_end;
 use crate::targets::road_of;
+use tables::lookup::RoadId;
 use words::names;
 use words::rows;
 use words::tests::both;
 ghost use mathlib.Core.Path.{_≡_};
-ghost use mathlib.Core.Bool.{not, cond};
-ghost use mathlib.Core.List.{List, [], _∷_};
+ghost use mathlib.Core.List.{List};
 ghost use Prim.Native.Nat.{ℕ, _+_, _*_, _/_, _≤_, _<_};
 ghost use lib.ListN.{length};
-ghost use Rattle.model.specs.Lists.{listO, some?};
+ghost use Rattle.model.specs.Tables.{Tables, mapTables};
 ghost use Rattle.model.specs.Text.{sameIn};
-ghost use Rattle.model.specs.Repair.{backAt, backOf, runsBack, reversed};
-ghost use Rattle.words.specs.Rows.{any, total, nameAt, nameFrom};
-ghost use Rattle.repair.specs.Now.{Known, run, endOpt, roadsNow, connectionAt};
-ghost use Rattle.repair.specs.Laying.{Laid, Small, turnedAt, Chain};
-ghost use Rattle.rules.specs.Parts.{counts};
+ghost use Rattle.words.specs.Rows.{any, nameFrom};
+ghost use Rattle.repair.specs.Now.{Known, rowConnection};
+ghost use Rattle.repair.specs.Laying.{turnedAt, backList, backFrom, reversedAt, Pile, pile, Laid, Long};
+ghost use Rattle.repair.specs.Laying.{Small, Chain, RoomForAll, pairsBefore};
 
 // Whether the names at words i and j of a table are equal.
 fn same_at(text: &[u8], ws: &[u32], i: usize, j: usize) -> bool
@@ -51,7 +50,8 @@ fn runs_back(
     c: usize,
 ) -> bool
     requires { ⌜ (c < 16384) × Chain (now text) (now connections) (now heads) (now next) ⌝ }
-    ensures { λ q. ⌜ q ≡ any (length (now (connections .entry)) / 7) (turnedAt (now (text .entry)) (now (connections .entry)) first last c) ⌝ }
+    ensures { λ q. ⌜ q ≡ any (length (now (connections .entry)) / 7)
+        (turnedAt (now (text .entry)) (now (connections .entry)) first last c) ⌝ }
 {
     let s = index_at(connections, c * 7 + 2);
     let l = index_at(connections, c * 7 + 2 + 1);
@@ -82,8 +82,13 @@ fn back_contact(
     m: usize,
     c: usize,
 ) -> usize
-    requires { ⌜ (k < 16384) × (c < 16384) × (first + m ≤ length (now connections) / 7) × Known (now text) (now roads) (now heads) (now next) × Chain (now text) (now connections) (now cheads) (now cnext) ⌝ }
-    ensures { λ q. ⌜ (q ≤ 2) × ((ss ps : List ℕ) → listO (endOpt q) (λ e. backAt (connectionAt ps (now (connections .entry)) c) e ∷ []) ≡ cond (not (some? (runsBack (sameIn (now (text .entry))) (connectionAt ps (now (connections .entry)) c)) (run (connectionAt ps (now (connections .entry))) first m))) (backOf (sameIn (now (text .entry))) (roadsNow ss (now (roads .entry)) (now (junctions .entry)) (now (ends .entry))) (nameAt 5 0 (now (junctions .entry)) k) (connectionAt ps (now (connections .entry)) c)) []) ⌝ }
+    ghost { List ℕ → List ℕ → Tables }
+    requires { λ t. ⌜ (λ sections pairs. mapTables (now text) (now roads) sections (now junctions) (now connections) pairs) ≡ t ⌝ }
+    requires { λ _. ⌜ (k < 16384) × (c < 16384) × (first + m ≤ length (now connections) / 7) ⌝ }
+    requires { λ _. ⌜ Known (now text) (now roads) (now heads) (now next) × Chain (now text) (now connections) (now cheads) (now cnext) ⌝ }
+    ensures { λ _ q. ⌜ q ≤ 2 ⌝ }
+    ensures { λ t q. ⌜ ((sections pairs : List ℕ) → backList q (rowConnection (t sections pairs) c)
+        ≡ backFrom (t sections pairs) (now (ends .entry)) k first m (rowConnection (t sections pairs) c)) ⌝ }
 {
     if runs_back(text, connections, cheads, cnext, first, first + m, c) {
         return 0;
@@ -92,7 +97,8 @@ fn back_contact(
     if f == 0 {
         return 0;
     }
-    meeting_end(text, roads, junctions, ends, f - 1, k)
+    let r = f - 1;
+    meeting_end(text, roads, junctions, ends, RoadId(r as u32), k)
 }
 
 // Lays the connections of direct junction k the other way.
@@ -115,8 +121,18 @@ pub fn reversed(
     cs: &mut [u32],
     ps: &mut [u32],
 ) -> Reach
-    requires { ⌜ Small (now pairs) (now connections) × (k < 16384) × (first + m ≤ length (now connections) / 7) × (n + m ≤ 16384) × (p + total (first + m) (counts 7 6 (now connections)) ≤ 16384 + total first (counts 7 6 (now connections))) × (length (now cs) ≡ 114688) × (length (now ps) ≡ 32768) × Known (now text) (now roads) (now heads) (now next) × Chain (now text) (now connections) (now cheads) (now cnext) ⌝ }
-    ensures { λ q. ⌜ (q .connections ≤ n + m) × (q .pairs + total first (counts 7 6 (now (connections .entry))) ≤ p + total (first + m) (counts 7 6 (now (connections .entry)))) × ((ss : List ℕ) → Laid (reversed (sameIn (now (text .entry))) (roadsNow ss (now (roads .entry)) (now (junctions .entry)) (now (ends .entry))) (nameAt 5 0 (now (junctions .entry)) k) (run (connectionAt (now (pairs .entry)) (now (connections .entry))) first m)) n p (q .connections) (q .pairs) (now (cs .entry)) (now (ps .entry)) (now (cs .exit)) (now (ps .exit))) ⌝ }
+    ghost { (List ℕ → Tables) × Pile }
+    requires { λ α. ⌜ (
+      (λ sections. mapTables (now text) (now roads) sections (now junctions) (now connections) (now pairs)),
+      pile n p (now cs) (now ps),
+    ) ≡ α ⌝ }
+    requires { λ _. ⌜ (k < 16384) × Small (now pairs) (now connections) ⌝ }
+    requires { λ _. ⌜ RoomForAll (now connections) first m n p × Long (now cs) (now ps) ⌝ }
+    requires { λ _. ⌜ Known (now text) (now roads) (now heads) (now next) × Chain (now text) (now connections) (now cheads) (now cnext) ⌝ }
+    ensures { λ _ q. ⌜ q .connections ≤ n + m ⌝ }
+    ensures { λ _ q. ⌜ q .pairs + pairsBefore (now (connections .entry)) first ≤ p + pairsBefore (now (connections .entry)) (first + m) ⌝ }
+    ensures { λ α q. ⌜ ((sections : List ℕ) → Laid (reversedAt (α .0 sections) (now (ends .entry)) k first m)
+        (α .1) (pile (q .connections) (q .pairs) (now (cs .exit)) (now (ps .exit)))) ⌝ }
 {
     let mut x = n;
     let mut y = p;

@@ -1,22 +1,23 @@
 // The roads' rows after repair.
 use crate::targets::at;
 use crate::targets::target;
+use tables::lookup::RoadId;
 use words::rows;
 ghost use mathlib.Core.Path.{_≡_};
 ghost use Prim.Native.Nat.{_+_, _*_, _/_, _≤_, _<_};
 ghost use lib.ListN.{length};
-ghost use Rattle.model.specs.Lists.{gather};
 ghost use Rattle.model.specs.Rows.{written};
-ghost use Rattle.words.specs.Rows.{tab};
-ghost use Rattle.repair.specs.Along.{roadNowWords};
+ghost use Rattle.repair.specs.Along.{roadNowWords, roadsNowWords};
 
-// Road r's words.
-fn road_row(roads: &[u32], junctions: &[u32], ends: &[u32], r: usize) -> [u32; 20]
-    requires { ⌜ r < 16384 ⌝ }
-    ensures { λ q. ⌜ q ≡ roadNowWords (now (roads .entry)) (now (junctions .entry)) (now (ends .entry)) r ⌝ }
+// A road's words.
+fn road_row(roads: &[u32], junctions: &[u32], ends: &[u32], road: RoadId) -> [u32; 20]
+    requires { ⌜ road .0 < 16384 ⌝ }
+    ensures { λ q. ⌜ q ≡ roadNowWords (now (roads .entry)) (now (junctions .entry)) (now (ends .entry)) (road .0) ⌝ }
 {
-    let a = target(roads, junctions, ends, r, 0);
-    let b = target(roads, junctions, ends, r, 1);
+    let id = road.0;
+    let a = target(roads, junctions, ends, RoadId(id), 0);
+    let b = target(roads, junctions, ends, RoadId(id), 1);
+    let r = id as usize;
     let w0 = at(roads, r * 20);
     let w1 = at(roads, r * 20 + 1);
     let w2 = at(roads, r * 20 + 2);
@@ -50,12 +51,13 @@ fn road_row(roads: &[u32], junctions: &[u32], ends: &[u32], r: usize) -> [u32; 2
 // Writes the roads.
 pub fn put_roads(roads: &[u32], junctions: &[u32], ends: &[u32], out: &mut [u32])
     requires { ⌜ (length (now roads) / 20 ≤ 16384) × (length (now roads) / 20 * 20 ≤ length (now out)) ⌝ }
-    ensures { λ _. ⌜ now (out .exit) ≡ written (gather (roadNowWords (now (roads .entry)) (now (junctions .entry)) (now (ends .entry))) (tab (length (now (roads .entry)) / 20) (λ r. r))) (now (out .entry)) ⌝ }
+    ensures { λ _. ⌜ now (out .exit)
+        ≡ written (roadsNowWords (now (roads .entry)) (now (junctions .entry)) (now (ends .entry))) (now (out .entry)) ⌝ }
 {
     let n = roads.len() / 20;
     let mut r = 0;
     while r < n {
-        let row = road_row(roads, junctions, ends, r);
+        let row = road_row(roads, junctions, ends, RoadId(r as u32));
         rows::put(out, r * 20, &row);
         r += 1;
     }

@@ -1,4 +1,5 @@
 // A road's targets as repaired so far, and the road of a name.
+use tables::lookup::RoadId;
 use words::index;
 use words::names;
 use words::tests::both;
@@ -6,15 +7,16 @@ use words::tests::is;
 ghost use mathlib.Core.Path.{_≡_};
 ghost use mathlib.Core.Bool.{_||_};
 ghost use mathlib.Core.List.{List};
-ghost use Prim.Native.Nat.{ℕ, _+_, _*_, _/_, _≤_, _<_};
+ghost use Prim.Native.Nat.{ℕ, _/_, _≤_, _<_};
 ghost use lib.ListN.{length, getD};
 ghost use lib.Dec.{eqb};
+ghost use Rattle.model.specs.Records.{Road};
+ghost use Rattle.model.specs.Repair.{namesJunction, meets, meetingEnd};
 ghost use Rattle.model.specs.Tables.{bit, targetIn};
 ghost use Rattle.model.specs.Text.{sameIn};
-ghost use Rattle.model.specs.Repair.{namesJunction, meets, meetingEnd};
-ghost use Rattle.words.specs.Rows.{lastOf, span, nameAt, nameFrom};
-ghost use Rattle.words.specs.Keys.{bears};
-ghost use Rattle.repair.specs.Now.{Known, endOpt, nowWords, targetNow, roadNow};
+ghost use Rattle.words.specs.Rows.{span, nameAt, nameFrom};
+ghost use Rattle.rules.specs.ByRow.{roadRowOf};
+ghost use Rattle.repair.specs.Now.{Known, endOpt, wordsNow, targetNow, roadNow};
 
 // A word of a table, 0 past its end.
 pub fn at(ws: &[u32], k: usize) -> u32
@@ -63,18 +65,22 @@ pub fn road_of(
     k: usize,
 ) -> usize
     requires { ⌜ (k < 16777216) × Known (now text) (now roads) (now heads) (now next) ⌝ }
-    ensures { λ q. ⌜ (q ≡ lastOf (length (now (roads .entry)) / 20) (bears (now (text .entry)) 20 0 (now (roads .entry)) (nameFrom (now (ws .entry)) k))) × (q ≤ length (now (roads .entry)) / 20) ⌝ }
+    ensures { λ q. ⌜ q ≡ roadRowOf (now (text .entry)) (now (roads .entry)) (nameFrom (now (ws .entry)) k) ⌝ }
+    ensures { λ q. ⌜ q ≤ length (now (roads .entry)) / 20 ⌝ }
 {
     let s = index_at(ws, k);
     let l = index_at(ws, k + 1);
     index::find_name(text, roads, 20, 0, heads, next, roads.len() / 20, s, l)
 }
 
-// The words of road r's target at end e.
-pub fn target(roads: &[u32], junctions: &[u32], ends: &[u32], r: usize, e: usize) -> [u32; 7]
-    requires { ⌜ (r < 16384) × (e ≤ 1) ⌝ }
-    ensures { λ q. ⌜ (q ≡ nowWords (getD (now (ends .entry)) (r * 2 + e) 0) (now (roads .entry)) (now (junctions .entry)) (r * 20 + 4 + e * 7) e) × (targetIn q 0 ≡ targetNow (now (roads .entry)) (now (junctions .entry)) (now (ends .entry)) r (eqb e 1)) ⌝ }
+// The words of a road's target at end e.
+pub fn target(roads: &[u32], junctions: &[u32], ends: &[u32], road: RoadId, e: usize) -> [u32; 7]
+    requires { ⌜ (road .0 < 16384) × (e ≤ 1) ⌝ }
+    ensures { λ q. ⌜ q ≡ wordsNow (now (roads .entry)) (now (junctions .entry)) (now (ends .entry)) (road .0) e ⌝ }
+    ensures { λ q. ⌜ targetIn q 0
+        ≡ targetNow (now (roads .entry)) (now (junctions .entry)) (now (ends .entry)) (road .0) (eqb e 1) ⌝ }
 {
+    let r = road.0 as usize;
     let w = index_at(ends, r * 2 + e);
     if w == 0 {
         let a = r * 20 + 4 + e * 7;
@@ -97,14 +103,14 @@ pub fn target(roads: &[u32], junctions: &[u32], ends: &[u32], r: usize, e: usize
 }
 
 // Whether a target names junction k.
-pub fn names_junction(text: &[u8], t: [u32; 7], junctions: &[u32], k: usize) -> bool
+pub fn names_junction(text: &[u8], words: [u32; 7], junctions: &[u32], k: usize) -> bool
     requires { ⌜ k < 16384 ⌝ }
-    ensures { λ q. ⌜ q ≡ namesJunction (sameIn (now (text .entry))) (nameAt 5 0 (now (junctions .entry)) k) (targetIn t 0) ⌝ }
+    ensures { λ q. ⌜ q ≡ namesJunction (sameIn (now (text .entry))) (nameAt 5 0 (now (junctions .entry)) k) (targetIn words 0) ⌝ }
 {
     let s = at(junctions, k * 5 + 0);
     let l = at(junctions, k * 5 + 0 + 1);
-    let a = both(is(t[0], 1), is(t[1], 1));
-    both(a, alike(text, t[2], t[3], s, l))
+    let a = both(is(words[0], 1), is(words[1], 1));
+    both(a, alike(text, words[2], words[3], s, l))
 }
 
 fn either(a: bool, b: bool) -> bool
@@ -116,43 +122,52 @@ fn either(a: bool, b: bool) -> bool
     b
 }
 
-// Whether road r names junction k at either end.
+// Whether a road names junction k at either end.
 pub fn meets(
     text: &[u8],
     roads: &[u32],
     junctions: &[u32],
     ends: &[u32],
-    r: usize,
+    road: RoadId,
     k: usize,
 ) -> bool
-    requires { ⌜ (r < 16384) × (k < 16384) ⌝ }
-    ensures { λ q. ⌜ ((ss : List ℕ) → q ≡ meets (sameIn (now (text .entry))) (nameAt 5 0 (now (junctions .entry)) k) (roadNow ss (now (roads .entry)) (now (junctions .entry)) (now (ends .entry)) r)) ⌝ }
+    ghost { List ℕ → Road }
+    requires { λ R. ⌜ (λ sections. roadNow sections (now roads) (now junctions) (now ends) (road .0)) ≡ R ⌝ }
+    requires { λ _. ⌜ (road .0 < 16384) × (k < 16384) ⌝ }
+    ensures { λ R q. ⌜ ((sections : List ℕ) →
+        q ≡ meets (sameIn (now (text .entry))) (nameAt 5 0 (now (junctions .entry)) k) (R sections)) ⌝ }
 {
-    let a = target(roads, junctions, ends, r, 0);
-    let b = target(roads, junctions, ends, r, 1);
+    let r = road.0;
+    let a = target(roads, junctions, ends, RoadId(r), 0);
+    let b = target(roads, junctions, ends, RoadId(r), 1);
     either(
         names_junction(text, a, junctions, k),
         names_junction(text, b, junctions, k),
     )
 }
 
-// The end at which road r names junction k, plus 1: the successor end where both do, 0 where neither does.
+// The end at which a road names junction k, plus 1: the successor end where both do, 0 where neither does.
 pub fn meeting_end(
     text: &[u8],
     roads: &[u32],
     junctions: &[u32],
     ends: &[u32],
-    r: usize,
+    road: RoadId,
     k: usize,
 ) -> usize
-    requires { ⌜ (r < 16384) × (k < 16384) ⌝ }
-    ensures { λ q. ⌜ (q ≤ 2) × ((ss : List ℕ) → endOpt q ≡ meetingEnd (sameIn (now (text .entry))) (nameAt 5 0 (now (junctions .entry)) k) (roadNow ss (now (roads .entry)) (now (junctions .entry)) (now (ends .entry)) r)) ⌝ }
+    ghost { List ℕ → Road }
+    requires { λ R. ⌜ (λ sections. roadNow sections (now roads) (now junctions) (now ends) (road .0)) ≡ R ⌝ }
+    requires { λ _. ⌜ (road .0 < 16384) × (k < 16384) ⌝ }
+    ensures { λ _ q. ⌜ q ≤ 2 ⌝ }
+    ensures { λ R q. ⌜ ((sections : List ℕ) →
+        endOpt q ≡ meetingEnd (sameIn (now (text .entry))) (nameAt 5 0 (now (junctions .entry)) k) (R sections)) ⌝ }
 {
-    let b = target(roads, junctions, ends, r, 1);
+    let r = road.0;
+    let b = target(roads, junctions, ends, RoadId(r), 1);
     if names_junction(text, b, junctions, k) {
         return 2;
     }
-    let a = target(roads, junctions, ends, r, 0);
+    let a = target(roads, junctions, ends, RoadId(r), 0);
     if names_junction(text, a, junctions, k) {
         return 1;
     }

@@ -10,14 +10,14 @@ use lib.ListN.{length, getD}
 use borrow.Author.Tests.{eqb-true, leb-true}
 use Rattle.model.specs.Calls.{ReversalOutputs, markRules, markedBy, reversalContent, reversalCounts}
 use Rattle.model.specs.Calls.{reversalLengths, reversalRules, tableRules}
-use Rattle.model.specs.Lists.{ascends, every}
+use Rattle.model.specs.Lists.{ascends, every, gather}
 use Rattle.model.specs.Records.{Span}
 use Rattle.model.specs.Reversal.{reverseEdged, reverseJunction, reverseLane, reverseMap, reverseRoad}
 use Rattle.model.specs.Rows.{partsFit, rowsFrom, table}
 use Rattle.model.specs.Rules.{connectionPartsFit, connectionWorded, edgesEven, edgesSized, firstBroken, fits}
 use Rattle.model.specs.Rules.{junctionWorded, laneWorded, lanesSized, lanesWorded, mapSized, mapWorded}
 use Rattle.model.specs.Rules.{pairPartsFit, roadWorded, sectionPartsFit, sectionsAscend}
-use Rattle.model.specs.Tables.{Tables, allPairs, connectionRow, connectionWords, edgeWords, edgedLanesOf}
+use Rattle.model.specs.Tables.{Tables, allPairs, connectionRow, connectionWords, edgeWords, edgedLanesOf, junctionsOf}
 use Rattle.model.specs.Tables.{laneWords, lanesIn, mapOf, pairRow, pairWords, roadWords, roadsIn, roadsOf}
 use Rattle.model.specs.Tables.{sectionWords}
 use Rattle.model.specs.Text.{sameIn}
@@ -33,7 +33,7 @@ use Rattle.rules.proofs.Counts.{few, sized-few}
 use Rattle.rules.proofs.Forms.{lanes-listed, roads-once, sections-ascend}
 use Rattle.tables.proofs.Order.{marks-count, not-none}
 use Rattle.reversal.specs.Answers.{outputs}
-use Rattle.reversal.specs.Turned.{Kept, Ready, Room, Writable, markOf}
+use Rattle.reversal.specs.Turned.{Kept, Room, Writable, markOf}
 use Rattle.reversal.specs.Turned.{turnedTables}
 use Rattle.reversal.proofs.EdgeWords.{edges-are}
 use Rattle.reversal.proofs.LaneWords.{kept-at, lane-mark, lanes-are}
@@ -96,69 +96,86 @@ pub record Facts (t : Tables) (marks : List ℕ) : Type 0 where
 pub facts : (t : Tables) (marks : List ℕ) → none ≡ firstBroken (reversalRules t marks) → Facts t marks
 unfolding reversalRules markRules mapWorded lanesWorded sectionPartsFit connectionPartsFit pairPartsFit
     edgesEven lanesSized
-facts t marks e =
-    let u = unbroken-append (tableRules t) (markRules t marks) (sym e) in
-    let f = fine t (u .0) in
-    let ms = all-pass (markRules t marks) (u .1) in
-    let sizes = and3 (mapSized 16384 t) (lanesSized t) (edgesSized t) (f .sizes) in
-    let fw = few 16384 t (native.Mathlib.Nat.le-refl 16384) (sizes .0) in
-    let words = f .rest .worded in
-    let m1 = every (roadWorded (t .text)) (table 20 (t .roads)) in
-    let m2 = every (junctionWorded (t .text)) (table 5 (t .junctions)) in
-    let m3 = every (connectionWorded (t .text)) (table 7 (t .connections)) in
-    let m4 = every (laneWorded (t .text)) (table 10 (t .lanes)) in
-    let mw = and3 m1 m2 m3 (left-on (m1 && m2 && m3) m4 words) in
-    let p4 = partsFit 18 19 0 (length (t .sections)) (table 20 (t .roads)) in
-    let p5 = partsFit 3 4 0 (length (t .connections) / 7) (table 5 (t .junctions)) in
-    let p6 = partsFit 5 6 0 (length (t .pairs) / 2) (table 7 (t .connections)) in
+facts t marks clear =
+    let parted = unbroken-append (tableRules t) (markRules t marks) (sym clear) in
+    let right = fine t (parted .0) in
+    let marks-right = all-pass (markRules t marks) (parted .1) in
+    let sizes = and3 (mapSized 16384 t) (lanesSized t) (edgesSized t) (right .sizes) in
+    let counts = few 16384 t (native.Mathlib.Nat.le-refl 16384) (sizes .0) in
+    let roads-worded = every (roadWorded (t .text)) (table 20 (t .roads)) in
+    let junctions-worded = every (junctionWorded (t .text)) (table 5 (t .junctions)) in
+    let connections-worded = every (connectionWorded (t .text)) (table 7 (t .connections)) in
+    let map-worded = roads-worded && junctions-worded && connections-worded in
+    let lanes-worded = every (laneWorded (t .text)) (table 10 (t .lanes)) in
+    let worded = and3 roads-worded junctions-worded connections-worded
+    (left-on map-worded lanes-worded (right .rest .worded)) in
+    let sections-placed = partsFit 18 19 0 (length (t .sections)) (table 20 (t .roads)) in
+    let sections-rise = sectionsAscend (roadsIn (t .sections) (t .roads)) in
+    let connections-placed = partsFit 3 4 0 (length (t .connections) / 7) (table 5 (t .junctions)) in
+    let pairs-placed = partsFit 5 6 0 (length (t .pairs) / 2) (table 7 (t .connections)) in
     record {
-      few-roads = fw .few-roads;
-      few-connections = fw .few-connections;
+      few-roads = counts .few-roads;
+      few-connections = counts .few-connections;
       few-lanes = sized-few 10 16384 (length (t .lanes)) (sizes .1);
-      even-marks = sym (marks-count (t .roads) marks (ms .0));
-      even-edges = eqb-true (length (t .edges)) (12 * (length (t .lanes) / 10)) (f .rest .edges);
+      even-marks = sym (marks-count (t .roads) marks (marks-right .0));
+      even-edges = eqb-true (length (t .edges)) (12 * (length (t .lanes) / 10)) (right .rest .edges);
       once = not-none (any (length (t .roads) / 20) (nameBefore (t .text) 20 0 (t .roads)))
-          (sym (roads-once (t .text) (t .roads) (t .sections)) ∙ f .rest .once);
-      parts = left-on p4 (sectionsAscend (roadsIn (t .sections) (t .roads))) (f .rest .sections);
+          (sym (roads-once (t .text) (t .roads) (t .sections)) ∙ right .rest .once);
+      parts = left-on sections-placed sections-rise (right .rest .sections);
       up = sym (sections-ascend (t .roads) (t .sections))
-          ∙ right-on p4 (sectionsAscend (roadsIn (t .sections) (t .roads))) (f .rest .sections);
-      members = left-on p5 p6 (f .rest .connections);
-      links = right-on p5 p6 (f .rest .connections);
-      road-words = mw .0;
-      junction-words = mw .1;
-      connection-words = mw .2;
-      lane-words = right-on (m1 && m2 && m3) m4 words;
-      listed = sym (lanes-listed (t .text) (t .roads) (t .sections) (t .lanes)) ∙ f .rest .listed;
-      whole = fine-whole t f .of-junctions;
+          ∙ right-on sections-placed sections-rise (right .rest .sections);
+      members = left-on connections-placed pairs-placed (right .rest .connections);
+      links = right-on connections-placed pairs-placed (right .rest .connections);
+      road-words = worded .0;
+      junction-words = worded .1;
+      connection-words = worded .2;
+      lane-words = right-on map-worded lanes-worded (right .rest .worded);
+      listed = sym (lanes-listed (t .text) (t .roads) (t .sections) (t .lanes)) ∙ right .rest .listed;
+      whole = fine-whole t right .of-junctions;
     }
 
 module _ (t : Tables) (marks : List ℕ) (f : Facts t marks) {heads next owner kheads knext : List ℕ}
     (linked : Linked (t .text) (t .roads) (t .lanes) heads next owner kheads knext) where
-  pub ready : length heads ≡ 16384 → length next ≡ 16384 → Ready (t .text) (t .roads) marks heads next
-  ready a b = record { few = f .few-roads; even = f .even-marks; buckets = a; links = b; named = linked .named }
-
-  pub kept : (i : ℕ) → i < length (t .lanes) / 10 → Kept (t .roads) (t .sections) (t .lanes) owner i
+  kept : (i : ℕ) → i < length (t .lanes) / 10 → Kept (t .roads) (t .sections) (t .lanes) owner i
   kept = kept-at (t .text) (t .roads) (t .sections) (t .lanes) owner (f .once) (f .up) (f .listed) (linked .owned)
 
-  pub owner-low : (i : ℕ) → i < length (t .edges) / 12 → getD owner i 0 ≤ length marks
+  owner-low : (i : ℕ) → i < length (t .edges) / 12 → getD owner i 0 ≤ length marks
   owner-low i h =
-      let e = f .even-edges in
-      let n : length (t .edges) / 12 ≡ length (t .lanes) / 10 = omega arith in
-      let k = kept i (subst (λ (m : ℕ). i < m) n h) .below in
-      let m = f .even-marks in
-      omega arith
+      let lane : i < length (t .lanes) / 10 = omega (arith, f .even-edges) in
+      omega (arith, f .even-marks, kept i lane .below)
 
-  pub few-edges : length (t .edges) / 12 ≤ 16384
-  few-edges = let e = f .even-edges in let l = f .few-lanes in omega arith
+  -- what the loops ask
+  pub writable : length heads ≡ 16384 → length next ≡ 16384 → length owner ≡ 16384
+      → Writable (t .text) (t .roads) (t .sections) (t .connections) (t .pairs) (t .lanes) (t .edges) marks
+      heads next owner
+  writable buckets links owners = record {
+    ready = record {
+      few = f .few-roads;
+      even = f .even-marks;
+      buckets = buckets;
+      links = links;
+      named = linked .named;
+    };
+    parts = f .parts;
+    up = f .up;
+    links = f .links;
+    few-connections = f .few-connections;
+    few-lanes = f .few-lanes;
+    few-edges = omega (arith, f .even-edges, f .few-lanes);
+    owners = owners;
+    kept = kept;
+    low = owner-low;
+  }
 
-  mk-is : markedBy t marks ≡ markOf (t .text) (t .roads) marks
-  mk-is = fun-ext (mark-is (t .text) (t .roads) (t .sections) (f .once) marks (f .even-marks))
+  -- the marks by name are those by row
+  marked-is : markedBy t marks ≡ markOf (t .text) (t .roads) marks
+  marked-is = fun-ext (mark-is (t .text) (t .roads) (t .sections) (f .once) marks (f .even-marks))
 
   contentBy : (Span → Bool) → ReversalOutputs
   contentBy mk =
       outputs (roadWords (map (reverseRoad mk) (roadsOf t))) (sectionWords (map (reverseRoad mk) (roadsOf t)))
-      (connectionWords (map (reverseJunction mk) (Rattle.model.specs.Tables.junctionsOf t)))
-      (pairWords (map (reverseJunction mk) (Rattle.model.specs.Tables.junctionsOf t)))
+      (connectionWords (map (reverseJunction mk) (junctionsOf t)))
+      (pairWords (map (reverseJunction mk) (junctionsOf t)))
       (laneWords (map (reverseLane (sameIn (t .text)) mk (roadsOf t)) (lanesIn (t .lanes))))
       (edgeWords (map (reverseEdged (sameIn (t .text)) mk (roadsOf t)) (edgedLanesOf t)))
 
@@ -168,49 +185,31 @@ module _ (t : Tables) (marks : List ℕ) (f : Facts t marks) {heads next owner k
   unfolding reversalContent reverseMap mapOf contentBy connectionWords pairWords allPairs edgedLanesOf turnedTables
   content-is =
       let mk = markOf (t .text) (t .roads) marks in
-      let turned =
-      all-turned (t .text) mk (t .pairs) (t .connections) (t .junctions) (f .whole) (f .junction-words)
+      let turned = all-turned (t .text) mk (t .pairs) (t .connections) (t .junctions) (f .whole) (f .junction-words)
       (f .members) in
-      let r =
-      roads-are (t .text) (t .roads) (t .sections) marks (f .once) (f .even-marks) (f .road-words)
+      let roads = roads-are (t .text) (t .roads) (t .sections) marks (f .once) (f .even-marks) (f .road-words)
       (f .parts) in
-      let s =
-      sections-are (t .text) (t .roads) (t .sections) marks (f .once) (f .even-marks) (f .road-words)
+      let sections = sections-are (t .text) (t .roads) (t .sections) marks (f .once) (f .even-marks) (f .road-words)
       (f .parts) in
-      let c =
-      ap (rowsFrom connectionRow (λ c. c .pairs) 0) turned
-      ∙ connections-are (t .text) (t .roads) marks (t .connections) (t .pairs) (f .connection-words)
-      (f .links) in
-      let p =
-      ap (λ cs.
-      Rattle.model.specs.Lists.gather pairRow (Rattle.model.specs.Lists.gather (λ c. c .pairs) cs))
-      turned
+      let connections = ap (rowsFrom connectionRow (λ c. c .pairs) 0) turned
+      ∙ connections-are (t .text) (t .roads) marks (t .connections) (t .pairs) (f .connection-words) (f .links) in
+      let pairs = ap (λ cs. gather pairRow (gather (λ c. c .pairs) cs)) turned
       ∙ pairs-are (t .text) (t .roads) marks (t .connections) (t .pairs) (f .connection-words) (f .links) in
-      let l =
-      lanes-are (t .text) (t .roads) (t .sections) marks (t .lanes) owner (f .once) (f .road-words)
+      let lanes = lanes-are (t .text) (t .roads) (t .sections) marks (t .lanes) owner (f .once) (f .road-words)
       (f .up) (f .lane-words) (linked .owned) kept in
-      let d =
-      edges-are (sameIn (t .text)) mk (roadsOf t) (t .lanes) owner marks (t .edges) (f .even-edges)
-      (lane-mark (t .text) (t .roads) (t .sections) marks (t .lanes) owner (f .once) (f .road-words)
-      (f .up) (f .lane-words) (linked .owned) kept) in
-      ap contentBy mk-is
-      ∙ (λ i. record { roads = r i; sections = s i; connections = c i; pairs = p i; lanes = l i; edges = d i })
-
-  pub writable : length heads ≡ 16384 → length next ≡ 16384 → length owner ≡ 16384
-      → Writable (t .text) (t .roads) (t .sections) (t .connections) (t .pairs) (t .lanes) (t .edges) marks
-      heads next owner
-  writable a b c = record {
-    ready = ready a b;
-    parts = f .parts;
-    up = f .up;
-    links = f .links;
-    few-connections = f .few-connections;
-    few-lanes = f .few-lanes;
-    few-edges = few-edges;
-    owners = c;
-    kept = kept;
-    low = owner-low;
-  }
+      let own = lane-mark (t .text) (t .roads) (t .sections) marks (t .lanes) owner (f .once) (f .road-words)
+      (f .up) (f .lane-words) (linked .owned) kept in
+      let edges = edges-are (sameIn (t .text)) mk (roadsOf t) (t .lanes) owner marks (t .edges) (f .even-edges) own in
+      ap contentBy marked-is
+      ∙ (λ i.
+      record {
+        roads = roads i;
+        sections = sections i;
+        connections = connections i;
+        pairs = pairs i;
+        lanes = lanes i;
+        edges = edges i;
+      })
 
 -- ---- room
 pub and-true : (b : Bool) → b ≡ (b && true)

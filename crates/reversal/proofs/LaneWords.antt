@@ -9,14 +9,14 @@ use native.Mathlib.Omega.{arith}
 use lib.Dec.{eqb, leb, ltb}
 use lib.ListN.{length, getD, drop}
 use lib.Seq.{getD-drop}
-use borrow.Author.Tests.{eqb-true, eqb-false, leb-true, le-leb, le-ltb, lt-ltb}
-use Rattle.model.specs.Lists.{ascends, bindO, every, final, first, gather, headOr, lastOr, mapO, member, orElse}
+use borrow.Author.Tests.{eqb-true, eq-eqb, ne-eqb, leb-true, le-leb, le-ltb, ltb-false}
+use Rattle.model.specs.Lists.{ascends, bindO, every, final, first, gather, headOr, lastOr, mapO, member, orElse, pick}
 use Rattle.model.specs.Records.{Lane, Road, Span, targetAt, linkAt}
 use Rattle.model.specs.Repair.{roadOf}
-use Rattle.model.specs.Reversal.{leadsBy, leadsTo, marks, mirror, negated, reverseDirection, reverseLane}
+use Rattle.model.specs.Reversal.{leadsBy, leadsTo, mirror, negated, reverseDirection, reverseLane}
 use Rattle.model.specs.Reversal.{reverseLink, roadNamed, roadward, signed}
 use Rattle.model.specs.Rows.{table, word}
-use Rattle.model.specs.Rules.{laneWorded, linkWorded, roadWorded, targetWorded}
+use Rattle.model.specs.Rules.{laneWorded, linkWorded, roadWorded, targetWorded, targetWordedAt}
 use Rattle.model.specs.Succession.{nextSection, sectionsFrom, sectionsOf}
 use Rattle.model.specs.Tables.{directionOf, directionWord, isAbsent, laneIn, laneRow, laneWords, lanesIn}
 use Rattle.model.specs.Tables.{linkOf, linkWords, roadIn, roadsIn, spanIn, targetOf}
@@ -31,11 +31,15 @@ use Rattle.words.proofs.Scans.{all-at, and-step, every-rows, left-on, right-on}
 use Rattle.rules.specs.ByRow.{Owned, knownIn, listedAt, numbersAt, roadRowOf}
 use Rattle.rules.proofs.Forms.{known-none, known-some, lanes-tab, name-at, numbers-at}
 use Rattle.rules.proofs.Locals.{lane-local, road-local}
-use Rattle.reversal.specs.Turned.{Kept, laneOn, laneWith, markAt, markOf, toMarked, turnWay, turnedLane}
+use Rattle.reversal.specs.Turned.{Kept, Within, laneOn, laneWith, markAt, markOf, toMarked, turnWay, turnedLane}
 use Rattle.words.proofs.Joins.{gather-tab, joined-same}
-use Rattle.reversal.proofs.Leaves.{last-is}
+use Rattle.reversal.proofs.Leaves.{if-off, if-on, last-is}
 use Rattle.reversal.proofs.MarkLaws.{road-some}
 use Rattle.reversal.proofs.Places.{between}
+
+-- is the road of that name, if there is one, marked?
+abbrev isMarked : (Span → Bool) → Option Span → Bool
+isMarked mk name = Rattle.model.specs.Reversal.marks mk name
 
 -- ---- links and directions
 signed-zero : (b : Bool) → signed b 0 ≡ 0
@@ -62,7 +66,7 @@ way-turned m (suc (suc (suc d))) h = absurd (let z = leb-true (suc (suc (suc d))
 
 -- ---- the road that a target leads to
 target-leads : (mk : Span → Bool) (text : List ℕ) (p k s n c g a : ℕ) → targetWorded text p k s n c g a ≡ true
-    → marks mk (bindO (targetOf p k s n c g a) roadNamed) ≡ (eqb p 1 && eqb k 0 && mk (span s n))
+    → isMarked mk (bindO (targetOf p k s n c g a) roadNamed) ≡ (eqb p 1 && eqb k 0 && mk (span s n))
 unfolding targetWorded
 target-leads mk text zero k s n c g a h = refl
 target-leads mk text (suc zero) zero s n c g a h = refl
@@ -94,79 +98,55 @@ final-none-head p x xs e = go (final p xs) (p x) e
     go none false z = refl
     go (some y) b z = absurd (no-some y (sym z))
 
-module _ (same : Span → Span → Bool) (mk : Span → Bool) (rs : List Road) (l : Lane) (ss : List ℕ) (s : ℕ)
-    (up : ascends ss ≡ true) (low : headOr 0 ss ≤ s) (high : s ≤ lastOr 0 ss) where
-  leads-end : marks mk (leadsBy same rs l true (nextSection ss s true))
-      ≡ cond (eqb s (lastOr 0 ss)) (marks mk (roadward same rs (l .road) true)) (mk (l .road))
+last-low : (s : ℕ) (ss : List ℕ) → first (λ i. ltb s i) ss ≡ none → lastOr 0 ss ≤ s
+last-low s [] e = omega arith
+last-low s (x ∷ xs) e =
+    let here : suc (length xs) - 1 < suc (length xs) = omega arith in
+    let low = ltb-false s _ (first-none-at (λ i. ltb s i) (x ∷ xs) e (suc (length xs) - 1) here) in
+    omega (arith, low, last-is (x ∷ xs))
+
+head-high : (s : ℕ) (ss : List ℕ) → s ≤ lastOr 0 ss → final (λ i. ltb i s) ss ≡ none → s ≤ headOr 0 ss
+head-high s [] high e = high
+head-high s (x ∷ xs) high e = ltb-false x s (final-none-head (λ i. ltb i s) x xs e)
+
+-- the first (false) or the last (true) of a road's sections
+abbrev edge : Bool → List ℕ → ℕ
+edge e ss = pick e (headOr 0 ss) (lastOr 0 ss)
+
+module _ (ss : List ℕ) (s : ℕ) (up : ascends ss ≡ true) (within : Within ss s) where
+  -- none lies further than that
+  none-further : (e : Bool) → s ≡ edge e ss → nextSection ss s e ≡ none
   unfolding nextSection
-  leads-end = go (eqb s (lastOr 0 ss)) refl
-    where
-      further : (eqb s (lastOr 0 ss) ≡ false) → (o : Option ℕ) → first (λ i. ltb s i) ss ≡ o
-          → marks mk (leadsBy same rs l true o) ≡ mk (l .road)
-      further e (some x) q = refl
-      further e none q =
-          absurd (no ss low high (eqb-false s (lastOr 0 ss) e) (last-is ss) (first-none-at (λ i. ltb s i) ss q))
-        where
-          no : (ss : List ℕ) → headOr 0 ss ≤ s → s ≤ lastOr 0 ss → (s ≡ lastOr 0 ss → ⊥)
-              → getD ss (length ss - 1) 0 ≡ lastOr 0 ss
-              → ((k : ℕ) → k < length ss → ltb s (getD ss k 0) ≡ false) → ⊥
-          no [] lo hi n e f = n (let z : s ≤ 0 = hi in let y : s ≡ 0 = omega arith in y)
-          no (x ∷ xs) lo hi n e f =
-              let z : suc (length xs) - 1 < suc (length xs) = omega arith in
-              true≢false (sym (lt-ltb s (getD (x ∷ xs) (suc (length xs) - 1) 0)
-              (let y : getD (x ∷ xs) (suc (length xs) - 1) 0 ≡ lastOr 0 (x ∷ xs) = e in
-              less (lastOr 0 (x ∷ xs)) hi n y))
-              ∙ f (suc (length xs) - 1) z)
-            where
-              less : (m : ℕ) → s ≤ m → (s ≡ m → ⊥) → {g : ℕ} → g ≡ m → s < g
-              less m h n {g} q = omega arith
+  none-further true at-edge =
+      first-nowhere (λ i. ltb s i) 0 ss (λ k h. le-ltb s (getD ss k 0) (omega (arith, between ss k up h .high)))
+  none-further false at-edge =
+      final-nowhere (λ i. ltb i s) 0 ss (λ k h. le-ltb (getD ss k 0) s (omega (arith, between ss k up h .low)))
 
-      go : (b : Bool) → eqb s (lastOr 0 ss) ≡ b
-          → marks mk (leadsBy same rs l true (first (λ i. ltb s i) ss))
-          ≡ cond b (marks mk (roadward same rs (l .road) true)) (mk (l .road))
-      go true e =
-          ap (λ o. marks mk (leadsBy same rs l true o))
-          (first-nowhere (λ i. ltb s i) 0 ss
-          (λ k h.
-          le-ltb s (getD ss k 0)
-          (let z = between ss k up h .1 in let y = eqb-true s (lastOr 0 ss) e in omega arith)))
-      go false e = further e (first (λ i. ltb s i) ss) refl
-
-  leads-start : marks mk (leadsBy same rs l false (nextSection ss s false))
-      ≡ cond (eqb s (headOr 0 ss)) (marks mk (roadward same rs (l .road) false)) (mk (l .road))
+  -- and of no other section is this so
+  only-edge : (e : Bool) → nextSection ss s e ≡ none → s ≡ edge e ss
   unfolding nextSection
-  leads-start = go (eqb s (headOr 0 ss)) refl
-    where
-      further : (eqb s (headOr 0 ss) ≡ false) → (o : Option ℕ) → final (λ i. ltb i s) ss ≡ o
-          → marks mk (leadsBy same rs l false o) ≡ mk (l .road)
-      further e (some x) q = refl
-      further e none q = absurd (no ss low high (eqb-false s (headOr 0 ss) e) q)
-        where
-          no : (ss : List ℕ) → headOr 0 ss ≤ s → s ≤ lastOr 0 ss → (s ≡ headOr 0 ss → ⊥)
-              → final (λ i. ltb i s) ss ≡ none → ⊥
-          no [] lo hi n e = n (let z : s ≤ 0 = hi in let y : s ≡ 0 = omega arith in y)
-          no (x ∷ xs) lo hi n e = true≢false (sym (lt-ltb x s (less x lo n)) ∙ final-none-head (λ i. ltb i s) x xs e)
-            where
-              less : (x : ℕ) → x ≤ s → (s ≡ x → ⊥) → x < s
-              less x h n = omega arith
+  only-edge true none-next = omega (arith, within .high, last-low s ss none-next)
+  only-edge false none-next = omega (arith, within .low, head-high s ss (within .high) none-next)
 
-      go : (b : Bool) → eqb s (headOr 0 ss) ≡ b
-          → marks mk (leadsBy same rs l false (final (λ i. ltb i s) ss))
-          ≡ cond b (marks mk (roadward same rs (l .road) false)) (mk (l .road))
-      go true e =
-          ap (λ o. marks mk (leadsBy same rs l false o))
-          (final-nowhere (λ i. ltb i s) 0 ss
-          (λ k h.
-          le-ltb (getD ss k 0) s
-          (let z = between ss k up h .0 in let y = eqb-true s (headOr 0 ss) e in omega arith)))
-      go false e = further e (final (λ i. ltb i s) ss) refl
+  -- whether a link leads to a marked road
+  leads-by : (same : Span → Span → Bool) (mk : Span → Bool) (rs : List Road) (l : Lane) (e : Bool)
+      → isMarked mk (leadsBy same rs l e (nextSection ss s e))
+      ≡ cond (eqb s (edge e ss)) (isMarked mk (roadward same rs (l .road) e)) (mk (l .road))
+  leads-by same mk rs l e = go (nextSection ss s e) refl
+    where
+      go : (next : Option ℕ) → nextSection ss s e ≡ next
+          → isMarked mk (leadsBy same rs l e next)
+          ≡ cond (eqb s (edge e ss)) (isMarked mk (roadward same rs (l .road) e)) (mk (l .road))
+      go none is = if-on _ _ _ (eq-eqb s (edge e ss) (only-edge e is)) refl
+      go (some x) is =
+          if-off _ _ _ (ne-eqb s (edge e ss) (λ at-edge. no-some x (sym (none-further e at-edge) ∙ is))) refl
 
 -- ---- a lane's row, from its ten words
 module _ (same : Span → Span → Bool) (mk : Span → Bool) (rs : List Road) (text x : List ℕ)
     (worded : laneWorded text x ≡ true) where
   lane-row : (m P Q : Bool) (S : ℕ) → mk (spanIn x 1) ≡ m
       → cond (mk (spanIn x 1)) (mirror (sectionsOf same rs (spanIn x 1)) (word x 3)) (word x 3) ≡ S →
-      marks mk (leadsTo same rs (laneIn x) true) ≡ P → marks mk (leadsTo same rs (laneIn x) false) ≡ Q
+      isMarked mk (leadsTo same rs (laneIn x) true) ≡ P → isMarked mk (leadsTo same rs (laneIn x) false) ≡ Q
       → laneRow (reverseLane same mk rs (laneIn x)) ≡ laneWith x 0 m S P Q
   unfolding laneRow reverseLane laneIn laneWorded reverseLink laneWith
   lane-row m P Q S e f g h =
@@ -185,7 +165,7 @@ module _ (same : Span → Span → Bool) (mk : Span → Bool) (rs : List Road) (
       (way-turned m (word x 5) (w .1))
     where
       link : Bool → List ℕ
-      link b = linkWords (mapO (signed (marks mk (leadsTo same rs (laneIn x) b))) (linkAt b (laneIn x)))
+      link b = linkWords (mapO (signed (isMarked mk (leadsTo same rs (laneIn x) b))) (linkAt b (laneIn x)))
 
       row : ℕ → Bool → List ℕ
       row a b =
@@ -231,22 +211,23 @@ every-member p s (x ∷ xs) e h = go (eqb s x) refl h (every-member p s xs (righ
     go true q z ih = ap p (eqb-true s x q) ∙ left-on (p x) (every p xs) e
     go false q z ih = ih z
 
-listed-between : (xs : List ℕ) (s : ℕ) → ascends xs ≡ true → member s xs ≡ true
-    → (headOr 0 xs ≤ s) × (s ≤ lastOr 0 xs)
-listed-between xs s up h = (
-  leb-true (headOr 0 xs) s (every-member (λ i. leb (headOr 0 xs) i) s xs
+listed-within : (xs : List ℕ) (s : ℕ) → ascends xs ≡ true → member s xs ≡ true → Within xs s
+listed-within xs s up h = record {
+  low = leb-true (headOr 0 xs) s (every-member (λ i. leb (headOr 0 xs) i) s xs
       (every-on (λ i. leb (headOr 0 xs) i) xs
-      (λ k l. le-leb (headOr 0 xs) (getD xs k 0) (between xs k up l .0))) h),
-  leb-true s (lastOr 0 xs) (every-member (λ i. leb i (lastOr 0 xs)) s xs
+      (λ k l. le-leb (headOr 0 xs) (getD xs k 0) (between xs k up l .low))) h);
+  high = leb-true s (lastOr 0 xs) (every-member (λ i. leb i (lastOr 0 xs)) s xs
       (every-on (λ i. leb i (lastOr 0 xs)) xs
-      (λ k l. le-leb (getD xs k 0) (lastOr 0 xs) (between xs k up l .1))) h),
-)
+      (λ k l. le-leb (getD xs k 0) (lastOr 0 xs) (between xs k up l .high))) h);
+}
 
 above-zero : (n : ℕ) → (n ≡ 0 → ⊥) → 0 < n
 above-zero zero n = absurd (n refl)
 above-zero (suc k) n = omega arith
 
-module _ (text roads sections lanes owner : List ℕ) (once : any (length roads / 20) (nameBefore text 20 0 roads) ≡ false) (up : all (length roads / 20) (λ i. ascends (numbersAt roads sections i)) ≡ true)
+module _ (text roads sections lanes owner : List ℕ)
+    (once : any (length roads / 20) (nameBefore text 20 0 roads) ≡ false)
+    (up : all (length roads / 20) (λ i. ascends (numbersAt roads sections i)) ≡ true)
     (listed : all (length lanes / 10) (listedAt text roads sections lanes) ≡ true)
     (owned : Owned text roads lanes (length lanes / 10) owner) where
   pub kept-at : (i : ℕ) → i < length lanes / 10 → Kept roads sections lanes owner i
@@ -263,123 +244,104 @@ module _ (text roads sections lanes owner : List ℕ) (once : any (length roads 
       let below : o ≤ length roads / 20 = omega arith in
       let r : o ≡ suc (o - 1) = omega arith in
       let b =
-      listed-between (numbersAt roads sections (o - 1)) s
+      listed-within (numbersAt roads sections (o - 1)) s
       (all-at (length roads / 20) (o - 1) (λ i. ascends (numbersAt roads sections i)) up (omega arith))
       (sym (known-some text roads sections n s (o - 1) once (sym at ∙ r)) ∙ here) in
-      record { known = pos; below = below; low = b .0; high = b .1 }
+      record { known = pos; below = below; within = b }
 
-module _ (text roads sections marks′ lanes owner : List ℕ) (once : any (length roads / 20) (nameBefore text 20 0 roads) ≡ false)
+-- ---- a road's targets
+module _ (text roads sections marks : List ℕ) (paved : every (roadWorded text) (table 20 roads) ≡ true) (r : ℕ)
+    (on : r < length roads / 20) where
+  abbrev row : List ℕ
+  row = from 20 roads r
+
+  in-order : (e : Bool) → targetWordedAt text row (pick e 4 11) ≡ true
+  unfolding roadWorded
+  in-order e =
+      let worded = all-at (length roads / 20) r (λ i. roadWorded text (from 20 roads i))
+      (sym (every-rows 20 roads (roadWorded text) (road-local text)) ∙ paved) on in
+      let each = and4 (placed text (spanIn row 0)) (isAbsent (word row 2) (word row 3) || placed text (spanIn row 2))
+      (targetWordedAt text row 4) (targetWordedAt text row 11) worded in go e (each .2) (each .3)
+    where
+      go : (e : Bool) → targetWordedAt text row 4 ≡ true → targetWordedAt text row 11 ≡ true
+          → targetWordedAt text row (pick e 4 11) ≡ true
+      go false before after = before
+      go true before after = after
+
+  -- the target at either end names a marked road
+  toward : (e : Bool) → isMarked (markOf text roads marks) (bindO (targetAt e (roadIn sections row)) roadNamed)
+      ≡ toMarked text roads marks (r * 20 + pick e 4 11)
+  unfolding roadIn toMarked
+  toward false = target-leads (markOf text roads marks) text _ _ _ _ _ _ _ (in-order false)
+      ∙ simp (getD-drop (r * 20) roads, add-assoc)
+  toward true = target-leads (markOf text roads marks) text _ _ _ _ _ _ _ (in-order true)
+      ∙ simp (getD-drop (r * 20) roads, add-assoc)
+
+-- ---- lane i
+module _ (text roads sections marks lanes owner : List ℕ)
+    (once : any (length roads / 20) (nameBefore text 20 0 roads) ≡ false)
     (paved : every (roadWorded text) (table 20 roads) ≡ true)
     (up : all (length roads / 20) (λ i. ascends (numbersAt roads sections i)) ≡ true)
     (worded : every (laneWorded text) (table 10 lanes) ≡ true)
     (owned : Owned text roads lanes (length lanes / 10) owner)
     (kept : (i : ℕ) → i < length lanes / 10 → Kept roads sections lanes owner i) where
-  -- the mark of lane i's road
+  -- the mark of its road
   pub lane-mark : (i : ℕ) → i < length lanes / 10
-      → markOf text roads marks′ (laneIn (from 10 lanes i) .road) ≡ markAt marks′ (getD owner i 0)
+      → markOf text roads marks (laneIn (from 10 lanes i) .road) ≡ markAt marks (getD owner i 0)
   unfolding laneIn markOf
   lane-mark i h =
-      ap (λ (n : Span). markAt marks′ (roadRowOf text roads n)) (name-at 10 1 lanes i)
-      ∙ ap (markAt marks′) (sym (owned .at i h))
+      ap (λ (n : Span). markAt marks (roadRowOf text roads n)) (name-at 10 1 lanes i)
+      ∙ ap (markAt marks) (sym (owned .at i h))
 
-  paved-at : (r : ℕ) → r < length roads / 20 → roadWorded text (from 20 roads r) ≡ true
-  paved-at r h =
-      all-at (length roads / 20) r (λ i. roadWorded text (from 20 roads i))
-      (sym (every-rows 20 roads (roadWorded text) (road-local text)) ∙ paved) h
-
-  toward-end : (r : ℕ) → r < length roads / 20
-      → marks (markOf text roads marks′) (bindO (roadIn sections (from 20 roads r) .successor) roadNamed)
-      ≡ toMarked text roads marks′ (r * 20 + 11)
-  unfolding roadIn toMarked roadWorded
-  toward-end r h =
-      let l = from 20 roads r in
-      let w = and4 (placed text (spanIn l 0)) (isAbsent (word l 2) (word l 3) || placed text (spanIn l 2))
-      (targetWorded text (word l 4) (word l 5) (word l 6) (word l 7) (word l 8) (word l 9) (word l 10))
-      (targetWorded text (word l 11) (word l 12) (word l 13) (word l 14) (word l 15) (word l 16) (word l 17))
-      (paved-at r h) in
-      target-leads (markOf text roads marks′) text (word l 11) (word l 12) (word l 13) (word l 14) (word l 15)
-      (word l 16) (word l 17) (w .3)
-      ∙ simp (getD-drop (r * 20) roads, add-assoc)
-
-  toward-start : (r : ℕ) → r < length roads / 20
-      → marks (markOf text roads marks′) (bindO (roadIn sections (from 20 roads r) .predecessor) roadNamed)
-      ≡ toMarked text roads marks′ (r * 20 + 4)
-  unfolding roadIn toMarked roadWorded
-  toward-start r h =
-      let l = from 20 roads r in
-      let w = and4 (placed text (spanIn l 0)) (isAbsent (word l 2) (word l 3) || placed text (spanIn l 2))
-      (targetWorded text (word l 4) (word l 5) (word l 6) (word l 7) (word l 8) (word l 9) (word l 10))
-      (targetWorded text (word l 11) (word l 12) (word l 13) (word l 14) (word l 15) (word l 16) (word l 17))
-      (paved-at r h) in
-      target-leads (markOf text roads marks′) text (word l 4) (word l 5) (word l 6) (word l 7) (word l 8)
-      (word l 9) (word l 10) (w .2)
-      ∙ simp (getD-drop (r * 20) roads, add-assoc)
+  turned : Lane → Lane
+  turned = reverseLane (sameIn text) (markOf text roads marks) (roadsIn sections roads)
 
   lane-at : (i : ℕ) → i < length lanes / 10
-      → laneRow
-      (reverseLane (sameIn text) (markOf text roads marks′) (roadsIn sections roads) (laneIn (from 10 lanes i)))
-      ≡ turnedLane text roads sections marks′ lanes owner i
-  unfolding turnedLane laneOn laneIn leadsTo roadward sectionsOf
+      → laneRow (turned (laneIn (from 10 lanes i))) ≡ turnedLane text roads sections marks lanes owner i
+  unfolding turned turnedLane laneOn laneIn leadsTo roadward sectionsOf
   lane-at i h =
       let same = sameIn text in
-      let mk = markOf text roads marks′ in
+      let mk = markOf text roads marks in
       let rs = roadsIn sections roads in
       let x = from 10 lanes i in
-      let l = laneIn x in
       let o = getD owner i 0 in
-      let k = kept i h in
-      let k1 = k .known in
-      let k2 = k .below in
       let r = o - 1 in
       let ss = numbersAt roads sections r in
       let s = getD lanes (i * 10 + 3) 0 in
-      let m = markAt marks′ o in
-      let row : o ≡ suc (o - 1) = omega arith in
-      let on : o - 1 < length roads / 20 = omega arith in
+      let road = kept i h in
+      let row : o ≡ suc r = omega (arith, road .known) in
+      let on : r < length roads / 20 = omega (arith, road .known, road .below) in
       let found : roadOf same rs (spanIn x 1) ≡ some (roadIn sections (from 20 roads r)) =
       road-some text roads sections once (spanIn x 1) r
       (ap (roadRowOf text roads) (name-at 10 1 lanes i) ∙ sym (owned .at i h) ∙ row) in
-      let secs : sectionsOf same rs (spanIn x 1) ≡ ss = ap sectionsFrom found ∙ numbers-at roads sections r in
-      let place : word x 3 ≡ s = getD-drop (i * 10) lanes 3 0 in
-      let own : mk (spanIn x 1) ≡ m = lane-mark i h in
-      let asc = all-at (length roads / 20) r (λ i. ascends (numbersAt roads sections i)) up on in
-      let te : marks mk (roadward same rs (spanIn x 1) true) ≡ toMarked text roads marks′ (r * 20 + 11) =
-      ap (λ q. marks mk (bindO (bindO q (targetAt true)) roadNamed)) found ∙ toward-end r on in
-      let ts : marks mk (roadward same rs (spanIn x 1) false) ≡ toMarked text roads marks′ (r * 20 + 4) =
-      ap (λ q. marks mk (bindO (bindO q (targetAt false)) roadNamed)) found ∙ toward-start r on in
-      lane-row same mk rs text x
-      (all-at (length lanes / 10) i (λ i. laneWorded text (from 10 lanes i))
-      (sym (every-rows 10 lanes (laneWorded text) (lane-local text)) ∙ worded) h)
-      m (cond (eqb s (lastOr 0 ss)) (toMarked text roads marks′ (r * 20 + 11)) m)
-      (cond (eqb s (headOr 0 ss)) (toMarked text roads marks′ (r * 20 + 4)) m) (cond m (mirror ss s) s)
-      own
-      ((λ j. cond (own j) (mirror (secs j) (place j)) (place j)))
-      ((ap₂ (λ (a : List ℕ) (b : ℕ). marks mk (leadsBy same rs (laneIn x) true (nextSection a b true))) secs
-      place)
-      ∙ leads-end same mk rs l ss s asc (k .low) (k .high)
-      ∙ (ap₂ (λ (a b : Bool). cond (eqb s (lastOr 0 ss)) a b) te own))
-      ((ap₂ (λ (a : List ℕ) (b : ℕ). marks mk (leadsBy same rs (laneIn x) false (nextSection a b false))) secs
-      place)
-      ∙ leads-start same mk rs l ss s asc (k .low) (k .high)
-      ∙ (ap₂ (λ (a b : Bool). cond (eqb s (headOr 0 ss)) a b) ts own))
-      ∙ lane-moved lanes (i * 10) m (cond m (mirror ss s) s)
-      (cond (eqb s (lastOr 0 ss)) (toMarked text roads marks′ (r * 20 + 11)) m)
-      (cond (eqb s (headOr 0 ss)) (toMarked text roads marks′ (r * 20 + 4)) m)
+      let numbers : sectionsOf same rs (spanIn x 1) ≡ ss = ap sectionsFrom found ∙ numbers-at roads sections r in
+      let section : word x 3 ≡ s = getD-drop (i * 10) lanes 3 0 in
+      let own : mk (spanIn x 1) ≡ markAt marks o = lane-mark i h in
+      let ascend = all-at (length roads / 20) r (λ i. ascends (numbersAt roads sections i)) up on in
+      let in-order = all-at (length lanes / 10) i (λ i. laneWorded text (from 10 lanes i))
+      (sym (every-rows 10 lanes (laneWorded text) (lane-local text)) ∙ worded) h in
+      let target : (e : Bool) → isMarked mk (roadward same rs (spanIn x 1) e)
+      ≡ toMarked text roads marks (r * 20 + pick e 4 11) =
+      λ e.
+      ap (λ q. isMarked mk (bindO (bindO q (targetAt e)) roadNamed)) found
+      ∙ toward text roads sections marks paved r on e in
+      let link : (e : Bool) → isMarked mk (leadsTo same rs (laneIn x) e)
+      ≡ cond (eqb s (edge e ss)) (toMarked text roads marks (r * 20 + pick e 4 11)) (markAt marks o) =
+      λ e.
+      ap₂ (λ (a : List ℕ) (b : ℕ). isMarked mk (leadsBy same rs (laneIn x) e (nextSection a b e))) numbers section
+      ∙ leads-by ss s ascend (road .within) same mk rs (laneIn x) e
+      ∙ ap₂ (λ (a b : Bool). cond (eqb s (edge e ss)) a b) (target e) own in
+      lane-row same mk rs text x in-order _ _ _ _ own
+      (λ j. cond (own j) (mirror (numbers j) (section j)) (section j)) (link true) (link false)
+      ∙ lane-moved lanes (i * 10) _ _ _ _
 
   pub lanes-are : laneWords
-      (map (reverseLane (sameIn text) (markOf text roads marks′) (roadsIn sections roads)) (lanesIn lanes))
-      ≡ joined (length lanes / 10) (turnedLane text roads sections marks′ lanes owner)
-  unfolding laneWords lanesIn
+      (map (reverseLane (sameIn text) (markOf text roads marks) (roadsIn sections roads)) (lanesIn lanes))
+      ≡ joined (length lanes / 10) (turnedLane text roads sections marks lanes owner)
+  unfolding laneWords lanesIn turned
   lanes-are =
-      ap (λ ls.
-      gather laneRow (map (reverseLane (sameIn text) (markOf text roads marks′) (roadsIn sections roads)) ls))
-      (lanes-tab lanes)
-      ∙ gather-map (reverseLane (sameIn text) (markOf text roads marks′) (roadsIn sections roads)) laneRow
-      (tab (length lanes / 10) (λ i. laneIn (from 10 lanes i)))
-      ∙ gather-tab
-      (λ l. laneRow (reverseLane (sameIn text) (markOf text roads marks′) (roadsIn sections roads) l))
-      (length lanes / 10) (λ i. laneIn (from 10 lanes i))
-      ∙ joined-same (length lanes / 10)
-      (λ i.
-      laneRow (reverseLane (sameIn text) (markOf text roads marks′) (roadsIn sections roads)
-      (laneIn (from 10 lanes i)))) (turnedLane text roads sections marks′ lanes owner) lane-at
+      ap (λ ls. gather laneRow (map turned ls)) (lanes-tab lanes)
+      ∙ gather-map turned laneRow (tab (length lanes / 10) (λ i. laneIn (from 10 lanes i)))
+      ∙ gather-tab (λ l. laneRow (turned l)) (length lanes / 10) (λ i. laneIn (from 10 lanes i))
+      ∙ joined-same (length lanes / 10) (λ i. laneRow (turned (laneIn (from 10 lanes i))))
+      (turnedLane text roads sections marks lanes owner) lane-at

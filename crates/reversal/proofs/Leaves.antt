@@ -2,16 +2,17 @@
 use Prim.Native.Nat.{ℕ, zero, suc, _+_, _*_, _-_}
 use mathlib.Core.Bool.{Bool, true, false, cond}
 use mathlib.Core.List.{List, [], _∷_}
-use mathlib.Core.Path.{_≡_, refl, sym, ap, _∙_}
+use mathlib.Core.Path.{_≡_, refl, sym, ap, ap₂, _∙_}
 use native.Mathlib.Omega.{arith}
 use lib.Dec.{eqb}
 use lib.Ieee.{Float}
 use lib.ListN.{length, getD}
 use Rattle.model.specs.Lists.{headOr, lastOr}
 use Rattle.model.specs.Reversal.{mirror, negated, signed}
-use Rattle.reversal.specs.Turned.{contactAt, floatsOf, laneOn, laneWith, markAt, roadWith, toMarked}
+use Rattle.reversal.specs.Turned.{contactAt, floatsOf, laneOn, laneWith, markAt, roadWith, rowAt, toMarked}
 use Rattle.reversal.specs.Turned.{turnBit, turnWay, turnedConnection, turnedEdges, turnedLane, turnedPair}
 use Rattle.reversal.specs.Turned.{turnedRoad}
+use Rattle.reversal.specs.declared.lanes.Row.{Row}
 
 pub mark-some : (marks : List ℕ) (road : ℕ) → (road ≡ 0 → ⊥) → eqb (getD marks (road - 1) 0) 1 ≡ markAt marks road
 mark-some marks zero n = absurd (n refl)
@@ -86,38 +87,51 @@ last-is (x ∷ xs) =
     ∙ last-at 0 x xs
 
 -- ---- a lane's row
-module _ (l : List ℕ) (a : ℕ) (m : Bool) (s : ℕ) (p q : Bool) {n w x y : ℕ} where
-  pub lane-on-mark : m ≡ true → n ≡ signed m (getD l (a + 4) 0) → w ≡ turnWay m (getD l (a + 5) 0)
-      → x ≡ signed p (getD l (a + 7) 0) → y ≡ signed q (getD l (a + 9) 0) →
-      getD l a 0 ∷ getD l (a + 1) 0 ∷ getD l (a + 2) 0 ∷ s ∷ n ∷ w ∷ getD l (a + 8) 0 ∷ y ∷ getD l (a + 6) 0 ∷ x
-      ∷ [] ≡ laneWith l a m s p q
-  unfolding laneWith
-  lane-on-mark e f g h i =
-      (λ j.
-      getD l a 0 ∷ getD l (a + 1) 0 ∷ getD l (a + 2) 0 ∷ s ∷ f j ∷ g j ∷ getD l (a + 8) 0 ∷ i j
-      ∷ getD l (a + 6) 0 ∷ h j ∷ [])
-      ∙ sym (ap (λ (b : Bool).
-      getD l a 0 ∷ getD l (a + 1) 0 ∷ getD l (a + 2) 0 ∷ s ∷ signed m (getD l (a + 4) 0)
-      ∷ turnWay m (getD l (a + 5) 0) ∷ cond b (getD l (a + 8) 0) (getD l (a + 6) 0)
-      ∷ cond b (signed q (getD l (a + 9) 0)) (signed p (getD l (a + 7) 0))
-      ∷ cond b (getD l (a + 6) 0) (getD l (a + 8) 0)
-      ∷ cond b (signed p (getD l (a + 7) 0)) (signed q (getD l (a + 9) 0)) ∷ []) e)
+module _ (lanes : List ℕ) (at : ℕ) (mark : Bool) (section : ℕ) (p q : Bool) {row : Row} {number way onto backto : ℕ}
+    (read : row ≡ rowAt lanes at) (numbered : number ≡ signed mark (row .number))
+    (heads : way ≡ turnWay mark (row .way))
+    (ahead : onto ≡ signed p (row .onto)) (behind : backto ≡ signed q (row .backto)) where
+  -- its words, with the links as they are or swapped
+  words : Bool → List ℕ
+  words swap =
+      getD lanes at 0 ∷ getD lanes (at + 1) 0 ∷ getD lanes (at + 2) 0 ∷ section
+      ∷ signed mark (getD lanes (at + 4) 0) ∷ turnWay mark (getD lanes (at + 5) 0)
+      ∷ cond swap (getD lanes (at + 8) 0) (getD lanes (at + 6) 0)
+      ∷ cond swap (signed q (getD lanes (at + 9) 0)) (signed p (getD lanes (at + 7) 0))
+      ∷ cond swap (getD lanes (at + 6) 0) (getD lanes (at + 8) 0)
+      ∷ cond swap (signed p (getD lanes (at + 7) 0)) (signed q (getD lanes (at + 9) 0)) ∷ []
 
-  pub lane-off-mark : m ≡ false → n ≡ signed m (getD l (a + 4) 0) → w ≡ turnWay m (getD l (a + 5) 0)
-      → x ≡ signed p (getD l (a + 7) 0) → y ≡ signed q (getD l (a + 9) 0) →
-      getD l a 0 ∷ getD l (a + 1) 0 ∷ getD l (a + 2) 0 ∷ s ∷ n ∷ w ∷ getD l (a + 6) 0 ∷ x ∷ getD l (a + 8) 0 ∷ y
-      ∷ [] ≡ laneWith l a m s p q
-  unfolding laneWith
-  lane-off-mark e f g h i =
+  number-is : number ≡ signed mark (getD lanes (at + 4) 0)
+  number-is = numbered ∙ ap (λ (x : Row). signed mark (x .number)) read
+
+  way-is : way ≡ turnWay mark (getD lanes (at + 5) 0)
+  way-is = heads ∙ ap (λ (x : Row). turnWay mark (x .way)) read
+
+  onto-is : onto ≡ signed p (getD lanes (at + 7) 0)
+  onto-is = ahead ∙ ap (λ (x : Row). signed p (x .onto)) read
+
+  backto-is : backto ≡ signed q (getD lanes (at + 9) 0)
+  backto-is = behind ∙ ap (λ (x : Row). signed q (x .backto)) read
+
+  pub lane-marked : mark ≡ true
+      → row .id ∷ row .start ∷ row .size ∷ section ∷ number ∷ way ∷ row .back ∷ backto ∷ row .onward ∷ onto ∷ []
+      ≡ laneWith lanes at mark section p q
+  unfolding laneWith words
+  lane-marked marked =
       (λ j.
-      getD l a 0 ∷ getD l (a + 1) 0 ∷ getD l (a + 2) 0 ∷ s ∷ f j ∷ g j ∷ getD l (a + 6) 0 ∷ h j
-      ∷ getD l (a + 8) 0 ∷ i j ∷ [])
-      ∙ sym (ap (λ (b : Bool).
-      getD l a 0 ∷ getD l (a + 1) 0 ∷ getD l (a + 2) 0 ∷ s ∷ signed m (getD l (a + 4) 0)
-      ∷ turnWay m (getD l (a + 5) 0) ∷ cond b (getD l (a + 8) 0) (getD l (a + 6) 0)
-      ∷ cond b (signed q (getD l (a + 9) 0)) (signed p (getD l (a + 7) 0))
-      ∷ cond b (getD l (a + 6) 0) (getD l (a + 8) 0)
-      ∷ cond b (signed p (getD l (a + 7) 0)) (signed q (getD l (a + 9) 0)) ∷ []) e)
+      read j .id ∷ read j .start ∷ read j .size ∷ section ∷ number-is j ∷ way-is j ∷ read j .back ∷ backto-is j
+      ∷ read j .onward ∷ onto-is j ∷ [])
+      ∙ sym (ap words marked)
+
+  pub lane-unmarked : mark ≡ false
+      → row .id ∷ row .start ∷ row .size ∷ section ∷ number ∷ way ∷ row .onward ∷ onto ∷ row .back ∷ backto ∷ []
+      ≡ laneWith lanes at mark section p q
+  unfolding laneWith words
+  lane-unmarked unmarked =
+      (λ j.
+      read j .id ∷ read j .start ∷ read j .size ∷ section ∷ number-is j ∷ way-is j ∷ read j .onward ∷ onto-is j
+      ∷ read j .back ∷ backto-is j ∷ [])
+      ∙ sym (ap words unmarked)
 
 pub connection-7 : (text roads marks ws : List ℕ) (i : ℕ) → length (turnedConnection text roads marks ws i) ≡ 7
 unfolding turnedConnection
@@ -148,6 +162,28 @@ pub pair-2 : (m n : Bool) (pairs : List ℕ) (p : ℕ) → length (turnedPair m 
 unfolding turnedPair
 pair-2 m n pairs p = refl
 
+-- ---- a road's row
+-- a target's contact
+pub contact-is : (text roads marks : List ℕ) (a : ℕ) {bit : ℕ} {mark : Bool} → mark ≡ toMarked text roads marks a
+    → bit ≡ turnBit mark (getD roads (a + 4) 0) → bit ≡ contactAt text roads marks a
+unfolding contactAt
+contact-is text roads marks a found turned = turned ∙ ap (λ b. turnBit b (getD roads (a + 4) 0)) found
+
+-- the road, marked or not, with the contacts of its predecessor and its successor
+module _ (text roads marks : List ℕ) (i : ℕ) {p q : ℕ} {row : List ℕ}
+    (before : p ≡ contactAt text roads marks (i * 20 + 4)) (after : q ≡ contactAt text roads marks (i * 20 + 11)) where
+  pub road-marked : eqb (getD marks i 0) 1 ≡ true
+      → row ≡ roadWith roads (i * 20) (i * 20 + 11) (i * 20 + 4) q p → row ≡ turnedRoad text roads marks i
+  unfolding turnedRoad
+  road-marked marked is = if-on _ _ _ marked
+      (is ∙ ap₂ (λ (a b : ℕ). roadWith roads (i * 20) (i * 20 + 11) (i * 20 + 4) a b) after before)
+
+  pub road-unmarked : eqb (getD marks i 0) 1 ≡ false
+      → row ≡ roadWith roads (i * 20) (i * 20 + 4) (i * 20 + 11) p q → row ≡ turnedRoad text roads marks i
+  unfolding turnedRoad
+  road-unmarked unmarked is = if-off _ _ _ unmarked
+      (is ∙ ap₂ (λ (a b : ℕ). roadWith roads (i * 20) (i * 20 + 4) (i * 20 + 11) a b) before after)
+
 -- lane i on its road
 pub lane-is : (text roads marks lanes : List ℕ) (i r : ℕ) (m : Bool) (ss : List ℕ) {row : List ℕ} {s h l : ℕ}
     {p q : Bool} → row ≡ laneWith lanes (i * 10) m s p q
@@ -157,18 +193,13 @@ pub lane-is : (text roads marks lanes : List ℕ) (i r : ℕ) (m : Bool) (ss : L
     → q ≡ cond (eqb (getD lanes (i * 10 + 3) 0) h) (toMarked text roads marks (r * 20 + 4)) m →
     row ≡ laneOn text roads marks lanes i r m ss
 unfolding laneOn
-lane-is text roads marks lanes i r m ss {row} {s} {h} {l} {p} {q} e f g k a b =
-    let x =
-    a
-    ∙ ap
-    (λ (n : ℕ). cond (eqb (getD lanes (i * 10 + 3) 0) n) (toMarked text roads marks (r * 20 + 11)) m) g in
-    let y =
-    b
-    ∙ ap (λ (n : ℕ). cond (eqb (getD lanes (i * 10 + 3) 0) n) (toMarked text roads marks (r * 20 + 4)) m)
-    k in
-    e ∙ (λ j. laneWith lanes (i * 10) m (f j) (x j) (y j))
+lane-is text roads marks lanes i r m ss laid section last first onward back =
+    let s = getD lanes (i * 10 + 3) 0 in
+    let onward-is = onward ∙ ap (λ (n : ℕ). cond (eqb s n) (toMarked text roads marks (r * 20 + 11)) m) last in
+    let back-is = back ∙ ap (λ (n : ℕ). cond (eqb s n) (toMarked text roads marks (r * 20 + 4)) m) first in
+    laid ∙ (λ j. laneWith lanes (i * 10) m (section j) (onward-is j) (back-is j))
 
 pub pair-is : (m n : Bool) (pairs : List ℕ) (p : ℕ) {x y : ℕ} → x ≡ signed m (getD pairs (p * 2) 0)
     → y ≡ signed n (getD pairs (p * 2 + 1) 0) → x ∷ y ∷ [] ≡ turnedPair m n pairs p
 unfolding turnedPair
-pair-is m n pairs p e f = λ i. e i ∷ f i ∷ []
+pair-is m n pairs p from to = λ i. from i ∷ to i ∷ []

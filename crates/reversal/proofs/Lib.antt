@@ -1,5 +1,6 @@
 pub mod Leaves
 pub mod Places
+pub mod Writers
 pub mod MarkLaws
 pub mod RoadWords
 pub mod LinkWords

@@ -1,7 +1,7 @@
 -- Connections and pairs by row numbers are the model's.
 use Prim.Native.Nat.{ℕ, _+_, _*_, _/_, _%_, _<_, _≤_}
 use mathlib.Core.Bool.{Bool, true}
-use mathlib.Core.List.{List, [], _∷_, _++_, map}
+use mathlib.Core.List.{List, [], _∷_, map}
 use mathlib.Core.Path.{_≡_, refl, sym, ap, ap₂, _∙_}
 use native.Mathlib.Nat.{add-zero, add-assoc}
 use native.Mathlib.Omega.{arith}
@@ -26,7 +26,7 @@ use Rattle.words.proofs.Scans.{Local, all-at, every-rows, map-rows, table-tab, 
 use Rattle.rules.proofs.Fits.{part-in}
 use Rattle.rules.proofs.Locals.{connection-local, short}
 use Rattle.reversal.specs.Turned.{markOf, pairsFrom, turnBit, turnedConnection, turnedPair, turnedPairs}
-use Rattle.words.proofs.Joins.{gather-all, gather-tab, joined-first, joined-none, joined-same}
+use Rattle.words.proofs.Joins.{gather-all, gather-tab, joined-same}
 use Rattle.reversal.proofs.RoadWords.{map-map, rows-by, turn-bit}
 
 -- ---- all connections of the reversed junctions
@@ -37,7 +37,8 @@ connections-turned mk js =
     gather-map (reverseJunction mk) (λ j. j .connections) js
     ∙ sym (map-gather (λ j. j .connections) (reverseConnection mk) js)
 
-module _ (text : List ℕ) (mk : Span → Bool) (pairs connections junctions : List ℕ) (whole : length junctions % 5 ≡ 0) (worded : every (junctionWorded text) (table 5 junctions) ≡ true)
+module _ (text : List ℕ) (mk : Span → Bool) (pairs connections junctions : List ℕ)
+    (whole : length junctions % 5 ≡ 0) (worded : every (junctionWorded text) (table 5 junctions) ≡ true)
     (fit : partsFit 3 4 0 (length connections / 7) (table 5 junctions) ≡ true) where
   count : length connections / 7 ≡ length (connectionsIn pairs connections)
   unfolding connectionsIn
@@ -85,9 +86,10 @@ module _ (text roads marks connections pairs : List ℕ)
 
   part-count : (r : List ℕ) → word r 5 + word r 6 ≤ length pairs / 2 → length (by r .pairs) ≡ word r 6
   unfolding by reverseConnection connectionIn
-  part-count r h = length-map (part (word r 5) (word r 6) (pairsIn pairs)) (reversePair mk (spanIn r 0) (spanIn r 2))
-      ∙ length-take-le (word r 6) (drop (word r 5) (pairsIn pairs))
-      (let z = length-drop (word r 5) (pairsIn pairs) in let y = pairs-count in omega arith)
+  part-count r h =
+      let left = length-drop (word r 5) (pairsIn pairs) in
+      length-map (part (word r 5) (word r 6) (pairsIn pairs)) (reversePair mk (spanIn r 0) (spanIn r 2))
+      ∙ length-take-le (word r 6) (drop (word r 5) (pairsIn pairs)) (omega (arith, left, pairs-count))
 
   rowBy : List ℕ → List ℕ
   rowBy r = connectionRow (word r 5) (by r)
@@ -97,19 +99,18 @@ module _ (text roads marks connections pairs : List ℕ)
       ≡ word l 0 ∷ word l 1 ∷ word l 2 ∷ word l 3 ∷ turnBit (mk (span (word l 2) (word l 3))) (word l 4)
       ∷ word l 5 ∷ word l 6 ∷ []
   unfolding by connectionRow connectionWorded reverseConnection connectionIn
-  connection-row l h c =
-      let w = and3 (placed text (spanIn l 0)) (placed text (spanIn l 2)) (leb (word l 4) 1) h in
-      let t = turn-bit (mk (span (word l 2) (word l 3))) (word l 4) (w .2) in
-      let n = part-count l c in
-      λ i. word l 0 ∷ word l 1 ∷ word l 2 ∷ word l 3 ∷ t i ∷ word l 5 ∷ n i ∷ []
+  connection-row l in-order listed =
+      let each = and3 (placed text (spanIn l 0)) (placed text (spanIn l 2)) (leb (word l 4) 1) in-order in
+      let contact = turn-bit (mk (span (word l 2) (word l 3))) (word l 4) (each .2) in
+      let count = part-count l listed in
+      λ i. word l 0 ∷ word l 1 ∷ word l 2 ∷ word l 3 ∷ contact i ∷ word l 5 ∷ count i ∷ []
 
   within : (i : ℕ) → i < length connections / 7
       → word (drop (i * 7) connections) 5 + word (drop (i * 7) connections) 6 ≤ length pairs / 2
-  within i h =
-      let a = part-in 7 5 6 (length pairs / 2) connections (omega arith) (omega arith) fit i h in
-      let f = getD-drop (i * 7) connections 5 0 in
-      let k = getD-drop (i * 7) connections 6 0 in
-      omega arith
+  within i on =
+      let listed = part-in 7 5 6 (length pairs / 2) connections (omega arith) (omega arith) fit i on in
+      let first = getD-drop (i * 7) connections 5 0 in
+      let count = getD-drop (i * 7) connections 6 0 in omega (arith, listed, first, count)
 
   row-is : (i : ℕ) → i < length connections / 7
       → rowBy (take 7 (drop (i * 7) connections)) ≡ turnedConnection text roads marks connections i
@@ -152,17 +153,17 @@ module _ (text roads marks connections pairs : List ℕ)
   part-is : (m n : Bool) (i c : Span) → mk i ≡ m → mk c ≡ n → (f k : ℕ) → f + k ≤ length pairs / 2
       → gather pairRow (map (reversePair mk i c) (part f k (pairsIn pairs))) ≡ pairsFrom m n pairs f k
   unfolding pairsFrom reversePair pairRow
-  part-is m n i c e g f k h =
+  part-is m n i c incoming connecting f k listed =
       gather-map (reversePair mk i c) pairRow (part f k (pairsIn pairs))
       ∙ gather-part (λ q. signed (mk i) (q .from) ∷ signed (mk c) (q .to) ∷ []) (pairIn []) (pairsIn pairs) f k
-      (let z = pairs-count in omega arith)
+      (omega (arith, listed, pairs-count))
       ∙ joined-same k (λ j.
       signed (mk i) (getD (pairsIn pairs) (f + j) (pairIn []) .from)
       ∷ signed (mk c) (getD (pairsIn pairs) (f + j) (pairIn []) .to) ∷ []) (λ j. turnedPair m n pairs (f + j))
       (λ j l.
       ap₂ (λ (a b : Bool).
       signed a (getD (pairsIn pairs) (f + j) (pairIn []) .from)
-      ∷ signed b (getD (pairsIn pairs) (f + j) (pairIn []) .to) ∷ []) e g
+      ∷ signed b (getD (pairsIn pairs) (f + j) (pairIn []) .to) ∷ []) incoming connecting
       ∙ pair-row m n (f + j) (omega arith))
 
   pairs-at : (i : ℕ) → i < length connections / 7
@@ -170,15 +171,14 @@ module _ (text roads marks connections pairs : List ℕ)
   unfolding pairsBy by reverseConnection connectionIn turnedPairs mk
   pairs-at i h =
       let l = drop (i * 7) connections in
-      let a = part-in 7 5 6 (length pairs / 2) connections (omega arith) (omega arith) fit i h in
-      let f = getD-drop (i * 7) connections 5 0 in
-      let k = getD-drop (i * 7) connections 6 0 in
-      let n0 : span (getD (drop (i * 7) connections) 0 0) (getD (drop (i * 7) connections) 1 0)
+      let first = getD-drop (i * 7) connections 5 0 in
+      let count = getD-drop (i * 7) connections 6 0 in
+      let incoming : span (getD (drop (i * 7) connections) 0 0) (getD (drop (i * 7) connections) 1 0)
       ≡ nameFrom connections (i * 7) =
       ap₂ span
       (getD-drop (i * 7) connections 0 0 ∙ ap (λ (m : ℕ). getD connections m 0) (add-zero (i * 7)))
       (getD-drop (i * 7) connections 1 0) in
-      let n2 : span (getD (drop (i * 7) connections) 2 0) (getD (drop (i * 7) connections) 3 0)
+      let connecting : span (getD (drop (i * 7) connections) 2 0) (getD (drop (i * 7) connections) 3 0)
       ≡ nameFrom connections (i * 7 + 2) =
       ap₂ span (getD-drop (i * 7) connections 2 0)
       (getD-drop (i * 7) connections 3 0
@@ -186,9 +186,9 @@ module _ (text roads marks connections pairs : List ℕ)
       ap (λ (c : Connection). gather pairRow (map (reversePair mk (c .incoming) (c .connecting)) (c .pairs)))
       (unfold connectionIn in connection-in-local (pairsIn pairs) l)
       ∙ part-is (mk (nameFrom connections (i * 7))) (mk (nameFrom connections (i * 7 + 2))) (spanIn l 0)
-      (spanIn l 2) (ap mk n0) (ap mk n2) (word l 5) (word l 6) (omega arith)
+      (spanIn l 2) (ap mk incoming) (ap mk connecting) (word l 5) (word l 6) (within i h)
       ∙ ap₂ (λ (x y : ℕ).
-      pairsFrom (mk (nameFrom connections (i * 7))) (mk (nameFrom connections (i * 7 + 2))) pairs x y) f k
+      pairsFrom (mk (nameFrom connections (i * 7))) (mk (nameFrom connections (i * 7 + 2))) pairs x y) first count
 
   pub pairs-are : gather pairRow (gather (λ c. c .pairs) (map
       (λ r. reverseConnection (markOf text roads marks) (connectionIn (pairsIn pairs) r))

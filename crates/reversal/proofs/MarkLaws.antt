@@ -28,13 +28,16 @@ use Rattle.reversal.specs.Turned.{markAt, markOf}
 marked-first : (same : Span → Span → Bool) (rs : List Road) (ks : List ℕ) (n : Span) (d : Road) (i : ℕ)
     → length ks ≡ length rs → i < length rs → same (getD rs i d .name) n ≡ true
     → ((j : ℕ) → j < i → same (getD rs j d .name) n ≡ false) → marked same rs ks n ≡ eqb (getD ks i 0) 1
-marked-first same [] ks n d i e h a b = absurd (not-suc-le-zero h)
-marked-first same (r ∷ rs) [] n d i e h a b = absurd (let z : 0 ≡ suc (length rs) = e in omega arith)
-marked-first same (r ∷ rs) (k ∷ ks) n d zero e h a b = ap (λ x. cond x (eqb k 1) (marked same rs ks n)) a
-marked-first same (r ∷ rs) (k ∷ ks) n d (suc i) e h a b =
-    ap (λ x. cond x (eqb k 1) (marked same rs ks n)) (b 0 (let z : 0 < suc i = omega arith in z))
-    ∙ marked-first same rs ks n d i (let z : suc (length ks) ≡ suc (length rs) = e in omega arith)
-    (le-of-suc-le-suc h) a (λ j l. b (suc j) (let z : suc j < suc i = omega arith in z))
+marked-first same [] ks n d i even on hit missed = absurd (not-suc-le-zero on)
+marked-first same (r ∷ rs) [] n d i even on hit missed =
+    absurd (let none-left : 0 ≡ suc (length rs) = even in omega arith)
+marked-first same (r ∷ rs) (k ∷ ks) n d zero even on hit missed =
+    ap (λ x. cond x (eqb k 1) (marked same rs ks n)) hit
+marked-first same (r ∷ rs) (k ∷ ks) n d (suc i) even on hit missed =
+    let rest : length ks ≡ length rs = (let all : suc (length ks) ≡ suc (length rs) = even in omega arith) in
+    ap (λ x. cond x (eqb k 1) (marked same rs ks n)) (missed 0 (let z : 0 < suc i = omega arith in z))
+    ∙ marked-first same rs ks n d i rest (le-of-suc-le-suc on) hit
+    (λ j l. missed (suc j) (let z : suc j < suc i = omega arith in z))
 
 module _ (text roads sections : List ℕ) (once : any (length roads / 20) (nameBefore text 20 0 roads) ≡ false) where
   road : ℕ → Road
@@ -48,23 +51,26 @@ module _ (text roads sections : List ℕ) (once : any (length roads / 20) (nameB
   earlier : (n : Span) (i j : ℕ) → i < length roads / 20 → j < i → bears text 20 0 roads n i ≡ true
       → bears text 20 0 roads n j ≡ false
   unfolding nameBefore
-  earlier n i j h l e = go (bears text 20 0 roads n j) refl
+  earlier n i j on less bearing = go (bears text 20 0 roads n j) refl
     where
+      -- none before road i bears its name
+      alone : any i (bears text 20 0 roads (nameAt 20 0 roads i)) ≡ false
+      alone = any-at (length roads / 20) i (λ r. any r (bears text 20 0 roads (nameAt 20 0 roads r))) once on
+
       go : (b : Bool) → bears text 20 0 roads n j ≡ b → b ≡ false
-      go false z = refl
-      go true z =
-          absurd (true≢false (sym (two-alike text roads n i j e z)
-          ∙ any-at i j (bears text 20 0 roads (nameAt 20 0 roads i))
-          (any-at (length roads / 20) i (λ r. any r (bears text 20 0 roads (nameAt 20 0 roads r))) once h) l))
+      go false is = refl
+      go true is =
+          absurd (true≢false (sym (two-alike text roads n i j bearing is)
+          ∙ any-at i j (bears text 20 0 roads (nameAt 20 0 roads i)) alone less))
 
   pub road-none : (n : Span) → roadRowOf text roads n ≡ 0 → roadOf (sameIn text) (roadsIn sections roads) n ≡ none
   unfolding roadOf roadRowOf road
-  road-none n e = ap (first (λ r. sameIn text (r .name) n)) (roads-tab roads sections)
+  road-none n unknown = ap (first (λ r. sameIn text (r .name) n)) (roads-tab roads sections)
       ∙ first-none (λ r. sameIn text (r .name) n) (length roads / 20) road
       (λ i lt.
       test n i
       ∙ any-at (length roads / 20) i (bears text 20 0 roads n)
-      (last-any (length roads / 20) (bears text 20 0 roads n) e) lt)
+      (last-any (length roads / 20) (bears text 20 0 roads n) unknown) lt)
 
   pub road-some : (n : Span) (r : ℕ) → roadRowOf text roads n ≡ suc r
       → roadOf (sameIn text) (roadsIn sections roads) n ≡ some (roadIn sections (from 20 roads r))
@@ -89,11 +95,14 @@ module _ (text roads sections : List ℕ) (once : any (length roads / 20) (nameB
 
     mark-by : (n : Span) (i : ℕ) → i < length roads / 20 → bears text 20 0 roads n i ≡ true
         → marked (sameIn text) (roadsIn sections roads) marks n ≡ eqb (getD marks i 0) 1
-    mark-by n i h e =
+    mark-by n i on bearing =
         marked-first (sameIn text) (roadsIn sections roads) marks n (road 0) i (even ∙ sym count)
-        (subst (λ (m : ℕ). i < m) (sym count) h)
-        (ap (λ (r : Road). sameIn text (r .name) n) (at i h) ∙ test n i ∙ e)
-        (λ j l. ap (λ (r : Road). sameIn text (r .name) n) (at j (lt-trans l h)) ∙ test n j ∙ earlier n i j h l e)
+        (subst (λ (m : ℕ). i < m) (sym count) on) (named i on ∙ bearing)
+        (λ j less. named j (lt-trans less on) ∙ earlier n i j on less bearing)
+      where
+        named : (j : ℕ) → j < length roads / 20
+            → sameIn text (getD (roadsIn sections roads) j (road 0) .name) n ≡ bears text 20 0 roads n j
+        named j on = ap (λ (r : Road). sameIn text (r .name) n) (at j on) ∙ test n j
 
     -- the mark of a name
     pub mark-is : (n : Span) → marked (sameIn text) (roadsIn sections roads) marks n ≡ markOf text roads marks n

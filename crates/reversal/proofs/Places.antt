@@ -5,18 +5,17 @@ use mathlib.Core.List.{List, [], _∷_, _++_, map, reverse, reverse-cons}
 use mathlib.Core.Logic.{⊎-elim}
 use mathlib.Core.Path.{_≡_, refl, sym, ap, ap₂, _∙_, subst}
 use native.Mathlib.Nat.{le-of-suc-le-suc, not-suc-le-zero, eq-or-lt-of-le, add-zero, le-trans, add-mul}
-use native.Mathlib.Numerals.{add-one}
 use native.Mathlib.Omega.{arith}
 use lib.Dec.{eqb, ltb}
 use lib.Ieee.{Float}
-use lib.ListN.{length, getD, set, take, drop, length-append, length-map, length-reverse, length-drop}
+use lib.ListN.{length, getD, take, drop, length-append, length-map, length-reverse, length-drop}
 use lib.ListN.{List·getD-append, take-append-drop}
-use lib.Seq.{getD-at, length-take-le, paste, paste-suc, take-length}
+use lib.Seq.{getD-at, length-take-le}
 use borrow.Author.Tests.{ltb-true}
 use Rattle.geometry.specs.Edges.{endsAt}
 use Rattle.geometry.specs.Gap.{swapped}
 use Rattle.geometry.specs.declared.segment.Point.{Point}
-use Rattle.model.specs.Lists.{ascends, every, headOr, lastOr}
+use Rattle.model.specs.Lists.{ascends, every, lastOr}
 use Rattle.model.specs.Reversal.{mirror, mirrored}
 use Rattle.model.specs.Rows.{partsFit, table, word}
 use Rattle.laws.proofs.Lay.{fit-first, fit-rest, length-table}
@@ -27,10 +26,10 @@ use Rattle.words.proofs.Laws.{map-at}
 use Rattle.words.proofs.Scans.{left-on, right-on}
 use Rattle.rules.specs.ByRow.{numbersAt}
 use Rattle.rules.proofs.Fits.{part-in}
-use Rattle.reversal.specs.Turned.{markOf, pairsFrom, turnedPair, turnedPairs, turnedSections, Kept}
+use Rattle.reversal.specs.Turned.{markOf, pairsFrom, turnedPair, turnedPairs, turnedSections, Kept, Within}
 use Rattle.reversal.specs.Turned.{markAt, laneOn, turnedLane, turnedEdges, floatsOf}
 use Rattle.words.proofs.Joins.{joined-even, joined-none}
-use Rattle.reversal.proofs.Leaves.{pair-2}
+use Rattle.reversal.proofs.Leaves.{if-off, if-on, pair-2}
 
 -- ---- where a part begins
 fits-next : (kf kc i n : ℕ) (rs : List (List ℕ)) → partsFit kf kc i n rs ≡ true → (r : ℕ) → suc r < length rs
@@ -38,9 +37,9 @@ fits-next : (kf kc i n : ℕ) (rs : List (List ℕ)) → partsFit kf kc i n rs �
 fits-next kf kc i n [] e r h = absurd (not-suc-le-zero h)
 fits-next kf kc i n (x ∷ []) e r h = absurd (not-suc-le-zero (le-of-suc-le-suc h))
 fits-next kf kc i n (x ∷ y ∷ rs) e zero h =
-    let a = fit-first kf kc i n x (y ∷ rs) e in
-    let b = fit-first kf kc (i + word x kc) n y rs (fit-rest kf kc i n x (y ∷ rs) e) in
-    omega arith
+    let first = fit-first kf kc i n x (y ∷ rs) e in
+    let second = fit-first kf kc (i + word x kc) n y rs (fit-rest kf kc i n x (y ∷ rs) e) in
+    omega (arith, first, second)
 fits-next kf kc i n (x ∷ y ∷ rs) e (suc r) h =
     fits-next kf kc (i + word x kc) n (y ∷ rs) (fit-rest kf kc i n x (y ∷ rs) e) r (le-of-suc-le-suc h)
 
@@ -56,26 +55,22 @@ module _ (w kf kc n : ℕ) (ws : List ℕ) (lf : kf < w) (lc : kc < w)
       → ((i : ℕ) → i < length ws / w → length (f i) ≡ getD ws (i * w + kc) 0 * v) → (i : ℕ) → i < length ws / w
       → length (joined i f) ≡ getD ws (i * w + kf) 0 * v
   unfolding joined
-  place v f h zero l =
-      let a = fits-zero kf kc 0 n (table w ws) fit (subst (λ (m : ℕ). 0 < m) (sym (length-table w ws)) l) in
-      let b = word-at w ws 0 kf l lf in
-      let z : getD ws (0 * w + kf) 0 ≡ 0 = sym b ∙ a in
-      sym (ap (λ (m : ℕ). m * v) z ∙ native.Mathlib.Nat.zero-mul v)
-  place v f h (suc i) l =
-      let l′ : i < length ws / w = le-trans (native.Mathlib.Nat.le-step (native.Mathlib.Nat.le-refl (suc i))) l in
-      let a = fits-next kf kc 0 n (table w ws) fit i (subst (λ (m : ℕ). suc i < m) (sym (length-table w ws)) l) in
-      let b = word-at w ws i kf l′ lf in
-      let c = word-at w ws i kc l′ lc in
-      let d = word-at w ws (suc i) kf l lf in
-      let z : getD ws (suc i * w + kf) 0 ≡ getD ws (i * w + kf) 0 + getD ws (i * w + kc) 0 =
-      sym d ∙ a ∙ ap₂ _+_ b c in
-      let x = length-append (joined i f) (f i) in
-      let y = place v f h i l′ in
-      let u = h i l′ in
-      x
-      ∙ ap₂ _+_ y u
+  place v f count zero on =
+      let begins = fits-zero kf kc 0 n (table w ws) fit (subst (λ (m : ℕ). 0 < m) (sym (length-table w ws)) on) in
+      let first : getD ws (0 * w + kf) 0 ≡ 0 = sym (word-at w ws 0 kf on lf) ∙ begins in
+      sym (ap (λ (m : ℕ). m * v) first ∙ native.Mathlib.Nat.zero-mul v)
+  place v f count (suc i) on =
+      let before : i < length ws / w = le-trans (native.Mathlib.Nat.le-step (native.Mathlib.Nat.le-refl (suc i))) on in
+      let follows = fits-next kf kc 0 n (table w ws) fit i
+      (subst (λ (m : ℕ). suc i < m) (sym (length-table w ws)) on) in
+      let first : getD ws (suc i * w + kf) 0 ≡ getD ws (i * w + kf) 0 + getD ws (i * w + kc) 0 =
+      sym (word-at w ws (suc i) kf on lf)
+      ∙ follows
+      ∙ ap₂ _+_ (word-at w ws i kf before lf) (word-at w ws i kc before lc) in
+      length-append (joined i f) (f i)
+      ∙ ap₂ _+_ (place v f count i before) (count i before)
       ∙ sym (add-mul (getD ws (i * w + kf) 0) (getD ws (i * w + kc) 0) v)
-      ∙ ap (λ (m : ℕ). m * v) (sym z)
+      ∙ ap (λ (m : ℕ). m * v) (sym first)
 
 -- ---- pairs
 pub pairs-length : (m n : Bool) (pairs : List ℕ) (a k : ℕ) → length (pairsFrom m n pairs a k) ≡ k * 2
@@ -100,25 +95,23 @@ last-high : (x : ℕ) (xs : List ℕ) (k : ℕ) → ascends (x ∷ xs) ≡ true 
 last-high x [] zero e h = omega arith
 last-high x [] (suc k) e h = absurd (not-suc-le-zero (le-of-suc-le-suc h))
 last-high x (y ∷ ys) zero e h =
-    let a =
-    ltb-true x y
-    (left-on (ltb x y) (every (ltb x) ys) (left-on (every (ltb x) (y ∷ ys)) (ascends (y ∷ ys)) e)) in
-    let b = last-high y ys 0 (right-on (every (ltb x) (y ∷ ys)) (ascends (y ∷ ys)) e) (omega arith) in
-    omega arith
+    let rises = left-on (every (ltb x) (y ∷ ys)) (ascends (y ∷ ys)) e in
+    let less = ltb-true x y (left-on (ltb x y) (every (ltb x) ys) rises) in
+    let rest = last-high y ys 0 (right-on (every (ltb x) (y ∷ ys)) (ascends (y ∷ ys)) e) (omega arith) in
+    omega (arith, less, rest)
 last-high x (y ∷ ys) (suc k) e h =
     last-high y ys k (right-on (every (ltb x) (y ∷ ys)) (ascends (y ∷ ys)) e) (le-of-suc-le-suc h)
 
-pub between : (xs : List ℕ) (k : ℕ) → ascends xs ≡ true → k < length xs
-    → (headOr 0 xs ≤ getD xs k 0) × (getD xs k 0 ≤ lastOr 0 xs)
+pub between : (xs : List ℕ) (k : ℕ) → ascends xs ≡ true → k < length xs → Within xs (getD xs k 0)
 between [] k e h = absurd (not-suc-le-zero h)
-between (x ∷ xs) k e h = (low k h, last-high x xs k e h)
+between (x ∷ xs) k e h = record { low = low k h; high = last-high x xs k e h }
   where
     low : (k : ℕ) → k < suc (length xs) → x ≤ getD (x ∷ xs) k 0
     low zero h = omega arith
     low (suc k) h =
-        let a = ltb-true x (getD xs k 0)
-        (every-at (ltb x) xs k (left-on (every (ltb x) xs) (ascends xs) e) (le-of-suc-le-suc h)) in
-        omega arith
+        let rises = left-on (every (ltb x) xs) (ascends xs) e in
+        let less = ltb-true x (getD xs k 0) (every-at (ltb x) xs k rises (le-of-suc-le-suc h)) in
+        omega (arith, less)
 
 reverse-at : (l : List ℕ) (k : ℕ) → k < length l → getD (reverse l) k 0 ≡ getD l (length l - 1 - k) 0
 reverse-at [] k h = absurd (not-suc-le-zero h)
@@ -154,17 +147,19 @@ mirrored-at ss k h =
     ∙ map-at (mirror ss) ss (length ss - 1 - k) (omega arith)
 
 -- ---- sections
-module _ (roads sections marks : List ℕ) (fit : partsFit 18 19 0 (length sections) (table 20 roads) ≡ true)
-    (i : ℕ) (h : i < length roads / 20) where
+module _ (roads sections : List ℕ) (fit : partsFit 18 19 0 (length sections) (table 20 roads) ≡ true) (i : ℕ)
+    (h : i < length roads / 20) where
   pub numbers-length : length (numbersAt roads sections i) ≡ getD roads (i * 20 + 19) 0
   numbers-length =
-      let a = part-in 20 18 19 (length sections) roads (omega arith) (omega arith) fit i h in
+      let listed = part-in 20 18 19 (length sections) roads (omega arith) (omega arith) fit i h in
+      let left = length-drop (getD roads (i * 20 + 18) 0) sections in
       length-take-le (getD roads (i * 20 + 19) 0) (drop (getD roads (i * 20 + 18) 0) sections)
-      (let d = length-drop (getD roads (i * 20 + 18) 0) sections in omega arith)
+      (omega (arith, listed, left))
 
-  pub sections-length : length (turnedSections roads sections marks i) ≡ getD roads (i * 20 + 19) 0 * 1
+  pub sections-length : (marks : List ℕ)
+      → length (turnedSections roads sections marks i) ≡ getD roads (i * 20 + 19) 0 * 1
   unfolding turnedSections
-  sections-length =
+  sections-length marks =
       go (eqb (getD marks i 0) 1)
       ∙ numbers-length
       ∙ sym (native.Mathlib.Nat.mul-one (getD roads (i * 20 + 19) 0))
@@ -178,39 +173,55 @@ module _ (roads sections marks : List ℕ) (fit : partsFit 18 19 0 (length secti
   pub sections-room : (out : ℕ) → length sections ≤ out
       → getD roads (i * 20 + 18) 0 + length (numbersAt roads sections i) ≤ out
   sections-room out l =
-      let a = part-in 20 18 19 (length sections) roads (omega arith) (omega arith) fit i h in
-      let b = numbers-length in omega arith
+      let listed = part-in 20 18 19 (length sections) roads (omega arith) (omega arith) fit i h in
+      omega (arith, listed, numbers-length)
+
+-- a road's numbers in their place, the road marked or not
+module _ (roads sections marks : List ℕ) (i : ℕ) (out : List ℕ) {at : ℕ} {part new : List ℕ}
+    (place : at ≡ getD roads (i * 20 + 18) 0) (numbers : part ≡ numbersAt roads sections i) where
+  pub numbers-marked : eqb (getD marks i 0) 1 ≡ true → new ≡ spliced at (mirrored part) out
+      → new ≡ spliced (getD roads (i * 20 + 18) 0) (turnedSections roads sections marks i) out
+  unfolding turnedSections
+  numbers-marked marked put =
+      put ∙ ap₂ (λ (a : ℕ) (p : List ℕ). spliced a p out) place
+      (if-on (eqb (getD marks i 0) 1) (mirrored (numbersAt roads sections i)) (numbersAt roads sections i) marked
+      (ap mirrored numbers))
+
+  pub numbers-unmarked : eqb (getD marks i 0) 1 ≡ false → new ≡ spliced at part out
+      → new ≡ spliced (getD roads (i * 20 + 18) 0) (turnedSections roads sections marks i) out
+  unfolding turnedSections
+  numbers-unmarked unmarked put =
+      put ∙ ap₂ (λ (a : ℕ) (p : List ℕ). spliced a p out) place
+      (if-off (eqb (getD marks i 0) 1) (mirrored (numbersAt roads sections i)) (numbersAt roads sections i) unmarked
+      numbers)
 
 -- ---- lanes
-module _ (roads sections lanes owner : List ℕ) (i : ℕ) (kept : Kept roads sections lanes owner i) {o : ℕ}
-    (e : o ≡ getD owner i 0) where
-  pub road-known : (0 < o) × (o ≤ length roads / 20)
-  road-known = rw e (kept .known, kept .below)
-
-  pub section-within : {p : List ℕ} → p ≡ numbersAt roads sections (o - 1)
-      → (headOr 0 p ≤ getD lanes (i * 10 + 3) 0) × (getD lanes (i * 10 + 3) 0 ≤ lastOr 0 p)
-  section-within {p} f = rw (f ∙ ap (λ (m : ℕ). numbersAt roads sections (m - 1)) e) (kept .low, kept .high)
+-- the part is that of the lane's road
+pub section-within : (roads sections lanes owner : List ℕ) (i : ℕ) → Kept roads sections lanes owner i
+    → {o : ℕ} {p : List ℕ} → o ≡ getD owner i 0 → p ≡ numbersAt roads sections (o - 1)
+    → Within p (getD lanes (i * 10 + 3) 0)
+section-within roads sections lanes owner i kept owned numbers =
+    rw (numbers ∙ ap (λ (m : ℕ). numbersAt roads sections (m - 1)) owned) (kept .within)
 
 pub lane-turned : (text roads sections marks lanes owner : List ℕ) (i : ℕ) {row p : List ℕ} {o : ℕ} {m : Bool}
     → row ≡ laneOn text roads marks lanes i (o - 1) m p → m ≡ markAt marks o
     → p ≡ numbersAt roads sections (o - 1) → o ≡ getD owner i 0
     → row ≡ turnedLane text roads sections marks lanes owner i
 unfolding turnedLane
-lane-turned text roads sections marks lanes owner i {row} {p} {o} {m} e f g h =
-    e
-    ∙ ap₂ (λ (b : Bool) (l : List ℕ). laneOn text roads marks lanes i (o - 1) b l) f g
-    ∙ ap
-    (λ (k : ℕ). laneOn text roads marks lanes i (k - 1) (markAt marks k) (numbersAt roads sections (k - 1))) h
+lane-turned text roads sections marks lanes owner i {o = o} laid marked numbers owned =
+    laid
+    ∙ ap₂ (λ (b : Bool) (l : List ℕ). laneOn text roads marks lanes i (o - 1) b l) marked numbers
+    ∙ ap (λ (k : ℕ). laneOn text roads marks lanes i (k - 1) (markAt marks k) (numbersAt roads sections (k - 1)))
+    owned
 
 pub edges-turned : (owner marks : List ℕ) (edges : List Float) (i : ℕ) {row : List Float}
     {ends : List (List Point)} {o : ℕ} {m : Bool} → row ≡ floatsOf ends
     → ends ≡ cond m (swapped (endsAt edges i)) (endsAt edges i) → m ≡ markAt marks o → o ≡ getD owner i 0
     → row ≡ turnedEdges owner marks edges i
 unfolding turnedEdges
-edges-turned owner marks edges i {row} {ends} {o} {m} e f g h =
-    e
-    ∙ ap floatsOf
-    (f ∙ ap (λ (b : Bool). cond b (swapped (endsAt edges i)) (endsAt edges i)) (g ∙ ap (markAt marks) h))
+edges-turned owner marks edges i laid turned marked owned =
+    let mark = marked ∙ ap (markAt marks) owned in
+    laid ∙ ap floatsOf (turned ∙ ap (λ (b : Bool). cond b (swapped (endsAt edges i)) (endsAt edges i)) mark)
 
 pub div-mul-le : (n : ℕ) → n / 2 * 2 ≤ n
 div-mul-le n = rows-in n 2
@@ -223,27 +234,11 @@ module _ (text roads marks ws pairs : List ℕ) (i : ℕ) where
       pairs-length (markOf text roads marks (nameFrom ws (i * 7)))
       (markOf text roads marks (nameFrom ws (i * 7 + 2))) pairs (getD ws (i * 7 + 5) 0) (getD ws (i * 7 + 6) 0)
 
-  pub pairs-put : (out : List ℕ) {out′ : List ℕ} {m n : Bool} {a k : ℕ}
-      → out′ ≡ spliced (a * 2) (pairsFrom m n pairs a k) out → m ≡ markOf text roads marks (nameFrom ws (i * 7))
-      → n ≡ markOf text roads marks (nameFrom ws (i * 7 + 2)) → a ≡ getD ws (i * 7 + 5) 0
-      → k ≡ getD ws (i * 7 + 6) 0 →
-      out′ ≡ spliced (a * 2) (turnedPairs text roads marks ws pairs i) out
+  pub pairs-put : (out : List ℕ) {new : List ℕ} {m n : Bool} {a k : ℕ}
+      → m ≡ markOf text roads marks (nameFrom ws (i * 7)) → n ≡ markOf text roads marks (nameFrom ws (i * 7 + 2))
+      → a ≡ getD ws (i * 7 + 5) 0 → k ≡ getD ws (i * 7 + 6) 0
+      → new ≡ spliced (a * 2) (pairsFrom m n pairs a k) out
+      → new ≡ spliced (getD ws (i * 7 + 5) 0 * 2) (turnedPairs text roads marks ws pairs i) out
   unfolding turnedPairs
-  pairs-put out {out′} {m} {n} {a} {k} e f g h j =
-      e ∙ (λ t. spliced (a * 2) (pairsFrom (f t) (g t) pairs (h t) (j t)) out)
-
--- ---- a copy, word by word
-pub paste-turn : (out₀ : List ℕ) (at : ℕ) (row : List ℕ) (k : ℕ) {out : List ℕ} {x : ℕ}
-    → out ≡ paste out₀ at row k → x ≡ getD row k 0 → at + k < length out₀ → k < length row
-    → set out (at + k) x ≡ paste out₀ at row (k + 1)
-paste-turn out₀ at row k e f h l =
-    ap₂ (λ (o : List ℕ) (v : ℕ). set o (at + k) v) e f
-    ∙ paste-suc out₀ at row k 0 h l
-    ∙ ap (paste out₀ at row) (sym (add-one k))
-
-pub paste-all : (out₀ : List ℕ) (at : ℕ) (row : List ℕ) {k : ℕ} → k ≡ length row
-    → paste out₀ at row k ≡ spliced at row out₀
-unfolding spliced
-paste-all out₀ at row e =
-    ap (paste out₀ at row) e
-    ∙ ap (λ (l : List ℕ). take at out₀ ++ l ++ drop (at + length row) out₀) (take-length row)
+  pairs-put out incoming connecting first count put =
+      put ∙ (λ t. spliced (first t * 2) (pairsFrom (incoming t) (connecting t) pairs (first t) (count t)) out)

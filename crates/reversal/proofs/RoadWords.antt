@@ -11,10 +11,10 @@ use lib.ListN.{length, getD, take, drop, length-drop}
 use lib.Seq.{getD-drop, length-take-le}
 use borrow.Author.Tests.{eqb-true, leb-true}
 use Rattle.model.specs.Lists.{_⊕_, every, gather, mapO}
-use Rattle.model.specs.Records.{Road, Span}
+use Rattle.model.specs.Records.{Road, Span, targetAt}
 use Rattle.model.specs.Reversal.{mirrored, reverseRoad, reverseTarget}
 use Rattle.model.specs.Rows.{part, partsFit, rowsFrom, table, word}
-use Rattle.model.specs.Rules.{roadWorded, targetWorded}
+use Rattle.model.specs.Rules.{roadWorded, targetWorded, targetWordedAt}
 use Rattle.model.specs.Tables.{bit, flag, isAbsent, nameIn, nameWords, roadIn, roadRow, roadWords, roadsIn}
 use Rattle.model.specs.Tables.{sectionWords, spanIn, targetOf, targetWords}
 use Rattle.model.specs.Text.{placed}
@@ -39,11 +39,11 @@ pub rows-by : {X A : Type 0} (kf kc : ℕ) (row : ℕ → X → List ℕ) (f : X
     → rowsFrom row f i (map h rs) ≡ gather (λ r. row (word r kf) (h r)) rs
 rows-by kf kc row f h n c i [] e = refl
 rows-by kf kc row f h n c i (r ∷ rs) e =
-    let a = fit-first kf kc i n r rs e in
-    let q = fit-rest kf kc i n r rs e in
-    let l = c r (let z = fit-le kf kc (i + word r kc) n rs q in omega arith) in
-    ap₂ (λ (x y : List ℕ). x ++ y) (ap (λ (k : ℕ). row k (h r)) (sym a))
-    (ap (λ (k : ℕ). rowsFrom row f (i + k) (map h rs)) l ∙ rows-by kf kc row f h n c (i + word r kc) rs q)
+    let first = fit-first kf kc i n r rs e in
+    let rest = fit-rest kf kc i n r rs e in
+    let count = c r (omega (arith, first, fit-le kf kc (i + word r kc) n rs rest)) in
+    ap₂ (λ (x y : List ℕ). x ++ y) (ap (λ (k : ℕ). row k (h r)) (sym first))
+    (ap (λ (k : ℕ). rowsFrom row f (i + k) (map h rs)) count ∙ rows-by kf kc row f h n c (i + word r kc) rs rest)
 
 pub map-map : {X Y Z : Type 0} (f : Y → Z) (g : X → Y) (xs : List X) → map f (map g xs) ≡ map (λ x. f (g x)) xs
 map-map f g [] = refl
@@ -108,62 +108,44 @@ road-row : (mk : Span → Bool) (text ss l : List ℕ) → roadWorded text l ≡
     → length (part (word l 18) (word l 19) ss) ≡ word l 19 → (m : Bool) → mk (spanIn l 0) ≡ m →
     roadRow (word l 18) (reverseRoad mk (roadIn ss l)) ≡ cond m (roadOver mk l 11 4) (roadOver mk l 4 11)
 unfolding roadIn roadRow roadWorded reverseRoad
-road-row mk text ss l h c m e = ap (λ (b : Bool). row b) e ∙ go m
+road-row mk text ss l worded count m marked =
+    let each = and4 (placed text (spanIn l 0)) (isAbsent (word l 2) (word l 3) || placed text (spanIn l 2))
+    (targetWordedAt text l 4) (targetWordedAt text l 11) worded in
+    ap (λ (b : Bool). row b) marked
+    ∙ go m (target-turned mk text _ _ _ _ _ _ _ (each .2)) (target-turned mk text _ _ _ _ _ _ _ (each .3))
   where
+    sections : List ℕ
+    sections = part (word l 18) (word l 19) ss
+
+    target : Bool → List ℕ
+    target e = targetWords (mapO (reverseTarget mk) (targetAt e (roadIn ss l)))
+
     row : Bool → List ℕ
-    row b = (word l 0 ∷ word l 1 ∷ []) ++ nameWords (nameIn l 2)
-        ++ targetWords (mapO (reverseTarget mk) (Rattle.model.specs.Records.targetAt b (roadIn ss l)))
-        ++ targetWords (mapO (reverseTarget mk) (Rattle.model.specs.Records.targetAt (not b) (roadIn ss l)))
-        ++ (word l 18
-        ∷ length (cond b (mirrored (part (word l 18) (word l 19) ss)) (part (word l 18) (word l 19) ss)) ∷ [])
+    row b = (word l 0 ∷ word l 1 ∷ []) ++ nameWords (nameIn l 2) ++ target b ++ target (not b)
+        ++ (word l 18 ∷ length (cond b (mirrored sections) sections) ∷ [])
 
-    w : (placed text (spanIn l 0) ≡ true)
-        × ((isAbsent (word l 2) (word l 3) || placed text (spanIn l 2)) ≡ true)
-        × (targetWorded text (word l 4) (word l 5) (word l 6) (word l 7) (word l 8) (word l 9) (word l 10)
-        ≡ true)
-        × (targetWorded text (word l 11) (word l 12) (word l 13) (word l 14) (word l 15) (word l 16)
-        (word l 17) ≡ true)
-    w = and4 (placed text (spanIn l 0)) (isAbsent (word l 2) (word l 3) || placed text (spanIn l 2))
-        (targetWorded text (word l 4) (word l 5) (word l 6) (word l 7) (word l 8) (word l 9) (word l 10))
-        (targetWorded text (word l 11) (word l 12) (word l 13) (word l 14) (word l 15) (word l 16) (word l 17)) h
+    name : nameWords (nameIn l 2) ≡ word l 2 ∷ word l 3 ∷ []
+    name = name-forth (word l 2) (word l 3)
 
-    go : (m : Bool) → row m ≡ cond m (roadOver mk l 11 4) (roadOver mk l 4 11)
-    go true =
-        let n = name-forth (word l 2) (word l 3) in
-        let p =
-        target-turned mk text (word l 4) (word l 5) (word l 6) (word l 7) (word l 8) (word l 9)
-        (word l 10) (w .2) in
-        let s =
-        target-turned mk text (word l 11) (word l 12) (word l 13) (word l 14) (word l 15) (word l 16)
-        (word l 17) (w .3) in
+    go : (m : Bool) → target false ≡ targetOver mk l 4 → target true ≡ targetOver mk l 11
+        → row m ≡ cond m (roadOver mk l 11 4) (roadOver mk l 4 11)
+    go true before after =
         λ i.
-        (word l 0 ∷ word l 1 ∷ []) ++ n i ++ s i ++ p i
-        ++ (word l 18 ∷ (mirrored-length (part (word l 18) (word l 19) ss) ∙ c) i ∷ [])
-    go false =
-        let n = name-forth (word l 2) (word l 3) in
-        let p =
-        target-turned mk text (word l 4) (word l 5) (word l 6) (word l 7) (word l 8) (word l 9)
-        (word l 10) (w .2) in
-        let s =
-        target-turned mk text (word l 11) (word l 12) (word l 13) (word l 14) (word l 15) (word l 16)
-        (word l 17) (w .3) in
-        λ i. (word l 0 ∷ word l 1 ∷ []) ++ n i ++ p i ++ s i ++ (word l 18 ∷ c i ∷ [])
+        (word l 0 ∷ word l 1 ∷ []) ++ name i ++ after i ++ before i
+        ++ (word l 18 ∷ (mirrored-length sections ∙ count) i ∷ [])
+    go false before after =
+        λ i. (word l 0 ∷ word l 1 ∷ []) ++ name i ++ before i ++ after i ++ (word l 18 ∷ count i ∷ [])
 
-module _ (text roads marks : List ℕ) (a : ℕ) where
-  over-on : roadOver (markOf text roads marks) (drop a roads) 11 4
-      ≡ roadWith roads a (a + 11) (a + 4) (contactAt text roads marks (a + 11))
-      (contactAt text roads marks (a + 4))
-  unfolding contactAt toMarked
-  over-on = simp (getD-drop a roads, add-zero, add-assoc)
-
-  over-off : roadOver (markOf text roads marks) (drop a roads) 4 11
-      ≡ roadWith roads a (a + 4) (a + 11) (contactAt text roads marks (a + 4))
-      (contactAt text roads marks (a + 11))
-  unfolding contactAt toMarked
-  over-off = simp (getD-drop a roads, add-zero, add-assoc)
+-- from word a of the table on, with the targets from words k and j of the row on
+over : (text roads marks : List ℕ) (a k j : ℕ)
+    → roadOver (markOf text roads marks) (drop a roads) k j
+    ≡ roadWith roads a (a + k) (a + j) (contactAt text roads marks (a + k)) (contactAt text roads marks (a + j))
+unfolding contactAt toMarked
+over text roads marks a k j = simp (getD-drop a roads, add-zero, add-assoc)
 
 -- ---- the tables
-module _ (text roads sections marks : List ℕ) (once : any (length roads / 20) (nameBefore text 20 0 roads) ≡ false) (even : length marks ≡ length roads / 20)
+module _ (text roads sections marks : List ℕ)
+    (once : any (length roads / 20) (nameBefore text 20 0 roads) ≡ false) (even : length marks ≡ length roads / 20)
     (worded : every (roadWorded text) (table 20 roads) ≡ true)
     (fit : partsFit 18 19 0 (length sections) (table 20 roads) ≡ true) where
   own : (i : ℕ) → i < length roads / 20
@@ -202,15 +184,15 @@ module _ (text roads sections marks : List ℕ) (once : any (length roads / 20) 
   unfolding rowBy turnedRoad
   row-is i h =
       let l = drop (i * 20) roads in
-      let a = part-in 20 18 19 (length sections) roads (omega arith) (omega arith) fit i h in
-      let f = getD-drop (i * 20) roads 18 0 in
-      let k = getD-drop (i * 20) roads 19 0 in
+      let listed = part-in 20 18 19 (length sections) roads (omega arith) (omega arith) fit i h in
+      let first = getD-drop (i * 20) roads 18 0 in
+      let count = getD-drop (i * 20) roads 19 0 in
       ap₂ (λ (n : ℕ) (r : Road). roadRow n (reverseRoad (markOf text roads marks) r)) (take-word 20 18 l refl)
       (road-in-local sections l)
-      ∙ road-row (markOf text roads marks) text sections l (worded-at i h) (part-length l (omega arith))
+      ∙ road-row (markOf text roads marks) text sections l (worded-at i h) (part-length l (omega (arith, listed, first, count)))
       (eqb (getD marks i 0) 1) (unfold roadIn in own i h)
-      ∙ ap₂ (λ (x y : List ℕ). cond (eqb (getD marks i 0) 1) x y) (over-on text roads marks (i * 20))
-      (over-off text roads marks (i * 20))
+      ∙ ap₂ (λ (x y : List ℕ). cond (eqb (getD marks i 0) 1) x y) (over text roads marks (i * 20) 11 4)
+      (over text roads marks (i * 20) 4 11)
 
   pub roads-are : roadWords (map (reverseRoad (markOf text roads marks)) (roadsIn sections roads))
       ≡ joined (length roads / 20) (turnedRoad text roads marks)

@@ -5,6 +5,7 @@ use lib.Ieee.{Float}
 use Rattle.model.specs.Calls.{Answer, refused, wrote, ReversalOutputs}
 use Rattle.model.specs.Rules.{refusalWord}
 use Rattle.tables.specs.Verdicts.{refusalOf}
+use Rattle.reversal.specs.declared.call.Lengths.{Lengths}
 use Rattle.reversal.specs.declared.call.Reversed.{Reversed}
 use Rattle.reversal.specs.declared.call.Reversed.the-variants.{Written, Refused}
 
@@ -18,3 +19,7 @@ abbrev pub outputs : (roads sections connections pairs lanes : List ℕ) → Lis
 outputs roads sections connections pairs lanes edges =
     record
     { roads = roads; sections = sections; connections = connections; pairs = pairs; lanes = lanes; edges = edges }
+
+-- lengths in the order of the outputs
+abbrev pub lengthsOf : Lengths → List ℕ
+lengthsOf n = n .roads ∷ n .sections ∷ n .connections ∷ n .pairs ∷ n .lanes ∷ n .edges ∷ []

@@ -18,6 +18,7 @@ use Rattle.words.specs.Chain.{Chained}
 use Rattle.words.specs.Keys.{nameHash}
 use Rattle.words.specs.Rows.{all, joined, nameFrom}
 use Rattle.rules.specs.ByRow.{numbersAt, roadRowOf}
+use Rattle.reversal.specs.declared.lanes.Row.{Row}
 
 -- ---- marks
 -- is the road with that row plus 1 marked? 0 is no road
@@ -78,11 +79,15 @@ turnedSections roads sections marks i =
     cond (eqb (getD marks i 0) 1) (mirrored (numbersAt roads sections i)) (numbersAt roads sections i)
 
 -- ---- connections and pairs
+-- a connection's row, from word at on, with that contact
+abbrev pub connectionWith : List ℕ → ℕ → ℕ → List ℕ
+connectionWith ws at contact =
+    getD ws at 0 ∷ getD ws (at + 1) 0 ∷ getD ws (at + 2) 0 ∷ getD ws (at + 3) 0 ∷ contact
+    ∷ getD ws (at + 5) 0 ∷ getD ws (at + 6) 0 ∷ []
+
 unfoldable pub turnedConnection : (text roads marks connections : List ℕ) → ℕ → List ℕ
 turnedConnection text roads marks ws i =
-    getD ws (i * 7) 0 ∷ getD ws (i * 7 + 1) 0 ∷ getD ws (i * 7 + 2) 0 ∷ getD ws (i * 7 + 3) 0
-    ∷ turnBit (markOf text roads marks (nameFrom ws (i * 7 + 2))) (getD ws (i * 7 + 4) 0)
-    ∷ getD ws (i * 7 + 5) 0 ∷ getD ws (i * 7 + 6) 0 ∷ []
+    connectionWith ws (i * 7) (turnBit (markOf text roads marks (nameFrom ws (i * 7 + 2))) (getD ws (i * 7 + 4) 0))
 
 -- pair p, where the incoming and the connecting road are marked or not
 unfoldable pub turnedPair : Bool → Bool → List ℕ → ℕ → List ℕ
@@ -104,6 +109,21 @@ turnWay false d = d
 turnWay true zero = 1
 turnWay true (suc zero) = 0
 turnWay true (suc (suc d)) = suc (suc d)
+
+-- a lane's row as it is, from word at on
+abbrev pub rowAt : List ℕ → ℕ → Row
+rowAt ws at = record {
+  id = getD ws at 0;
+  start = getD ws (at + 1) 0;
+  size = getD ws (at + 2) 0;
+  section = getD ws (at + 3) 0;
+  number = getD ws (at + 4) 0;
+  way = getD ws (at + 5) 0;
+  onward = getD ws (at + 6) 0;
+  onto = getD ws (at + 7) 0;
+  back = getD ws (at + 8) 0;
+  backto = getD ws (at + 9) 0;
+}
 
 -- a lane's row, from word at on: its links at the end and at the start of its road change sign by p and q
 unfoldable pub laneWith : List ℕ → ℕ → Bool → ℕ → Bool → Bool → List ℕ
@@ -127,12 +147,16 @@ turnedLane text roads sections marks lanes owner i =
     laneOn text roads marks lanes i (getD owner i 0 - 1) (markAt marks (getD owner i 0))
     (numbersAt roads sections (getD owner i 0 - 1))
 
+-- section number s lies between the first and the last of a part
+pub record Within (part : List ℕ) (s : ℕ) : Type 0 where
+  pub low : headOr 0 part ≤ s
+  pub high : s ≤ lastOr 0 part
+
 -- lane i's road is known, and its section lies between the first and the last of the road
 pub record Kept (roads sections lanes owner : List ℕ) (i : ℕ) : Type 0 where
   pub known : 0 < getD owner i 0
   pub below : getD owner i 0 ≤ length roads / 20
-  pub low : headOr 0 (numbersAt roads sections (getD owner i 0 - 1)) ≤ getD lanes (i * 10 + 3) 0
-  pub high : getD lanes (i * 10 + 3) 0 ≤ lastOr 0 (numbersAt roads sections (getD owner i 0 - 1))
+  pub within : Within (numbersAt roads sections (getD owner i 0 - 1)) (getD lanes (i * 10 + 3) 0)
 
 -- ---- edges
 abbrev pub pointFloats : Point → List Float
@@ -180,6 +204,34 @@ pub record Writable (text roads sections connections pairs lanes : List ℕ) (ed
   pub owners : length owner ≡ 16384
   pub kept : (i : ℕ) → i < length lanes / 10 → Kept roads sections lanes owner i
   pub low : (i : ℕ) → i < length edges / 12 → getD owner i 0 ≤ length marks
+
+-- of the sections: each road has a mark, its numbers are in their place and ascend
+pub record ReadySections (roads sections marks out : List ℕ) : Type 0 where
+  pub few : length roads / 20 ≤ 16384
+  pub even : length marks ≡ length roads / 20
+  pub parts : partsFit 18 19 0 (length sections) (table 20 roads) ≡ true
+  pub up : all (length roads / 20) (λ i. ascends (numbersAt roads sections i)) ≡ true
+  pub room : length sections ≤ length out
+
+-- of the pairs: those of each connection are in their place
+pub record ReadyPairs (connections pairs out : List ℕ) : Type 0 where
+  pub few : length connections / 7 ≤ 16384
+  pub parts : partsFit 5 6 0 (length pairs / 2) (table 7 connections) ≡ true
+  pub room : length pairs ≤ length out
+
+-- of the lanes: each has a road
+pub record ReadyLanes (roads sections lanes owner out : List ℕ) : Type 0 where
+  pub few : length lanes / 10 ≤ 16384
+  pub owned : length lanes / 10 ≤ length owner
+  pub parts : partsFit 18 19 0 (length sections) (table 20 roads) ≡ true
+  pub kept : (i : ℕ) → i < length lanes / 10 → Kept roads sections lanes owner i
+  pub room : length lanes ≤ length out
+
+-- of the edges: each lane has a road, with a mark
+pub record ReadyEdges (owner marks : List ℕ) (edges out : List Float) : Type 0 where
+  pub owned : length edges / 12 ≤ length owner
+  pub low : (i : ℕ) → i < length edges / 12 → getD owner i 0 ≤ length marks
+  pub room : length edges ≤ length out
 
 -- each output is as long as the table whose rows it gets
 pub record Room (tables outs : ReversalOutputs) : Type 0 where

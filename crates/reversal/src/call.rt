@@ -7,12 +7,11 @@ use tables::verdict::admitted;
 use tables::verdict::reversal_verdict;
 use words::tests::both;
 ghost use mathlib.Core.Path.{_≡_};
-ghost use mathlib.Core.List.{[], _∷_};
 ghost use Rattle.model.specs.Tables.{allTables};
 ghost use Rattle.model.specs.Rules.{fits};
 ghost use Rattle.model.specs.Calls.{ReversalOutputs, outcome, putReversed, reversalCall};
 ghost use Rattle.reversal.specs.Turned.{Room, Writable, turnedTables};
-ghost use Rattle.reversal.specs.Answers.{answerOf, outputs};
+ghost use Rattle.reversal.specs.Answers.{answerOf, lengthsOf, outputs};
 
 // How many rows were written to each output.
 pub struct Counts {
@@ -30,30 +29,26 @@ pub enum Reversed {
     Refused(Verdict),
 }
 
-// Not 9: each output is as long as the table whose rows it gets.
-fn enough(
+// How many words each table, or each output, has.
+struct Lengths {
     roads: usize,
     sections: usize,
     connections: usize,
     pairs: usize,
     lanes: usize,
     edges: usize,
-    outroads: usize,
-    outsections: usize,
-    outconnections: usize,
-    outpairs: usize,
-    outlanes: usize,
-    outedges: usize,
-) -> bool
-    ensures { λ q. ⌜ q ≡ fits (roads ∷ sections ∷ connections ∷ pairs ∷ lanes ∷ edges ∷ [])
-        (outroads ∷ outsections ∷ outconnections ∷ outpairs ∷ outlanes ∷ outedges ∷ []) ⌝ }
+}
+
+// Not 9: each output is as long as the table whose rows it gets.
+fn enough(tables: Lengths, outs: Lengths) -> bool
+    ensures { λ q. ⌜ q ≡ fits (lengthsOf tables) (lengthsOf outs) ⌝ }
 {
-    let a = edges <= outedges;
-    let b = both(lanes <= outlanes, a);
-    let c = both(pairs <= outpairs, b);
-    let d = both(connections <= outconnections, c);
-    let e = both(sections <= outsections, d);
-    both(roads <= outroads, e)
+    let a = tables.edges <= outs.edges;
+    let b = both(tables.lanes <= outs.lanes, a);
+    let c = both(tables.pairs <= outs.pairs, b);
+    let d = both(tables.connections <= outs.connections, c);
+    let e = both(tables.sections <= outs.sections, d);
+    both(tables.roads <= outs.roads, e)
 }
 
 // Writes the six outputs.
@@ -165,20 +160,23 @@ pub fn reverse(
     if !admitted(v) {
         return Reversed::Refused(v);
     }
-    if !enough(
-        roads.len(),
-        sections.len(),
-        connections.len(),
-        pairs.len(),
-        lanes.len(),
-        edges.len(),
-        outroads.len(),
-        outsections.len(),
-        outconnections.len(),
-        outpairs.len(),
-        outlanes.len(),
-        outedges.len(),
-    ) {
+    let tables = Lengths {
+        roads: roads.len(),
+        sections: sections.len(),
+        connections: connections.len(),
+        pairs: pairs.len(),
+        lanes: lanes.len(),
+        edges: edges.len(),
+    };
+    let outs = Lengths {
+        roads: outroads.len(),
+        sections: outsections.len(),
+        connections: outconnections.len(),
+        pairs: outpairs.len(),
+        lanes: outlanes.len(),
+        edges: outedges.len(),
+    };
+    if !enough(tables, outs) {
         return Reversed::Refused(Verdict::OutputShort);
     }
     write_all(

@@ -4,21 +4,19 @@ use crate::roads;
 use geometry::edges;
 use geometry::segment::Point;
 use rules::parts;
+use tables::lookup::RoadId;
 use words::rows;
-use words::tests::is;
 ghost use mathlib.Core.Path.{_≡_};
-ghost use mathlib.Core.Bool.{true, cond};
-ghost use Prim.Native.Nat.{ℕ, _+_, _*_, _-_, _/_, _≤_, _<_};
-ghost use lib.Dec.{eqb};
+ghost use mathlib.Core.Bool.{cond};
+ghost use Prim.Native.Nat.{_+_, _*_, _/_, _≤_, _<_};
 ghost use lib.ListN.{length, getD};
 ghost use Rattle.geometry.specs.Edges.{endsAt};
 ghost use Rattle.geometry.specs.Gap.{swapped};
-ghost use Rattle.model.specs.Lists.{headOr, lastOr};
 ghost use Rattle.model.specs.Reversal.{mirror};
-ghost use Rattle.model.specs.Rows.{table, partsFit, written};
-ghost use Rattle.rules.specs.ByRow.{numbersAt};
+ghost use Rattle.model.specs.Rows.{written};
 ghost use Rattle.words.specs.Rows.{joined};
-ghost use Rattle.reversal.specs.Turned.{markAt, Ready, Kept, toMarked, turnWay, laneWith, laneOn, turnedLane, floatsOf, turnedEdges};
+ghost use Rattle.reversal.specs.Turned.{Ready, ReadyEdges, ReadyLanes, Within, floatsOf, laneOn, laneWith};
+ghost use Rattle.reversal.specs.Turned.{rowAt, toMarked, turnWay, turnedEdges, turnedLane};
 
 // A direction's word: forward and backward swap if the mark is set.
 fn turned_way(mark: bool, way: u32) -> u32
@@ -34,40 +32,76 @@ fn turned_way(mark: bool, way: u32) -> u32
     }
 }
 
-// A lane's row, from word `at` on, with that section. Its links at the end and at the start of its road change sign by `p` and `q`; the links swap if the mark is set.
+// A lane's row: its identity, its road's name, its section, number and direction, and its links at the end and at the
+// start of its road, each a flag and a lane number.
+struct Row {
+    id: u32,
+    start: u32,
+    size: u32,
+    section: u32,
+    number: u32,
+    way: u32,
+    onward: u32,
+    onto: u32,
+    back: u32,
+    backto: u32,
+}
+
+// A lane's row as it is, from word `at` on.
+fn row_at(lanes: &[u32], at: usize) -> Row
+    requires { ⌜ at + 10 ≤ length (now lanes) ⌝ }
+    ensures { λ q. ⌜ q ≡ rowAt (now (lanes .entry)) at ⌝ }
+{
+    Row {
+        id: lanes[at],
+        start: lanes[at + 1],
+        size: lanes[at + 2],
+        section: lanes[at + 3],
+        number: lanes[at + 4],
+        way: lanes[at + 5],
+        onward: lanes[at + 6],
+        onto: lanes[at + 7],
+        back: lanes[at + 8],
+        backto: lanes[at + 9],
+    }
+}
+
+// A lane's row, from word `at` on, with that section. Its links at the end and at the start of its road change sign
+// by `p` and `q`; the links swap if the mark is set.
 fn lane_with(lanes: &[u32], at: usize, mark: bool, section: u32, p: bool, q: bool) -> [u32; 10]
     requires { ⌜ at + 10 ≤ length (now lanes) ⌝ }
     ensures { λ r. ⌜ r ≡ laneWith (now (lanes .entry)) at mark section p q ⌝ }
 {
-    let number = marks::signed_by(mark, lanes[at + 4]);
-    let way = turned_way(mark, lanes[at + 5]);
-    let onward = marks::signed_by(p, lanes[at + 7]);
-    let back = marks::signed_by(q, lanes[at + 9]);
+    let x = row_at(lanes, at);
+    let number = marks::signed_by(mark, x.number);
+    let way = turned_way(mark, x.way);
+    let onto = marks::signed_by(p, x.onto);
+    let backto = marks::signed_by(q, x.backto);
     if mark {
         return [
-            lanes[at],
-            lanes[at + 1],
-            lanes[at + 2],
+            x.id,
+            x.start,
+            x.size,
             section,
             number,
             way,
-            lanes[at + 8],
-            back,
-            lanes[at + 6],
-            onward,
+            x.back,
+            backto,
+            x.onward,
+            onto,
         ];
     }
     [
-        lanes[at],
-        lanes[at + 1],
-        lanes[at + 2],
+        x.id,
+        x.start,
+        x.size,
         section,
         number,
         way,
-        lanes[at + 6],
-        onward,
-        lanes[at + 8],
-        back,
+        x.onward,
+        onto,
+        x.back,
+        backto,
     ]
 }
 
@@ -94,7 +128,7 @@ fn sign(
 
 // A section's number, counted from the other end of its road's if the mark is set.
 fn turned_section(part: &[u32], mark: bool, s: u32) -> u32
-    requires { ⌜ (headOr 0 (now part) ≤ s) × (s ≤ lastOr 0 (now part)) ⌝ }
+    requires { ⌜ Within (now part) s ⌝ }
     ensures { λ q. ⌜ q ≡ cond mark (mirror (now (part .entry)) s) s ⌝ }
 {
     if mark {
@@ -103,7 +137,7 @@ fn turned_section(part: &[u32], mark: bool, s: u32) -> u32
     s
 }
 
-// Lane i, reversed, on the road with row `road`, which has these sections.
+// Lane i, reversed, on a road that has these sections.
 fn lane_on(
     text: &[u8],
     roads: &[u32],
@@ -112,19 +146,23 @@ fn lane_on(
     marks: &[u32],
     lanes: &[u32],
     i: usize,
-    road: usize,
+    road: RoadId,
     mark: bool,
     part: &[u32],
 ) -> [u32; 10]
     requires { ⌜ Ready (now text) (now roads) (now marks) (now heads) (now next) ⌝ }
-    requires { ⌜ (i < length (now lanes) / 10) × (road < length (now roads) / 20) × (headOr 0 (now part) ≤ getD (now lanes) (i * 10 + 3) 0) × (getD (now lanes) (i * 10 + 3) 0 ≤ lastOr 0 (now part)) ⌝ }
-    ensures { λ q. ⌜ q ≡ laneOn (now (text .entry)) (now (roads .entry)) (now (marks .entry)) (now (lanes .entry)) i road mark (now (part .entry)) ⌝ }
+    requires { ⌜ i < length (now lanes) / 10 ⌝ }
+    requires { ⌜ road .0 < length (now roads) / 20 ⌝ }
+    requires { ⌜ Within (now part) (getD (now lanes) (i * 10 + 3) 0) ⌝ }
+    ensures { λ q. ⌜ q ≡ laneOn (now (text .entry)) (now (roads .entry)) (now (marks .entry)) (now (lanes .entry)) i
+        (road .0) mark (now (part .entry)) ⌝ }
 {
+    let r = road.0 as usize;
     let s = lanes[i * 10 + 3];
     let last = s as usize == roads::last_of(part);
     let first = s as usize == roads::first_of(part);
-    let p = sign(text, roads, heads, next, marks, road * 20 + 11, last, mark);
-    let q = sign(text, roads, heads, next, marks, road * 20 + 4, first, mark);
+    let p = sign(text, roads, heads, next, marks, r * 20 + 11, last, mark);
+    let q = sign(text, roads, heads, next, marks, r * 20 + 4, first, mark);
     lane_with(lanes, i * 10, mark, turned_section(part, mark, s), p, q)
 }
 
@@ -141,18 +179,31 @@ pub fn put_lanes(
     out: &mut [u32],
 )
     requires { ⌜ Ready (now text) (now roads) (now marks) (now heads) (now next) ⌝ }
-    requires { ⌜ (length (now lanes) / 10 ≤ length (now owner)) × (length (now lanes) ≤ length (now out)) × (partsFit 18 19 0 (length (now sections)) (table 20 (now roads)) ≡ true) × (length (now lanes) / 10 ≤ 16384) ⌝ }
-    requires { ⌜ ((i : ℕ) → i < length (now lanes) / 10 → Kept (now roads) (now sections) (now lanes) (now owner) i) ⌝ }
-    ensures { λ _. ⌜ now (out .exit) ≡ written (joined (length (now (lanes .entry)) / 10) (turnedLane (now (text .entry)) (now (roads .entry)) (now (sections .entry)) (now (marks .entry)) (now (lanes .entry)) (now (owner .entry)))) (now (out .entry)) ⌝ }
+    requires { ⌜ ReadyLanes (now roads) (now sections) (now lanes) (now owner) (now out) ⌝ }
+    ensures { λ _. ⌜ now (out .exit) ≡ written (joined (length (now (lanes .entry)) / 10)
+        (turnedLane (now (text .entry)) (now (roads .entry)) (now (sections .entry)) (now (marks .entry))
+        (now (lanes .entry)) (now (owner .entry)))) (now (out .entry)) ⌝ }
 {
     let n = lanes.len() / 10;
     let mut i = 0;
     while i < n {
         let o = rows::word(owner, i);
-        let road = o - 1;
+        let r = o - 1;
         let mark = marks::mark_at(marks, o);
-        let part = parts::numbers(roads, sections, road);
-        let row = lane_on(text, roads, heads, next, marks, lanes, i, road, mark, part);
+        let part = parts::numbers(roads, sections, r);
+        let id = r as u32;
+        let row = lane_on(
+            text,
+            roads,
+            heads,
+            next,
+            marks,
+            lanes,
+            i,
+            RoadId(id),
+            mark,
+            part,
+        );
         rows::put(out, i * 10, &row);
         i += 1;
     }
@@ -185,9 +236,9 @@ fn turned_ends(edges: &[f32], i: usize, mark: bool) -> [[Point; 2]; 2]
 
 // Writes the lanes' edges, reversed.
 pub fn put_edges(owner: &[u32], marks: &[u32], edges: &[f32], out: &mut [f32])
-    requires { ⌜ (length (now edges) / 12 ≤ length (now owner)) × (length (now edges) ≤ length (now out)) ⌝ }
-    requires { ⌜ ((i : ℕ) → i < length (now edges) / 12 → getD (now owner) i 0 ≤ length (now marks)) ⌝ }
-    ensures { λ _. ⌜ now (out .exit) ≡ written (joined (length (now (edges .entry)) / 12) (turnedEdges (now (owner .entry)) (now (marks .entry)) (now (edges .entry)))) (now (out .entry)) ⌝ }
+    requires { ⌜ ReadyEdges (now owner) (now marks) (now edges) (now out) ⌝ }
+    ensures { λ _. ⌜ now (out .exit) ≡ written (joined (length (now (edges .entry)) / 12)
+        (turnedEdges (now (owner .entry)) (now (marks .entry)) (now (edges .entry)))) (now (out .entry)) ⌝ }
 {
     let n = edges.len() / 12;
     let mut i = 0;

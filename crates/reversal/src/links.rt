@@ -2,12 +2,27 @@
 use crate::marks;
 use words::rows;
 ghost use mathlib.Core.Path.{_≡_};
-ghost use mathlib.Core.Bool.{true};
 ghost use Prim.Native.Nat.{_+_, _*_, _/_, _≤_, _<_};
-ghost use lib.ListN.{length, getD};
-ghost use Rattle.model.specs.Rows.{table, partsFit, written};
+ghost use lib.ListN.{length};
+ghost use Rattle.model.specs.Rows.{written};
 ghost use Rattle.words.specs.Rows.{joined, spliced};
-ghost use Rattle.reversal.specs.Turned.{Ready, pairsFrom, turnedConnection, turnedPair, turnedPairs};
+ghost use Rattle.reversal.specs.Turned.{Ready, ReadyPairs, connectionWith, pairsFrom, turnedConnection, turnedPairs};
+
+// A connection's row, from word `at` on, with that contact.
+fn connection_with(connections: &[u32], at: usize, contact: u32) -> [u32; 7]
+    requires { ⌜ at + 7 ≤ length (now connections) ⌝ }
+    ensures { λ q. ⌜ q ≡ connectionWith (now (connections .entry)) at contact ⌝ }
+{
+    [
+        connections[at],
+        connections[at + 1],
+        connections[at + 2],
+        connections[at + 3],
+        contact,
+        connections[at + 5],
+        connections[at + 6],
+    ]
+}
 
 // Connection i, reversed.
 fn turned_connection(
@@ -21,20 +36,13 @@ fn turned_connection(
 ) -> [u32; 7]
     requires { ⌜ Ready (now text) (now roads) (now marks) (now heads) (now next) ⌝ }
     requires { ⌜ i < length (now connections) / 7 ⌝ }
-    ensures { λ q. ⌜ q ≡ turnedConnection (now (text .entry)) (now (roads .entry)) (now (marks .entry)) (now (connections .entry)) i ⌝ }
+    ensures { λ q. ⌜ q ≡ turnedConnection (now (text .entry)) (now (roads .entry)) (now (marks .entry))
+        (now (connections .entry)) i ⌝ }
 {
     let at = i * 7;
     let mark = marks::marked(text, roads, heads, next, marks, connections, at + 2);
     let contact = marks::turned_bit(mark, connections[at + 4]);
-    [
-        connections[at],
-        connections[at + 1],
-        connections[at + 2],
-        connections[at + 3],
-        contact,
-        connections[at + 5],
-        connections[at + 6],
-    ]
+    connection_with(connections, at, contact)
 }
 
 // Writes the connections, reversed.
@@ -49,7 +57,9 @@ pub fn put_connections(
 )
     requires { ⌜ Ready (now text) (now roads) (now marks) (now heads) (now next) ⌝ }
     requires { ⌜ length (now connections) ≤ length (now out) ⌝ }
-    ensures { λ _. ⌜ now (out .exit) ≡ written (joined (length (now (connections .entry)) / 7) (turnedConnection (now (text .entry)) (now (roads .entry)) (now (marks .entry)) (now (connections .entry)))) (now (out .entry)) ⌝ }
+    ensures { λ _. ⌜ now (out .exit) ≡ written (joined (length (now (connections .entry)) / 7)
+        (turnedConnection (now (text .entry)) (now (roads .entry)) (now (marks .entry)) (now (connections .entry))))
+        (now (out .entry)) ⌝ }
 {
     let n = connections.len() / 7;
     let mut i = 0;
@@ -69,8 +79,10 @@ fn put_part(
     connecting: bool,
     out: &mut [u32],
 )
-    requires { ⌜ (first + count ≤ length (now pairs) / 2) × (length (now pairs) ≤ length (now out)) ⌝ }
-    ensures { λ _. ⌜ now (out .exit) ≡ spliced (first * 2) (pairsFrom incoming connecting (now (pairs .entry)) first count) (now (out .entry)) ⌝ }
+    requires { ⌜ first + count ≤ length (now pairs) / 2 ⌝ }
+    requires { ⌜ length (now pairs) ≤ length (now out) ⌝ }
+    ensures { λ _. ⌜ now (out .exit)
+        ≡ spliced (first * 2) (pairsFrom incoming connecting (now (pairs .entry)) first count) (now (out .entry)) ⌝ }
 {
     let mut k = 0;
     while k < count {
@@ -94,8 +106,10 @@ pub fn put_pairs(
     out: &mut [u32],
 )
     requires { ⌜ Ready (now text) (now roads) (now marks) (now heads) (now next) ⌝ }
-    requires { ⌜ (length (now pairs) ≤ length (now out)) × (partsFit 5 6 0 (length (now pairs) / 2) (table 7 (now connections)) ≡ true) × (length (now connections) / 7 ≤ 16384) ⌝ }
-    ensures { λ _. ⌜ now (out .exit) ≡ written (joined (length (now (connections .entry)) / 7) (turnedPairs (now (text .entry)) (now (roads .entry)) (now (marks .entry)) (now (connections .entry)) (now (pairs .entry)))) (now (out .entry)) ⌝ }
+    requires { ⌜ ReadyPairs (now connections) (now pairs) (now out) ⌝ }
+    ensures { λ _. ⌜ now (out .exit) ≡ written (joined (length (now (connections .entry)) / 7)
+        (turnedPairs (now (text .entry)) (now (roads .entry)) (now (marks .entry)) (now (connections .entry))
+        (now (pairs .entry)))) (now (out .entry)) ⌝ }
 {
     let n = connections.len() / 7;
     let mut i = 0;

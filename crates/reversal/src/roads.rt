@@ -1,18 +1,18 @@
 // Roads and their sections.
 use crate::marks;
 use rules::parts;
+use tables::lookup::RoadId;
 use words::rows;
 use words::tests::is;
 ghost use mathlib.Core.Path.{_≡_};
 ghost use mathlib.Core.Bool.{true};
-ghost use Prim.Native.Nat.{ℕ, _+_, _*_, _/_, _≤_, _<_};
+ghost use Prim.Native.Nat.{_+_, _*_, _/_, _≤_, _<_};
 ghost use lib.ListN.{length, getD};
 ghost use Rattle.model.specs.Lists.{ascends, headOr, lastOr};
 ghost use Rattle.model.specs.Reversal.{mirror, mirrored};
-ghost use Rattle.model.specs.Rows.{table, partsFit, written};
-ghost use Rattle.words.specs.Rows.{all, joined, spliced};
-ghost use Rattle.rules.specs.ByRow.{numbersAt};
-ghost use Rattle.reversal.specs.Turned.{Ready, roadWith, turnedRoad, turnedSections};
+ghost use Rattle.model.specs.Rows.{written};
+ghost use Rattle.words.specs.Rows.{joined, spliced};
+ghost use Rattle.reversal.specs.Turned.{Ready, ReadySections, Within, roadWith, turnedRoad, turnedSections};
 
 // A road's row, from word `at` on, with the targets from words `a` and `b` on, which have the contacts `p` and `q`.
 fn road_with(roads: &[u32], at: usize, a: usize, b: usize, p: u32, q: u32) -> [u32; 20]
@@ -43,19 +43,20 @@ fn road_with(roads: &[u32], at: usize, a: usize, b: usize, p: u32, q: u32) -> [u
     ]
 }
 
-// Road i, reversed.
+// A road, reversed.
 fn turned_road(
     text: &[u8],
     roads: &[u32],
     heads: &[u32],
     next: &[u32],
     marks: &[u32],
-    i: usize,
+    road: RoadId,
 ) -> [u32; 20]
     requires { ⌜ Ready (now text) (now roads) (now marks) (now heads) (now next) ⌝ }
-    requires { ⌜ i < length (now roads) / 20 ⌝ }
-    ensures { λ r. ⌜ r ≡ turnedRoad (now (text .entry)) (now (roads .entry)) (now (marks .entry)) i ⌝ }
+    requires { ⌜ road .0 < length (now roads) / 20 ⌝ }
+    ensures { λ q. ⌜ q ≡ turnedRoad (now (text .entry)) (now (roads .entry)) (now (marks .entry)) (road .0) ⌝ }
 {
+    let i = road.0 as usize;
     let at = i * 20;
     let a = at + 4;
     let b = at + 11;
@@ -84,12 +85,14 @@ pub fn put_roads(
 )
     requires { ⌜ Ready (now text) (now roads) (now marks) (now heads) (now next) ⌝ }
     requires { ⌜ length (now roads) ≤ length (now out) ⌝ }
-    ensures { λ _. ⌜ now (out .exit) ≡ written (joined (length (now (roads .entry)) / 20) (turnedRoad (now (text .entry)) (now (roads .entry)) (now (marks .entry)))) (now (out .entry)) ⌝ }
+    ensures { λ _. ⌜ now (out .exit) ≡ written (joined (length (now (roads .entry)) / 20)
+        (turnedRoad (now (text .entry)) (now (roads .entry)) (now (marks .entry)))) (now (out .entry)) ⌝ }
 {
     let n = roads.len() / 20;
     let mut i = 0;
     while i < n {
-        let row = turned_road(text, roads, heads, next, marks, i);
+        let r = i as u32;
+        let row = turned_road(text, roads, heads, next, marks, RoadId(r));
         rows::put(out, i * 20, &row);
         i += 1;
     }
@@ -117,7 +120,7 @@ pub fn last_of(part: &[u32]) -> usize
 
 // A section number of a road whose sections are these, counted from the other end.
 pub fn mirror_of(part: &[u32], s: u32) -> u32
-    requires { ⌜ (headOr 0 (now part) ≤ s) × (s ≤ lastOr 0 (now part)) ⌝ }
+    requires { ⌜ Within (now part) s ⌝ }
     ensures { λ q. ⌜ q ≡ mirror (now (part .entry)) s ⌝ }
 {
     (first_of(part) + last_of(part) - s as usize) as u32
@@ -137,23 +140,27 @@ fn put_mirrored(part: &[u32], out: &mut [u32], at: usize)
 
 // Writes the sections of the roads, reversed.
 pub fn put_sections(roads: &[u32], sections: &[u32], marks: &[u32], out: &mut [u32])
-    requires { ⌜ (length (now roads) / 20 ≤ 16384) × (length (now marks) ≡ length (now roads) / 20) × (length (now sections) ≤ length (now out)) × (partsFit 18 19 0 (length (now sections)) (table 20 (now roads)) ≡ true) ⌝ }
-    requires { ⌜ all (length (now roads) / 20) (λ i. ascends (numbersAt (now roads) (now sections) i)) ≡ true ⌝ }
-    ensures { λ _. ⌜ now (out .exit) ≡ written (joined (length (now (roads .entry)) / 20) (turnedSections (now (roads .entry)) (now (sections .entry)) (now (marks .entry)))) (now (out .entry)) ⌝ }
+    requires { ⌜ ReadySections (now roads) (now sections) (now marks) (now out) ⌝ }
+    ensures { λ _. ⌜ now (out .exit) ≡ written (joined (length (now (roads .entry)) / 20)
+        (turnedSections (now (roads .entry)) (now (sections .entry)) (now (marks .entry)))) (now (out .entry)) ⌝ }
 {
     let n = roads.len() / 20;
     let mut i = 0;
     while i < n {
-        put_numbers(roads, sections, marks, i, out);
+        let r = i as u32;
+        put_numbers(roads, sections, marks, RoadId(r), out);
         i += 1;
     }
 }
 
-// Writes the sections of road i, reversed, in their place.
-fn put_numbers(roads: &[u32], sections: &[u32], marks: &[u32], i: usize, out: &mut [u32])
-    requires { ⌜ (i < length (now roads) / 20) × (length (now marks) ≡ length (now roads) / 20) × (length (now sections) ≤ length (now out)) × (partsFit 18 19 0 (length (now sections)) (table 20 (now roads)) ≡ true) × (ascends (numbersAt (now roads) (now sections) i) ≡ true) ⌝ }
-    ensures { λ _. ⌜ now (out .exit) ≡ spliced (getD (now (roads .entry)) (i * 20 + 18) 0) (turnedSections (now (roads .entry)) (now (sections .entry)) (now (marks .entry)) i) (now (out .entry)) ⌝ }
+// Writes the sections of a road, reversed, in their place.
+fn put_numbers(roads: &[u32], sections: &[u32], marks: &[u32], road: RoadId, out: &mut [u32])
+    requires { ⌜ ReadySections (now roads) (now sections) (now marks) (now out) ⌝ }
+    requires { ⌜ road .0 < length (now roads) / 20 ⌝ }
+    ensures { λ _. ⌜ now (out .exit) ≡ spliced (getD (now (roads .entry)) (road .0 * 20 + 18) 0)
+        (turnedSections (now (roads .entry)) (now (sections .entry)) (now (marks .entry)) (road .0)) (now (out .entry)) ⌝ }
 {
+    let i = road.0 as usize;
     let part = parts::numbers(roads, sections, i);
     let at = rows::word(roads, i * 20 + 18);
     if is(marks[i], 1) {

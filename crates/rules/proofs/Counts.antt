@@ -9,7 +9,7 @@ use lib.ListN.{length}
 use lib.Ieee.{Float}
 use lib.Dec.{eqb, leb}
 use borrow.Author.Tests.{leb-true}
-use Rattle.model.specs.Rules.{lanesSized, mapSized, rule, sized}
+use Rattle.model.specs.Rules.{lanesSized, mapSized, sized}
 use Rattle.model.specs.Tables.{Tables}
 use Rattle.words.proofs.Scans.{left-on, right-on}
 use Rattle.rules.specs.ByRow.{Few}
@@ -42,15 +42,15 @@ few most t m e =
     let j = sized 5 16384 (length (t .junctions)) in
     let c = sized 7 most (length (t .connections)) in
     let p = sized 2 most (length (t .pairs)) in
-    let e5 = left-on (a && r && s && j && c) p e in
-    let e4 = left-on (a && r && s && j) c e5 in
-    let e3 = left-on (a && r && s) j e4 in
-    let e2 = left-on (a && r) s e3 in
-    let low = sized-low 1 16384 (length (t .sections)) (right-on (a && r) s e3) in
-    let conns = sized-few 7 most (length (t .connections)) (right-on (a && r && s && j) c e5) in
-    let prs = sized-few 2 most (length (t .pairs)) (right-on (a && r && s && j && c) p e) in
+    let to-connections = left-on (a && r && s && j && c) p e in
+    let to-junctions = left-on (a && r && s && j) c to-connections in
+    let to-sections = left-on (a && r && s) j to-junctions in
+    let to-roads = left-on (a && r) s to-sections in
+    let sections-low = sized-low 1 16384 (length (t .sections)) (right-on (a && r) s to-sections) in
+    let connections-few = sized-few 7 most (length (t .connections)) (right-on (a && r && s && j) c to-connections) in
+    let pairs-few = sized-few 2 most (length (t .pairs)) (right-on (a && r && s && j && c) p e) in
     record {
-      few-roads = sized-few 20 16384 (length (t .roads)) (right-on a r e2);
+      few-roads = sized-few 20 16384 (length (t .roads)) (right-on a r to-roads);
       few-sections = omega arith;
       few-connections = omega arith;
       few-pairs = omega arith;

@@ -1,5 +1,5 @@
 -- Parts and the numbers in them.
-use Prim.Native.Nat.{ℕ, zero, suc, _+_, _*_, _/_, _<_, _≤_}
+use Prim.Native.Nat.{ℕ, zero, suc, _+_, _-_, _*_, _/_, _<_, _≤_}
 use mathlib.Core.Path.{_≡_, refl, sym, ap, ap₂, _∙_, subst}
 use mathlib.Core.List.{List, [], _∷_}
 use mathlib.Core.Bool.{Bool, true, false, _&&_, _||_}
@@ -9,14 +9,14 @@ use native.Mathlib.Omega.{arith}
 use lib.ListN.{length, getD, drop, drop-of-length-le}
 use lib.Seq.{drop-cons}
 use lib.Dec.{eqb, ltb}
-use borrow.Author.Tests.{eqb-true, lt-ltb, le-ltb, ltb-true}
+use borrow.Author.Tests.{eq-eqb, ne-eqb, eqb-true, lt-ltb, le-ltb, ltb-true}
 use Rattle.model.specs.Lists.{ascends, every, member}
 use Rattle.model.specs.Rows.{partsFit, table}
 use Rattle.laws.proofs.Lay.{fit-le, length-table}
 use Rattle.laws.proofs.RowTests.{word-at}
 use Rattle.words.specs.Rows.{total}
 use Rattle.words.proofs.Laws.{total-le, total-more, total-none}
-use Rattle.words.proofs.Scans.{and-off, and-step, left-on, right-on, row-fits}
+use Rattle.words.proofs.Scans.{and-off, and-off-left, and-on, and-step, left-on, right-on, row-fits}
 use Rattle.rules.specs.Parts.{Fit, counts}
 
 pub in-row : (n w i k : ℕ) → i < n / w → k < w → i * w + k < n
@@ -48,19 +48,51 @@ module _ (w kf kc n : ℕ) (ws : List ℕ) (lf : kf < w) (lc : kc < w) where
       ap (partsFit kf kc at n)
       (drop-of-length-le (table w ws) (subst (λ (m : ℕ). m ≤ i) (sym (length-table w ws)) h))
 
+-- what a loop over the rows keeps before row i: the parts so far follow one another and end at `at`
+pub record Reached (w kf kc n : ℕ) (ws : List ℕ) (at i : ℕ) : Type 0 where
+  pub below : i ≤ length ws / w
+  pub inside : at ≤ n
+  pub rest : partsFit kf kc 0 n (table w ws) ≡ partsFit kf kc at n (drop i (table w ws))
+
+module _ {w kf kc n : ℕ} {ws : List ℕ} {at i : ℕ} (reached : Reached w kf kc n ws at i) (lf : kf < w)
+    (lc : kc < w) where
+  -- all rows are read
+  pub reached-end : length ws / w ≤ i → eqb at n ≡ partsFit kf kc 0 n (table w ws)
+  reached-end past = sym (reached .rest ∙ fit-end w kf kc n ws lf lc at i past)
+
+  -- row i's part
+  module _ (less : i < length ws / w) {first count : ℕ} (first-is : first ≡ getD ws (i * w + kf) 0)
+      (count-is : count ≡ getD ws (i * w + kc) 0) where
+    next : partsFit kf kc 0 n (table w ws) ≡ eqb first at && partsFit kf kc (at + count) n (drop (i + 1) (table w ws))
+    next = reached .rest ∙ fit-step w kf kc n ws lf lc at i less ∙ rw (first-is, count-is)
+
+    pub begins-elsewhere : (first ≡ at → ⊥) → false ≡ partsFit kf kc 0 n (table w ws)
+    begins-elsewhere other = sym (next ∙ and-off-left _ _ (ne-eqb first at other))
+
+    pub ends-past : n - at < count → false ≡ partsFit kf kc 0 n (table w ws)
+    ends-past over =
+        let past : n < at + count = omega (arith, reached .inside) in
+        sym (next ∙ and-off (eqb first at) _ (fit-over kf kc (at + count) n (drop (i + 1) (table w ws)) past))
+
+    pub reached-more : first ≡ at → count ≤ n - at → Reached w kf kc n ws (at + count) (i + 1)
+    reached-more same room = record {
+      below = omega arith;
+      inside = omega (arith, reached .inside);
+      rest = next ∙ and-on (eqb first at) _ (eq-eqb first at same);
+    }
+
 -- ---- parts that follow one another, by their rows
 module _ (w kf kc n : ℕ) (ws : List ℕ) (lf : kf < w) (lc : kc < w) (e : partsFit kf kc 0 n (table w ws) ≡ true) where
   left : (r : ℕ) → r ≤ length ws / w → partsFit kf kc (total r (counts w kc ws)) n (drop r (table w ws)) ≡ true
   left zero h = ap (λ (k : ℕ). partsFit kf kc k n (table w ws)) (sym (total-none (counts w kc ws))) ∙ e
   left (suc r) h =
-      let a : partsFit kf kc (total r (counts w kc ws) + counts w kc ws r) n (drop (r + 1) (table w ws)) ≡ true =
-      right-on (eqb (getD ws (r * w + kf) 0) (total r (counts w kc ws)))
-      (partsFit kf kc (total r (counts w kc ws) + counts w kc ws r) n (drop (r + 1) (table w ws)))
-      (sym (fit-step w kf kc n ws lf lc (total r (counts w kc ws)) r h) ∙ left r (omega arith)) in
+      let so-far = total r (counts w kc ws) in
+      let rest = partsFit kf kc (so-far + counts w kc ws r) n (drop (r + 1) (table w ws)) in
+      let fits : rest ≡ true = right-on (eqb (getD ws (r * w + kf) 0) so-far) rest
+      (sym (fit-step w kf kc n ws lf lc so-far r h) ∙ left r (omega arith)) in
       ap₂ (λ (i k : ℕ). partsFit kf kc i n (drop k (table w ws)))
-      (ap (λ (k : ℕ). total k (counts w kc ws)) (sym (add-one r)) ∙ total-more r (counts w kc ws))
-      (sym (add-one r))
-      ∙ a
+      (ap (λ (k : ℕ). total k (counts w kc ws)) (sym (add-one r)) ∙ total-more r (counts w kc ws)) (sym (add-one r))
+      ∙ fits
 
   pub fit-of : Fit w kf kc ws n
   fit-of = record {

@@ -1,18 +1,19 @@
 -- Each rule of the model's specs/Rules by row numbers.
 use native.Mathlib.Numerals.{add-one}
 use mathlib.Core.Logic.{⊎-elim}
-use Prim.Native.Nat.{ℕ, zero, suc, _+_, _*_, _/_, _<_, _-_}
+use Prim.Native.Nat.{ℕ, zero, suc, _+_, _*_, _/_, _<_, _≤_, _-_}
 use mathlib.Core.Path.{_≡_, refl, sym, ap, ap₂, _∙_, subst}
 use mathlib.Core.List.{List, [], _∷_, _++_, map}
 use mathlib.Core.Option.{Option, none, some}
-use mathlib.Core.Bool.{Bool, true, false, not, cond, true≢false}
+use mathlib.Core.Bool.{Bool, true, false, not, _&&_, cond, true≢false}
 use native.Mathlib.Nat.{add-zero, add-assoc, le-refl, le-step, eq-or-lt-of-le, le-of-suc-le-suc}
+use native.Mathlib.Nat.{not-suc-le-zero}
 use native.Mathlib.Omega.{arith}
-use lib.ListN.{length, getD, set}
+use lib.ListN.{length, getD, set, length-set}
 use lib.Seq.{getD-drop, getD-set-same, getD-set-other}
 use lib.Dec.{eqb}
 use Rattle.model.specs.Lists.{ascends, distinct, every, first, member, orElse}
-use Rattle.model.specs.Records.{Span}
+use Rattle.model.specs.Records.{Road, Span}
 use Rattle.model.specs.Repair.{roadOf}
 use Rattle.model.specs.Rows.{part, table}
 use Rattle.model.specs.Rules.{idsOnce, listedIn, namesOnce, sectionsAscend}
@@ -24,7 +25,7 @@ use Rattle.words.specs.Rows.{all, any, from, lastOf, nameAt, span, tab}
 use Rattle.words.proofs.Chains.{last-any, last-hit, last-miss, last-none}
 use Rattle.words.proofs.KeyLaws.{equal-refl, equal-sound}
 use Rattle.words.proofs.Laws.{any-at, any-same}
-use Rattle.words.proofs.Scans.{Local, all-same, distinct-tab, every-tab, map-rows}
+use Rattle.words.proofs.Scans.{Local, all-more, all-none, all-same, distinct-tab, every-tab, map-rows}
 use Rattle.rules.specs.ByRow.{Owned, knownIn, listedAt, listedBy, numbersAt, roadRowOf}
 use Rattle.rules.proofs.Locals.{short}
 
@@ -187,71 +188,70 @@ recordAt f zero = none
 recordAt f (suc r) = some (f r)
 
 module _ (text roads sections : List ℕ) (m : Span) where
-  road-test : (i : ℕ) → sameIn text (roadIn sections (from 20 roads i) .name) m ≡ bears text 20 0 roads m i
+  abbrev rows : ℕ
+  rows = length roads / 20
+
+  abbrev roadAt : ℕ → Road
+  roadAt i = roadIn sections (from 20 roads i)
+
+  -- the row plus 1 of the last road that bears the name
+  abbrev found : ℕ
+  found = lastOf rows (bears text 20 0 roads m)
+
+  -- the model's road of the name
+  abbrev meant : Option Road
+  meant = roadOf (sameIn text) (roadsIn sections roads) m
+
+  road-test : (i : ℕ) → sameIn text (roadAt i .name) m ≡ bears text 20 0 roads m i
   unfolding roadIn bears
   road-test i = ap (λ (n : Span). sameIn text n m) (name-at 20 0 roads i)
 
-  roads-first : roadOf (sameIn text) (roadsIn sections roads) m
-      ≡ first (λ r. sameIn text (r .name) m) (tab (length roads / 20) (λ i. roadIn sections (from 20 roads i)))
+  roads-first : meant ≡ first (λ r. sameIn text (r .name) m) (tab rows roadAt)
   unfolding roadOf
   roads-first = ap (first (λ r. sameIn text (r .name) m)) (roads-tab roads sections)
 
-  road-none : lastOf (length roads / 20) (bears text 20 0 roads m) ≡ 0
-      → roadOf (sameIn text) (roadsIn sections roads) m ≡ none
+  road-none : found ≡ 0 → meant ≡ none
   road-none e =
+      let no-bearer = last-any rows (bears text 20 0 roads m) e in
       roads-first
-      ∙ first-none (λ r. sameIn text (r .name) m) (length roads / 20) (λ i. roadIn sections (from 20 roads i))
-      (λ i lt.
-      road-test i
-      ∙ any-at (length roads / 20) i (bears text 20 0 roads m)
-      (last-any (length roads / 20) (bears text 20 0 roads m) e) lt)
+      ∙ first-none (λ r. sameIn text (r .name) m) rows roadAt
+      (λ i lt. road-test i ∙ any-at rows i (bears text 20 0 roads m) no-bearer lt)
 
   -- where no road name is borne twice, the road of a name is that of the row found
-  pub road-row : any (length roads / 20) (nameBefore text 20 0 roads) ≡ false
-      → roadOf (sameIn text) (roadsIn sections roads) m
-      ≡ recordAt (λ i. roadIn sections (from 20 roads i)) (lastOf (length roads / 20) (bears text 20 0 roads m))
+  pub road-row : any rows (nameBefore text 20 0 roads) ≡ false → meant ≡ recordAt roadAt found
   unfolding nameBefore
-  road-row once = go (lastOf (length roads / 20) (bears text 20 0 roads m)) refl
+  road-row once = go found refl
     where
-      one : (i j : ℕ) → i < length roads / 20 → j < i
-          → sameIn text (roadIn sections (from 20 roads i) .name) m ≡ true
-          → sameIn text (roadIn sections (from 20 roads j) .name) m ≡ false
-      one i j li lj q = away (sameIn text (roadIn sections (from 20 roads j) .name) m) refl
+      -- a road before one that bears the name does not
+      one : (i j : ℕ) → i < rows → j < i → sameIn text (roadAt i .name) m ≡ true
+          → sameIn text (roadAt j .name) m ≡ false
+      one i j li lj bears-i = away (sameIn text (roadAt j .name) m) refl
         where
-          away : (b : Bool) → sameIn text (roadIn sections (from 20 roads j) .name) m ≡ b
-              → sameIn text (roadIn sections (from 20 roads j) .name) m ≡ false
-          away false z = z
-          away true z =
-              absurd (true≢false (sym
-              (two-alike text roads m i j (sym (road-test i) ∙ q) (sym (road-test j) ∙ z))
-              ∙ any-at i j (bears text 20 0 roads (nameAt 20 0 roads i))
-              (any-at (length roads / 20) i (λ r. any r (bears text 20 0 roads (nameAt 20 0 roads r))) once
-              li) lj))
+          away : (b : Bool) → sameIn text (roadAt j .name) m ≡ b → sameIn text (roadAt j .name) m ≡ false
+          away false e = e
+          away true e =
+              let i-has = sym (road-test i) ∙ bears-i in
+              let j-has = sym (road-test j) ∙ e in
+              let none-before = any-at rows i (λ r. any r (bears text 20 0 roads (nameAt 20 0 roads r))) once li in
+              absurd (true≢false (sym (two-alike text roads m i j i-has j-has)
+              ∙ any-at i j (bears text 20 0 roads (nameAt 20 0 roads i)) none-before lj))
 
-      go : (k : ℕ) → lastOf (length roads / 20) (bears text 20 0 roads m) ≡ k
-          → roadOf (sameIn text) (roadsIn sections roads) m
-          ≡ recordAt (λ i. roadIn sections (from 20 roads i)) k
+      go : (k : ℕ) → found ≡ k → meant ≡ recordAt roadAt k
       go zero e = road-none e
       go (suc r) e =
           roads-first
-          ∙ first-last (λ r. sameIn text (r .name) m) (length roads / 20)
-          (λ i. roadIn sections (from 20 roads i)) one r
-          (last-same (length roads / 20) (λ i. sameIn text (roadIn sections (from 20 roads i) .name) m)
-          (bears text 20 0 roads m) road-test
-          ∙ e)
+          ∙ first-last (λ r. sameIn text (r .name) m) rows roadAt one r
+          (last-same rows (λ i. sameIn text (roadAt i .name) m) (bears text 20 0 roads m) road-test ∙ e)
 
-  pub known-none : (s : ℕ) → lastOf (length roads / 20) (bears text 20 0 roads m) ≡ 0
-      → knownIn text roads sections m s ≡ false
+  pub known-none : (s : ℕ) → found ≡ 0 → knownIn text roads sections m s ≡ false
   unfolding knownIn sectionsOf
   known-none s e = ap (λ o. member s (sectionsFrom o)) (road-none e)
 
-  pub known-some : (s r : ℕ) → any (length roads / 20) (nameBefore text 20 0 roads) ≡ false
-      → lastOf (length roads / 20) (bears text 20 0 roads m) ≡ suc r
+  pub known-some : (s r : ℕ) → any rows (nameBefore text 20 0 roads) ≡ false → found ≡ suc r
       → knownIn text roads sections m s ≡ member s (numbersAt roads sections r)
   unfolding knownIn sectionsOf
   known-some s r once e =
-      ap (λ o. member s (sectionsFrom o))
-      (road-row once ∙ ap (recordAt (λ i. roadIn sections (from 20 roads i))) e)
+      ap (λ o. member s (sectionsFrom o)) (road-row once ∙ ap (recordAt roadAt) e)
       ∙ ap (member s) (numbers-at roads sections r)
 
 -- ---- 7: the road found by its row
@@ -266,27 +266,63 @@ listed-some roads sections (suc r) s n =
 
 pub listed-row : (text roads sections : List ℕ) (m : Span) (s road : ℕ)
     → any (length roads / 20) (nameBefore text 20 0 roads) ≡ false
-    → road ≡ lastOf (length roads / 20) (bears text 20 0 roads m) →
-    listedBy roads sections road s ≡ knownIn text roads sections m s
+    → road ≡ lastOf (length roads / 20) (bears text 20 0 roads m)
+    → listedBy roads sections road s ≡ knownIn text roads sections m s
 listed-row text roads sections m s zero once e = sym (known-none text roads sections m s (sym e))
 listed-row text roads sections m s (suc r) once e = sym (known-some text roads sections m s r once (sym e))
 
 -- an owner more
-pub owned-more : (text roads lanes owner : List ℕ) (i : ℕ) {owner′ : List ℕ} {f : ℕ}
+pub owned-more : (text roads lanes owner : List ℕ) (i : ℕ) {newOwner : List ℕ} {f : ℕ}
     → Owned text roads lanes i owner → i < length owner
-    → f ≡ lastOf (length roads / 20) (bears text 20 0 roads (nameAt 10 1 lanes i)) → owner′ ≡ set owner i f →
-    Owned text roads lanes (i + 1) owner′
+    → f ≡ lastOf (length roads / 20) (bears text 20 0 roads (nameAt 10 1 lanes i)) → newOwner ≡ set owner i f
+    → Owned text roads lanes (i + 1) newOwner
 unfolding roadRowOf
-owned-more text roads lanes owner i {owner′} {f} h l e q =
-    record { at = λ k lt. ap (λ (o : List ℕ). getD o k 0) q ∙ go k lt }
+owned-more text roads lanes owner i {newOwner} {f} owned room found is =
+    record { at = λ k lt. ap (λ (o : List ℕ). getD o k 0) is ∙ go k lt }
   where
     go : (k : ℕ) → k < i + 1
         → getD (set owner i f) k 0 ≡ lastOf (length roads / 20) (bears text 20 0 roads (nameAt 10 1 lanes k))
     go k lt = ⊎-elim
-        (λ z.
-        ap (λ (j : ℕ). getD (set owner i f) j 0) z
-        ∙ getD-set-same owner i f 0 l
-        ∙ e
-        ∙ ap (λ (j : ℕ). lastOf (length roads / 20) (bears text 20 0 roads (nameAt 10 1 lanes j))) (sym z))
-        (λ less. getD-set-other owner i k f 0 (λ z. omega arith) ∙ h .at k less)
+        (λ same. rw same (getD-set-same owner i f 0 room ∙ found))
+        (λ less. getD-set-other owner i k f 0 (λ same. omega arith) ∙ owned .at k less)
         (eq-or-lt-of-le (le-of-suc-le-suc (rw add-one at lt)))
+
+-- what 7 keeps before lane i: whether the sections of the lanes below i are listed, and these lanes' roads
+pub record Listing (text roads sections lanes owner : List ℕ) (every : Bool) (i : ℕ) : Type 0 where
+  pub below : i ≤ length lanes / 10
+  pub listed : every ≡ all i (listedAt text roads sections lanes)
+  pub room : length owner ≡ 16384
+  pub owned : Owned text roads lanes i owner
+
+module _ {text roads sections lanes : List ℕ} where
+  pub listing-none : {owner : List ℕ} → length owner ≡ 16384 → Listing text roads sections lanes owner true 0
+  listing-none room = record {
+    below = omega arith;
+    listed = sym (all-none _);
+    room = room;
+    owned = record { at = λ k lt. absurd (not-suc-le-zero lt) };
+  }
+
+  module _ {owner : List ℕ} {every : Bool} {i : ℕ} (listing : Listing text roads sections lanes owner every i) where
+    -- lane i's road was looked for by its name, and its section in that road
+    pub listing-more : {road : ℕ} {known newEvery : Bool} {newOwner : List ℕ} → i < length lanes / 10
+        → length lanes / 10 ≤ 16384 → any (length roads / 20) (nameBefore text 20 0 roads) ≡ false
+        → road ≡ lastOf (length roads / 20) (bears text 20 0 roads (nameAt 10 1 lanes i))
+        → known ≡ listedBy roads sections road (getD lanes (i * 10 + 3) 0) → newEvery ≡ (every && known)
+        → newOwner ≡ set owner i road → Listing text roads sections lanes newOwner newEvery (i + 1)
+    listing-more {road} less few once found known-is every-is owner-is =
+        let room : i < length owner = omega (arith, listing .room) in
+        let section-is = known-is ∙ listed-row text roads sections (nameAt 10 1 lanes i) _ road once found in
+        record {
+          below = omega arith;
+          listed = every-is ∙ ap₂ _&&_ (listing .listed) section-is ∙ sym (all-more i _);
+          room = ap length owner-is ∙ simp length-set (listing .room);
+          owned = owned-more text roads lanes owner i (listing .owned) room found owner-is;
+        }
+
+    -- the end
+    pub all-listed : length lanes / 10 ≤ i
+        → (every ≡ all (length lanes / 10) (listedAt text roads sections lanes))
+        × Owned text roads lanes (length lanes / 10) owner
+    all-listed past = let end : i ≡ length lanes / 10 = omega (arith, listing .below) in
+        (rw end at (listing .listed), rw end at (listing .owned))

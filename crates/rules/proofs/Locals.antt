@@ -8,7 +8,6 @@ use lib.ListN.{getD, take, drop}
 use lib.Seq.{getD-take, getD-drop}
 use lib.Dec.{leb, ltb}
 use borrow.Author.Tests.{ltb-true}
-use Rattle.model.specs.Rows.{word}
 use Rattle.model.specs.Rules.{connectionWorded, junctionWorded, laneWorded, roadWorded}
 use Rattle.model.specs.Tables.{isAbsent}
 use Rattle.words.proofs.Scans.{Local}

@@ -88,10 +88,10 @@ pairwise text P S N D a b = go (equalBytes (bytesOf text P) (bytesOf text N)) re
     none-of false false b y e = refl
 
     go : (x : Bool) → equalBytes (bytesOf text P) (bytesOf text N) ≡ x
-        → (D && ((a && equalBytes (bytesOf text P) (bytesOf text N)) &&
-        (b && equalBytes (bytesOf text S) (bytesOf text N))))
-        ≡ (((a && b) && equalBytes (bytesOf text S) (bytesOf text P)) &&
-        (D && equalBytes (bytesOf text N) (bytesOf text P)))
+        → (D && ((a && equalBytes (bytesOf text P) (bytesOf text N))
+        && (b && equalBytes (bytesOf text S) (bytesOf text N))))
+        ≡ (((a && b) && equalBytes (bytesOf text S) (bytesOf text P))
+        && (D && equalBytes (bytesOf text N) (bytesOf text P)))
     go true e =
         ap₂ (λ u v. D && ((a && u) && (b && v))) e
         (ap (equalBytes (bytesOf text S)) (sym (equal-sound (bytesOf text P) (bytesOf text N) e)))
@@ -116,8 +116,7 @@ marked-at same own (r ∷ rs) (k ∷ ks) zero d len h e =
 marked-at same own (r ∷ rs) (k ∷ ks) (suc i) d len h e =
     ap (λ b. cond b (eqb k 1) (marked same rs ks (getD rs i d .name))) off
     ∙ marked-at same own rs ks i d (omega arith) (le-of-suc-le-suc h)
-    (right-on (not (some? (λ b. same (r .name) (b .name)) rs)) (distinct (λ a b. same (a .name) (b .name)) rs)
-    e)
+    (right-on (not (some? (λ b. same (r .name) (b .name)) rs)) (distinct (λ a b. same (a .name) (b .name)) rs) e)
   where
     none-like : some? (λ b. same (r .name) (b .name)) rs ≡ false
     none-like =
@@ -166,19 +165,22 @@ module _ (text roads junctions : List ℕ) (C : List Connection) (sections : Lis
   unfolding junctionIn
   called q = name-at 5 0 junctions q
 
+  -- both ends of the road whose row begins at word `at` name one junction
+  abbrev bothEnds : ℕ → Bool
+  bothEnds at = (toJunction roads (at + 4) && toJunction roads (at + 11))
+      && sameIn text (nameFrom roads (at + 13)) (nameFrom roads (at + 6))
+
   one-junction : (at q : ℕ)
-      → (isDirect (junctionIn C (from 5 junctions q) .kind) && namesTwice (sameIn text)
-      (junctionIn C (from 5 junctions q) .name) (roadIn sections (drop at roads)))
-      ≡ (((toJunction roads (at + 4) && toJunction roads (at + 11)) && sameIn text (nameFrom roads (at + 13))
-      (nameFrom roads (at + 6))) && isDirectOf text junctions (nameFrom roads (at + 6)) q)
+      → (isDirect (junctionIn C (from 5 junctions q) .kind)
+      && namesTwice (sameIn text) (junctionIn C (from 5 junctions q) .name) (roadIn sections (drop at roads)))
+      ≡ (bothEnds at && isDirectOf text junctions (nameFrom roads (at + 6)) q)
   unfolding namesTwice isDirectOf
   one-junction at q =
       ap₂ _&&_ (direct-is q) (ap₂ _&&_ (first-names at (junctionIn C (from 5 junctions q) .name))
       (last-names at (junctionIn C (from 5 junctions q) .name)))
-      ∙ ap (λ (n : Span).
-      eqb (getD junctions (q * 5 + 2) 0) 1 &&
-      ((toJunction roads (at + 4) && sameIn text (nameFrom roads (at + 6)) n) &&
-      (toJunction roads (at + 11) && sameIn text (nameFrom roads (at + 13)) n))) (called q)
+      ∙ ap (λ (n : Span). eqb (getD junctions (q * 5 + 2) 0) 1
+      && ((toJunction roads (at + 4) && sameIn text (nameFrom roads (at + 6)) n)
+      && (toJunction roads (at + 11) && sameIn text (nameFrom roads (at + 13)) n))) (called q)
       ∙ pairwise text (nameFrom roads (at + 6)) (nameFrom roads (at + 13)) (nameAt 5 0 junctions q)
       (eqb (getD junctions (q * 5 + 2) 0) 1) (toJunction roads (at + 4)) (toJunction roads (at + 11))
 
@@ -187,24 +189,23 @@ module _ (text roads junctions : List ℕ) (C : List Connection) (sections : Lis
       (map (junctionIn C) (table 5 junctions)) ≡ twiceFrom text roads junctions at
   unfolding twiceFrom
   some-direct at =
-      let F : Junction → Bool =
+      let test : Junction → Bool =
       λ j. isDirect (j .kind) && namesTwice (sameIn text) (j .name) (roadIn sections (drop at roads)) in
-      let c =
-      (toJunction roads (at + 4) && toJunction roads (at + 11)) && sameIn text (nameFrom roads (at + 13))
-      (nameFrom roads (at + 6)) in
-      ap (some? F) (map-rows 5 junctions (junctionIn C) (junction-in-local C))
-      ∙ some-tab F (length junctions / 5) (λ q. junctionIn C (from 5 junctions q))
-      ∙ any-same (length junctions / 5) (λ q. F (junctionIn C (from 5 junctions q)))
-      (λ q. c && isDirectOf text junctions (nameFrom roads (at + 6)) q) (λ q lt. one-junction at q)
-      ∙ any-factor c (length junctions / 5) (isDirectOf text junctions (nameFrom roads (at + 6)))
+      let n = length junctions / 5 in
+      let direct = isDirectOf text junctions (nameFrom roads (at + 6)) in
+      ap (some? test) (map-rows 5 junctions (junctionIn C) (junction-in-local C))
+      ∙ some-tab test n (λ q. junctionIn C (from 5 junctions q))
+      ∙ any-same n (λ q. test (junctionIn C (from 5 junctions q))) (λ q. bothEnds at && direct q)
+      (λ q lt. one-junction at q)
+      ∙ any-factor (bothEnds at) n direct
 
 own-name : (text : List ℕ) (a : Span) → sameIn text a a ≡ true
 unfolding sameIn
 own-name text a = equal-refl (bytesOf text a)
 
 pub one-ended : (text roads sections junctions connections pairs marks : List ℕ)
-    → namesOnce (sameIn text) (roadsIn sections roads) ≡ true → length roads / 20 ≡ length marks →
-    oneEndedIn (sameIn text) (marked (sameIn text) (roadsIn sections roads) marks)
+    → namesOnce (sameIn text) (roadsIn sections roads) ≡ true → length roads / 20 ≡ length marks
+    → oneEndedIn (sameIn text) (marked (sameIn text) (roadsIn sections roads) marks)
     (junctionsIn pairs connections junctions) (roadsIn sections roads)
     ≡ all (length roads / 20) (turnsTwice text roads junctions marks)
 unfolding oneEndedIn namesDirectTwice junctionsIn turnsTwice
@@ -214,16 +215,14 @@ one-ended text roads sections junctions connections pairs marks once len =
     let js = map (junctionIn (connectionsIn pairs connections)) (table 5 junctions) in
     let road : ℕ → Road = λ i. roadIn sections (from 20 roads i) in
     let n = length roads / 20 in
-    let G : Road → Bool =
-    λ r.
-    not
-    (marked same rs marks (r .name) && some? (λ j. isDirect (j .kind) && namesTwice same (j .name) r) js) in
-    ap (every G) (roads-tab roads sections)
-    ∙ every-tab G n road
-    ∙ all-same n (λ i. G (road i)) (λ i. not (eqb (getD marks i 0) 1 && twiceFrom text roads junctions (i * 20)))
-    (λ i lt.
-    ap₂ (λ a b. not (a && b)) (mark i lt)
-    (some-direct text roads junctions (connectionsIn pairs connections) sections (i * 20)))
+    let test : Road → Bool =
+    λ r. not (marked same rs marks (r .name)
+    && some? (λ j. isDirect (j .kind) && namesTwice same (j .name) r) js) in
+    let direct = some-direct text roads junctions (connectionsIn pairs connections) sections in
+    ap (every test) (roads-tab roads sections)
+    ∙ every-tab test n road
+    ∙ all-same n (λ i. test (road i)) (λ i. not (eqb (getD marks i 0) 1 && twiceFrom text roads junctions (i * 20)))
+    (λ i lt. ap₂ (λ a b. not (a && b)) (mark i lt) (direct (i * 20)))
   where
     mark : (i : ℕ) → i < length roads / 20
         → marked (sameIn text) (roadsIn sections roads) marks (roadIn sections (from 20 roads i) .name)

@@ -46,9 +46,9 @@ pair-in-local l = simp (short 2 l)
 
 pub lane-fine-words : (lanes : List ℕ) (at : ℕ)
     → laneFine (laneIn (drop at lanes))
-    ≡ (not (eqb (getD lanes (at + 4) 0) 2147483648) && linkFine
-    (linkOf (getD lanes (at + 8) 0) (getD lanes (at + 8 + 1) 0)) && linkFine
-    (linkOf (getD lanes (at + 6) 0) (getD lanes (at + 6 + 1) 0)))
+    ≡ (not (eqb (getD lanes (at + 4) 0) 2147483648)
+    && linkFine (linkOf (getD lanes (at + 8) 0) (getD lanes (at + 8 + 1) 0))
+    && linkFine (linkOf (getD lanes (at + 6) 0) (getD lanes (at + 6 + 1) 0)))
 unfolding laneFine laneIn
 lane-fine-words lanes at = simp (getD-drop at lanes, add-assoc)
 

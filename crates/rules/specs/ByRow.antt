@@ -2,8 +2,8 @@
 -- model. Definitions only.
 use Prim.Native.Nat.{ℕ, zero, suc, _+_, _*_, _/_, _<_, _≤_}
 use mathlib.Core.Path.{_≡_}
-use mathlib.Core.List.{List, [], _∷_, map}
-use mathlib.Core.Bool.{Bool, true, false, not, _&&_}
+use mathlib.Core.List.{List}
+use mathlib.Core.Bool.{Bool, false, not, _&&_}
 use lib.ListN.{length, getD}
 use lib.Dec.{eqb}
 use Rattle.model.specs.Lists.{member}
@@ -13,7 +13,7 @@ use Rattle.model.specs.Rows.{part}
 use Rattle.model.specs.Succession.{sectionsOf}
 use Rattle.model.specs.Tables.{roadsIn}
 use Rattle.model.specs.Rules.{targetWorded, linkWorded}
-use Rattle.words.specs.Rows.{any, lastOf, span, nameFrom, nameAt}
+use Rattle.words.specs.Rows.{any, lastOf, nameFrom, nameAt}
 use Rattle.words.specs.Chain.{Chained}
 use Rattle.words.specs.Keys.{bears, isDirectOf, laneHash, nameHash}
 
@@ -68,6 +68,13 @@ twiceFrom text roads junctions a =
 -- road i is not marked, or does not
 unfoldable pub turnsTwice : List ℕ → List ℕ → List ℕ → List ℕ → ℕ → Bool
 turnsTwice text roads junctions marks i = not (eqb (getD marks i 0) 1 && twiceFrom text roads junctions (i * 20))
+
+-- the junctions, not too many, linked by name
+pub record ByName (text junctions heads next : List ℕ) : Type 0 where
+  pub few : length junctions / 5 ≤ 16384
+  pub buckets : length heads ≡ 16384
+  pub rows : length next ≡ 16384
+  pub chains : Chained (nameHash text 5 0 junctions) (length junctions / 5) heads next
 
 -- what rule 1 says of the tables whose rows are counted
 pub record Few (roads sections connections pairs : List ℕ) : Type 0 where

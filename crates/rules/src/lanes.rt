@@ -35,7 +35,8 @@ fn section_known(roads: &[u32], sections: &[u32], road: usize, section: u32) -> 
     parts::listed(parts::numbers(roads, sections, road - 1), section)
 }
 
-// 7: fills `owner` with each lane's road, its row plus 1 (0 where it is unknown), and returns whether each lane's section is listed in its road.
+// 7: fills `owner` with each lane's road, its row plus 1 (0 where it is unknown), and returns whether each lane's section
+// is listed in its road.
 pub fn lanes_listed(
     text: &[u8],
     roads: &[u32],
@@ -45,11 +46,15 @@ pub fn lanes_listed(
     next: &[u32],
     owner: &mut [u32],
 ) -> bool
-    requires { ⌜ (length (now roads) / 20 ≤ 16384) × (length (now lanes) / 10 ≤ 16384) × (length (now heads) ≡ 16384) × (length (now next) ≡ 16384) × (length (now owner) ≡ 16384) ⌝ }
+    requires { ⌜ (length (now roads) / 20 ≤ 16384) × (length (now lanes) / 10 ≤ 16384)
+        × (length (now heads) ≡ 16384) × (length (now next) ≡ 16384) × (length (now owner) ≡ 16384) ⌝ }
     requires { ⌜ partsFit 18 19 0 (length (now sections)) (table 20 (now roads)) ≡ true ⌝ }
     requires { ⌜ any (length (now roads) / 20) (nameBefore (now text) 20 0 (now roads)) ≡ false ⌝ }
     requires { ⌜ Chained (nameHash (now text) 20 0 (now roads)) (length (now roads) / 20) (now heads) (now next) ⌝ }
-    ensures { λ r. ⌜ (r ≡ all (length (now (lanes .entry)) / 10) (listedAt (now (text .entry)) (now (roads .entry)) (now (sections .entry)) (now (lanes .entry)))) × Owned (now (text .entry)) (now (roads .entry)) (now (lanes .entry)) (length (now (lanes .entry)) / 10) (now (owner .exit)) ⌝ }
+    ensures { λ q. ⌜ q ≡ all (length (now (lanes .entry)) / 10)
+        (listedAt (now (text .entry)) (now (roads .entry)) (now (sections .entry)) (now (lanes .entry))) ⌝ }
+    ensures { λ _. ⌜ Owned (now (text .entry)) (now (roads .entry)) (now (lanes .entry))
+        (length (now (lanes .entry)) / 10) (now (owner .exit)) ⌝ }
 {
     let n = lanes.len() / 10;
     let mut every = true;

@@ -17,9 +17,7 @@ ghost use Rattle.model.specs.Rows.{table};
 ghost use Rattle.model.specs.Tables.{laneIn, pairIn, linkOf};
 ghost use Rattle.model.specs.Rules.{laneFine, pairFine, linkFine};
 ghost use Rattle.words.specs.Rows.{all};
-ghost use Rattle.words.specs.Chain.{Chained};
-ghost use Rattle.words.specs.Keys.{nameHash};
-ghost use Rattle.rules.specs.ByRow.{toJunction, twiceFrom, turnsTwice};
+ghost use Rattle.rules.specs.ByRow.{ByName, toJunction, twiceFrom, turnsTwice};
 
 // 12, for n roads
 pub fn marks_fit(n: usize, marks: &[u32]) -> bool
@@ -115,8 +113,8 @@ fn twice_named(
     heads: &[u32],
     next: &[u32],
 ) -> bool
-    requires { ⌜ (at + 20 ≤ length (now roads)) × (length (now junctions) / 5 ≤ 16384) × (length (now heads) ≡ 16384) × (length (now next) ≡ 16384) ⌝ }
-    requires { ⌜ Chained (nameHash (now text) 5 0 (now junctions)) (length (now junctions) / 5) (now heads) (now next) ⌝ }
+    requires { ⌜ at + 20 ≤ length (now roads) ⌝ }
+    requires { ⌜ ByName (now text) (now junctions) (now heads) (now next) ⌝ }
     ensures { λ r. ⌜ r ≡ twiceFrom (now (text .entry)) (now (roads .entry)) (now (junctions .entry)) at ⌝ }
 {
     let s = rows::word(roads, at + 6);
@@ -136,9 +134,10 @@ fn none_twice(
     heads: &[u32],
     next: &[u32],
 ) -> bool
-    requires { ⌜ (length (now roads) / 20 ≡ length (now marks)) × (length (now junctions) / 5 ≤ 16384) × (length (now heads) ≡ 16384) × (length (now next) ≡ 16384) ⌝ }
-    requires { ⌜ Chained (nameHash (now text) 5 0 (now junctions)) (length (now junctions) / 5) (now heads) (now next) ⌝ }
-    ensures { λ r. ⌜ r ≡ all (length (now (roads .entry)) / 20) (turnsTwice (now (text .entry)) (now (roads .entry)) (now (junctions .entry)) (now (marks .entry))) ⌝ }
+    requires { ⌜ length (now roads) / 20 ≡ length (now marks) ⌝ }
+    requires { ⌜ ByName (now text) (now junctions) (now heads) (now next) ⌝ }
+    ensures { λ q. ⌜ q ≡ all (length (now (roads .entry)) / 20)
+        (turnsTwice (now (text .entry)) (now (roads .entry)) (now (junctions .entry)) (now (marks .entry))) ⌝ }
 {
     let n = roads.len() / 20;
     let mut i = 0;
@@ -156,7 +155,8 @@ fn none_twice(
 // 14
 pub fn one_ended(text: &[u8], roads: &[u32], junctions: &[u32], marks: &[u32]) -> bool
     requires { ⌜ (length (now roads) / 20 ≡ length (now marks)) × (length (now junctions) / 5 ≤ 16384) ⌝ }
-    ensures { λ r. ⌜ r ≡ all (length (now (roads .entry)) / 20) (turnsTwice (now (text .entry)) (now (roads .entry)) (now (junctions .entry)) (now (marks .entry))) ⌝ }
+    ensures { λ q. ⌜ q ≡ all (length (now (roads .entry)) / 20)
+        (turnsTwice (now (text .entry)) (now (roads .entry)) (now (junctions .entry)) (now (marks .entry))) ⌝ }
 {
     let mut heads = [0u32; 16384];
     let mut next = [0u32; 16384];

@@ -4,12 +4,13 @@ use words::tests::both;
 ghost use mathlib.Core.Path.{_≡_};
 ghost use mathlib.Core.Bool.{_&&_, true};
 ghost use Prim.Native.Nat.{_+_, _*_, _/_, _≤_, _<_};
-ghost use lib.ListN.{length, getD, take, drop};
+ghost use lib.ListN.{length, take, drop};
 ghost use Rattle.model.specs.Lists.{ascends, member};
-ghost use Rattle.model.specs.Rows.{table, partsFit, part};
+ghost use Rattle.model.specs.Rows.{table, partsFit};
 ghost use Rattle.model.specs.Tables.{roadsIn};
 ghost use Rattle.model.specs.Rules.{sectionPartsFit, sectionsAscend, connectionPartsFit, pairPartsFit};
 ghost use Rattle.words.specs.Rows.{all};
+ghost use Rattle.rules.specs.ByRow.{numbersAt};
 
 // Whether the parts in words kf and kc of the rows cover n rows.
 pub fn parts_fit(ws: &[u32], w: usize, kf: usize, kc: usize, n: usize) -> bool
@@ -51,7 +52,8 @@ pub fn ascending(part: &[u32]) -> bool
 // Whether each road's numbers ascend.
 pub fn numbers_ascend(roads: &[u32], sections: &[u32]) -> bool
     requires { ⌜ partsFit 18 19 0 (length (now sections)) (table 20 (now roads)) ≡ true ⌝ }
-    ensures { λ r. ⌜ r ≡ all (length (now (roads .entry)) / 20) (λ i. ascends (part (getD (now (roads .entry)) (i * 20 + 18) 0) (getD (now (roads .entry)) (i * 20 + 19) 0) (now (sections .entry)))) ⌝ }
+    ensures { λ q. ⌜ q ≡ all (length (now (roads .entry)) / 20)
+        (λ i. ascends (numbersAt (now (roads .entry)) (now (sections .entry)) i)) ⌝ }
 {
     let n = roads.len() / 20;
     let mut i = 0;
@@ -68,7 +70,7 @@ pub fn numbers_ascend(roads: &[u32], sections: &[u32]) -> bool
 pub fn numbers<'a>(roads: &[u32], sections: &'a [u32], r: usize) -> &'a [u32]
     requires { ⌜ partsFit 18 19 0 (length (now sections)) (table 20 (now roads)) ≡ true ⌝ }
     requires { ⌜ r < length (now roads) / 20 ⌝ }
-    ensures { λ p. ⌜ now p ≡ part (getD (now (roads .entry)) (r * 20 + 18) 0) (getD (now (roads .entry)) (r * 20 + 19) 0) (now (sections .entry)) ⌝ }
+    ensures { λ p. ⌜ now p ≡ numbersAt (now (roads .entry)) (now (sections .entry)) r ⌝ }
 {
     let first = rows::word(roads, r * 20 + 18);
     let count = rows::word(roads, r * 20 + 19);
@@ -92,7 +94,8 @@ pub fn listed(part: &[u32], number: u32) -> bool
 // 4
 pub fn sections_fit(roads: &[u32], sections: &[u32]) -> bool
     requires { ⌜ length (now sections) ≤ 16384 ⌝ }
-    ensures { λ r. ⌜ r ≡ (sectionPartsFit (now (sections .entry)) (now (roads .entry)) && sectionsAscend (roadsIn (now (sections .entry)) (now (roads .entry)))) ⌝ }
+    ensures { λ q. ⌜ q ≡ (sectionPartsFit (now (sections .entry)) (now (roads .entry))
+        && sectionsAscend (roadsIn (now (sections .entry)) (now (roads .entry)))) ⌝ }
 {
     if !parts_fit(roads, 20, 18, 19, sections.len()) {
         return false;
@@ -103,7 +106,8 @@ pub fn sections_fit(roads: &[u32], sections: &[u32]) -> bool
 // 5
 pub fn connections_fit(junctions: &[u32], connections: &[u32], pairs: &[u32]) -> bool
     requires { ⌜ (length (now connections) / 7 ≤ 16384) × (length (now pairs) / 2 ≤ 16384) ⌝ }
-    ensures { λ r. ⌜ r ≡ (connectionPartsFit (now (connections .entry)) (now (junctions .entry)) && pairPartsFit (now (pairs .entry)) (now (connections .entry))) ⌝ }
+    ensures { λ q. ⌜ q ≡ (connectionPartsFit (now (connections .entry)) (now (junctions .entry))
+        && pairPartsFit (now (pairs .entry)) (now (connections .entry))) ⌝ }
 {
     let a = parts_fit(junctions, 5, 3, 4, connections.len() / 7);
     both(a, parts_fit(connections, 7, 5, 6, pairs.len() / 2))

@@ -3,7 +3,7 @@ use words::tests::both;
 ghost use mathlib.Core.Path.{_≡_};
 ghost use Prim.Native.Nat.{_≤_, _<_};
 ghost use lib.ListN.{length};
-ghost use Rattle.model.specs.Tables.{mapTables};
+ghost use Rattle.model.specs.Tables.{Tables, mapTables};
 ghost use Rattle.model.specs.Rules.{sized, mapSized};
 
 // n words, w a row, at most `most` rows.
@@ -26,8 +26,10 @@ pub fn map_sized(
     pairs: &[u32],
     most: usize,
 ) -> bool
-    requires { ⌜ most ≤ 16384 ⌝ }
-    ensures { λ r. ⌜ r ≡ mapSized most (mapTables (now (text .entry)) (now (roads .entry)) (now (sections .entry)) (now (junctions .entry)) (now (connections .entry)) (now (pairs .entry))) ⌝ }
+    ghost { Tables }
+    requires { λ t. ⌜ mapTables (now text) (now roads) (now sections) (now junctions) (now connections) (now pairs) ≡ t ⌝ }
+    requires { λ _. ⌜ most ≤ 16384 ⌝ }
+    ensures { λ t q. ⌜ q ≡ mapSized most t ⌝ }
 {
     let short = text.len() <= 1048576;
     let a = both(short, fits(roads.len(), 20, 16384));

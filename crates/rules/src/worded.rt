@@ -154,7 +154,9 @@ pub fn lanes_worded(text: &[u8], ws: &[u32]) -> bool
 
 // 2, of the map's tables
 pub fn map_worded(text: &[u8], roads: &[u32], junctions: &[u32], connections: &[u32]) -> bool
-    ensures { λ r. ⌜ r ≡ (every (roadWorded (now (text .entry))) (table 20 (now (roads .entry))) && every (junctionWorded (now (text .entry))) (table 5 (now (junctions .entry))) && every (connectionWorded (now (text .entry))) (table 7 (now (connections .entry)))) ⌝ }
+    ensures { λ q. ⌜ q ≡ (every (roadWorded (now (text .entry))) (table 20 (now (roads .entry)))
+        && every (junctionWorded (now (text .entry))) (table 5 (now (junctions .entry)))
+        && every (connectionWorded (now (text .entry))) (table 7 (now (connections .entry)))) ⌝ }
 {
     let a = both(roads_worded(text, roads), junctions_worded(text, junctions));
     both(a, connections_worded(text, connections))

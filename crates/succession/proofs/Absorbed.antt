@@ -5,38 +5,25 @@ use mathlib.Core.Bool.{Bool, true, false, not, _&&_, cond}
 use mathlib.Core.List.{List, [], _∷_, _++_, map, append-nil}
 use native.Mathlib.Nat.{not-suc-le-zero, le-of-suc-le-suc, le-refl, add-zero}
 use native.Mathlib.Omega.{arith}
-use lib.Dec.{leb}
-use lib.ListN.{length, getD, take, drop, length-append, length-drop, take-append-drop}
+use lib.ListN.{length, getD, take, drop, length-append, take-append-drop}
 use lib.Seq.{take-at, drop-at, drop-drop, length-take-le}
-use borrow.Author.Tests.{leb-true, leb-false, eq-eqb, ne-eqb}
+use borrow.Author.Tests.{eq-eqb, ne-eqb}
 use lib.Seq.{getD-drop}
-use Rattle.model.specs.Lists.{insert, member, once, sort}
+use Rattle.model.specs.Lists.{insert, member, sort}
 use Rattle.model.specs.Rows.{written}
 use Rattle.model.specs.Succession.{Entry, away, entryId, runsAway}
 use Rattle.model.specs.Tables.{directionOf, laneIn}
-use Rattle.laws.proofs.ForEach.{each-map}
-use Rattle.laws.proofs.Sorting.{Ordered, sort-middle}
+use Rattle.laws.proofs.Bound.{length-insert}
+use Rattle.laws.proofs.Sorting.{Ordered, ordered-sort, sort-middle, sorted-by-counts}
+use Rattle.words.proofs.Laws.{written-length}
 use Rattle.laws.proofs.Valid.{Each}
 use Rattle.succession.specs.ByRow.{Room, Took, laneAt, laneRowOf, oneAt, pairEntry}
 use Rattle.succession.specs.Runs.{Rising, absorb, admit, takeIn}
-use Rattle.succession.proofs.RunLaws.{insert-length}
 
 -- ---- order
-each-insert : (P : ℕ → Type 0) (n : ℕ) (xs : List ℕ) → P n → Each P xs → Each P (insert n xs)
-each-insert P n [] p h = (p, tt)
-each-insert P n (x ∷ xs) p h = go (leb n x) (each-insert P n xs p (h .1))
-  where
-    go : (b : Bool) → Each P (insert n xs) → Each P (cond b (n ∷ x ∷ xs) (x ∷ insert n xs))
-    go true k = (p, h)
-    go false k = (h .0, k)
-
 pub ordered-insert : (n : ℕ) (xs : List ℕ) → Ordered xs → Ordered (insert n xs)
-ordered-insert n [] h = (tt, tt)
-ordered-insert n (x ∷ xs) h = go (leb n x) refl (ordered-insert n xs (h .1))
-  where
-    go : (b : Bool) → leb n x ≡ b → Ordered (insert n xs) → Ordered (cond b (n ∷ x ∷ xs) (x ∷ insert n xs))
-    go true q k = let le : n ≤ x = leb-true n x q in ((le, each-map (λ y (w : x ≤ y). omega arith) xs (h .0)), h)
-    go false q k = let lt : x < n = leb-false n x q in (each-insert (λ y. x ≤ y) n xs (omega arith) (h .0), k)
+ordered-insert n xs h =
+    subst (λ (l : List ℕ). Ordered (insert n l)) (sym (sorted-by-counts xs xs h (λ m. refl))) (ordered-sort (n ∷ xs))
 
 each-at : (P : ℕ → Type 0) (xs : List ℕ) (j : ℕ) → Each P xs → j < length xs → P (getD xs j 0)
 each-at P [] j h l = absurd (not-suc-le-zero l)
@@ -83,7 +70,7 @@ module _ (both : Bool) where
     where
       go : (b : Bool) → length (cond b xs (insert x xs)) ≤ suc (length xs)
       go true = omega arith
-      go false = let e = insert-length x xs in omega arith
+      go false = let e = length-insert x xs in omega arith
 
   pub length-absorb : (xs : List ℕ) (es : List Entry) → length (absorb both xs es) ≤ length xs + length es
   length-absorb xs [] = omega arith
@@ -109,7 +96,7 @@ module _ (both : Bool) where
     where
       more : (b : Bool) → length xs ≤ length (cond b xs (insert (entryId e) xs))
       more true = le-refl (length xs)
-      more false = let q = insert-length (entryId e) xs in omega arith
+      more false = let q = length-insert (entryId e) xs in omega arith
 
       go : (b : Bool) → length xs ≤ length (cond b xs (takeIn both (entryId e) xs))
       go true = le-refl (length xs)
@@ -135,13 +122,6 @@ written-twice xs ys old h =
     ∙ drop-drop (length ys - length xs) (length xs) old
     ∙ ap (λ (k : ℕ). drop k old) (let g : length xs + (length ys - length xs) ≡ length ys = omega arith in g))
 
-pub written-long : (xs old : List ℕ) → length xs ≤ length old → length (written xs old) ≡ length old
-unfolding written
-written-long xs old h =
-    length-append xs (drop (length xs) old)
-    ∙ ap (λ (k : ℕ). length xs + k) (length-drop (length xs) old)
-    ∙ (let w : length xs + (length old - length xs) ≡ length old = omega arith in w)
-
 -- ---- one function after another
 module _ (both : Bool) (n : ℕ) where
   pub took-none : (old : List ℕ) → n ≤ length old → Took both n [] old old n
@@ -156,7 +136,7 @@ module _ (both : Bool) (n : ℕ) where
     inside = let a = length-absorb both (take n old) es in let b = size in omega arith
 
     pub took-long : length mid ≡ length old
-    took-long = ap length (t .list) ∙ written-long (absorb both (take n old) es) old inside
+    took-long = ap length (t .list) ∙ written-length (absorb both (take n old) es) old inside
 
     pub took-front : take m mid ≡ absorb both (take n old) es
     took-front = ap₂ take (t .size) (t .list) ∙ written-front (absorb both (take n old) es) old

@@ -15,15 +15,17 @@ use Rattle.model.specs.Lookup.{listPart}
 use Rattle.model.specs.Rows.{written}
 use Rattle.model.specs.Succession.{isBoth}
 use Rattle.model.specs.Tables.{directionOf}
+use Rattle.laws.proofs.Bound.{length-insert}
 use Rattle.laws.proofs.Sorting.{Ordered}
 use Rattle.words.specs.Rows.{joined, total}
+use Rattle.words.proofs.Laws.{written-length}
 use Rattle.succession.specs.Runs.{Rising}
 use Rattle.succession.specs.ByRow.{Rows, exitsByRow, successorsByRow, successorsFromRow}
 use Rattle.succession.specs.Packs.{startOf}
-use Rattle.succession.specs.Finished.{Made, backInto, bothLong, exitCount, finishedFrom, twoWayRow, wants}
-use Rattle.succession.proofs.RunLaws.{insert-length}
+use Rattle.succession.specs.Finished.{Made, Taking, backInto, bothLong, exitCount, finishedFrom, twoWayRow}
+use Rattle.succession.specs.Finished.{wants}
 use Rattle.succession.proofs.Absorbed.{length-absorb, ordered-insert, ordered-rising, rising-ordered}
-use Rattle.succession.proofs.Absorbed.{written-front, written-long, written-take, written-twice}
+use Rattle.succession.proofs.Absorbed.{written-front, written-take, written-twice}
 use Rattle.succession.proofs.Places.{tail-back, tail-is, tailFrom}
 use Rattle.succession.proofs.Packing.{joined-long, packed-more}
 
@@ -41,12 +43,12 @@ two-way-row lanes (suc r) n =
     (let e : suc r - 1 ≡ r = omega arith in e)
 
 -- ---- a run made
-module _ (run new : List ℕ) (n q x : ℕ) (asked : Bool) where
-  pub made-put : asked ≡ true → n ≤ length run → new ≡ written (insert x (take n run)) run
+module _ {run : List ℕ} (n x : ℕ) (asked : Bool) where
+  pub made-put : {new : List ℕ} → asked ≡ true → n ≤ length run → new ≡ written (insert x (take n run)) run
       → Made (cond asked (insert x (take n run)) (take n run)) run new (n + 1)
   made-put e h p = record {
     list = p ∙ ap (λ (b : Bool). written (cond b (insert x (take n run)) (take n run)) run) (sym e);
-    size = sym (insert-length x (take n run) ∙ ap suc (length-take-le n run h) ∙ sym (add-one n))
+    size = sym (length-insert x (take n run) ∙ ap suc (length-take-le n run h) ∙ sym (add-one n))
         ∙ ap (λ (b : Bool). length (cond b (insert x (take n run)) (take n run))) (sym e);
   }
 
@@ -59,16 +61,16 @@ module _ (run new : List ℕ) (n q x : ℕ) (asked : Bool) where
   }
 
 -- what a run made has in front, and a longer one made over it
-module _ (xs old mid : List ℕ) (n : ℕ) (m : Made xs old mid n) where
+module _ {xs old mid : List ℕ} {n : ℕ} (m : Made xs old mid n) where
   pub made-front : take n mid ≡ xs
   made-front = ap₂ take (m .size) (m .list) ∙ written-front xs old
 
   pub made-long : length xs ≤ length old → length mid ≡ length old
-  made-long h = ap length (m .list) ∙ written-long xs old h
+  made-long h = ap length (m .list) ∙ written-length xs old h
 
-  pub made-then : (ys zs new : List ℕ) (q : ℕ) → Made ys mid new q → ys ≡ zs → length xs ≤ length zs
+  pub made-then : {ys zs new : List ℕ} {q : ℕ} → Made ys mid new q → ys ≡ zs → length xs ≤ length zs
       → Made zs old new q
-  made-then ys zs new q p e h = record {
+  made-then {ys} {zs} p e h = record {
     list = p .list ∙ ap₂ written e (m .list) ∙ written-twice xs zs old h;
     size = p .size ∙ ap length e;
   }
@@ -90,7 +92,7 @@ module _ (p : ℕ → Bool) where
 
   put-size : (b : Bool) (y : ℕ) (xs : List ℕ)
       → (length xs ≤ length (cond b (insert y xs) xs)) × (length (cond b (insert y xs) xs) ≤ suc (length xs))
-  put-size true y xs = let e = insert-length y xs in (omega arith, omega arith)
+  put-size true y xs = let e = length-insert y xs in (omega arith, omega arith)
   put-size false y xs = (le-refl (length xs), omega arith)
 
   pub back-least : (ys xs : List ℕ) → length xs ≤ length (backInto p ys xs)
@@ -137,55 +139,63 @@ module _ (p : ℕ → Bool) where
           ≡ length (cond b (insert (getD ys k 0) (backInto p (take k ys) xs)) (backInto p (take k ys) xs))
       go true =
           add-one (length (backInto p (take k ys) xs))
-          ∙ sym (insert-length (getD ys k 0) (backInto p (take k ys) xs))
+          ∙ sym (length-insert (getD ys k 0) (backInto p (take k ys) xs))
       go false = refl
 
   pub count-room : (ys : List ℕ) (k : ℕ) (xs : List ℕ) → k ≤ length ys
       → length (backInto p (take k ys) xs) ≤ length xs + k
   count-room ys k xs h = let a = back-most (take k ys) xs in let b = length-take-le k ys h in omega arith
 
-  -- the loop's turn
-  module _ (finders : List ℕ) (start : ℕ) (run₀ : List ℕ) (rising : Rising (take start run₀))
-      (begun : start ≤ length run₀) (room : length (backInto p finders (take start run₀)) ≤ length run₀) where
-    abbrev soFar : ℕ → List ℕ
-    soFar k = backInto p (take k finders) (take start run₀)
+-- the loop's turn
+module _ {p : ℕ → Bool} {finders : List ℕ} {start : ℕ} {run₀ : List ℕ} (ready : Taking p finders start run₀) where
+  abbrev soFar : ℕ → List ℕ
+  soFar k = backInto p (take k finders) (take start run₀)
 
-    pub turn-none : Made (soFar 0) run₀ run₀ start
-    turn-none = record { list = sym (written-take start run₀ begun); size = sym (length-take-le start run₀ begun) }
+  pub turn-none : Made (soFar 0) run₀ run₀ start
+  turn-none =
+      record {
+        list = sym (written-take start run₀ (ready .begun));
+        size = sym (length-take-le start run₀ (ready .begun));
+      }
 
-    module _ (k n : ℕ) (run : List ℕ) (m : Made (soFar k) run₀ run n) where
-      pub turn-long : length run ≡ length run₀
-      turn-long = made-long (soFar k) run₀ run n m (let a = so-far finders k (take start run₀) in omega arith)
+  module _ (k : ℕ) {n : ℕ} {run : List ℕ} (made : Made (soFar k) run₀ run n) where
+    below : length (soFar k) ≤ length run₀
+    below = let a = so-far p finders k (take start run₀) in let room = ready .room in omega arith
 
-      pub turn-within : n ≤ length run
-      turn-within = let a = so-far finders k (take start run₀) in let b = turn-long in let d = m .size in omega arith
+    pub turn-long : length run ≡ length run₀
+    turn-long = made-long made below
 
-      pub turn-room : k < length finders → (asked : Bool) → asked ≡ p (getD finders k 0) → asked ≡ true
-          → n < length run
-      turn-room lt asked e t = let a = so-far finders (k + 1) (take start run₀) in let b = turn-long in
-          let d = count-turn finders k (take start run₀) n asked lt e (m .size) in
+    pub turn-within : n ≤ length run
+    turn-within = let a = below in let b = turn-long in let d = made .size in omega arith
+
+    pub turn-rising : Rising (take n run)
+    turn-rising =
+        ordered-rising (take n run)
+        (subst Ordered (sym (made-front made))
+        (back-ordered p (take k finders) (take start run₀) (rising-ordered (take start run₀) (ready .rising))))
+
+    pub turn-end : length finders ≤ k → Made (backInto p finders (take start run₀)) run₀ run n
+    turn-end all = subst (λ (l : List ℕ). Made (backInto p l (take start run₀)) run₀ run n) (take-all k finders all) made
+
+    module _ (lt : k < length finders) {asked : Bool} (wanted : asked ≡ p (getD finders k 0)) where
+      pub turn-room : asked ≡ true → n < length run
+      turn-room t =
+          let a = so-far p finders (k + 1) (take start run₀) in
+          let room = ready .room in
+          let b = turn-long in
+          let d = count-turn p finders k (take start run₀) n asked lt wanted (made .size) in
           let f = ap (λ (b : Bool). cond b (n + 1) n) t in omega arith
 
-      pub turn-rising : Rising (take n run)
-      turn-rising =
-          ordered-rising (take n run)
-          (subst Ordered (sym (made-front (soFar k) run₀ run n m))
-          (back-ordered (take k finders) (take start run₀) (rising-ordered (take start run₀) rising)))
-
-      pub turn-on : k < length finders → (asked : Bool) → asked ≡ p (getD finders k 0) → (new : List ℕ) (q : ℕ)
+      pub turn-on : {new : List ℕ} {q : ℕ}
           → Made (cond asked (insert (getD finders k 0) (take n run)) (take n run)) run new q
           → Made (soFar (k + 1)) run₀ new q
-      turn-on lt asked e new q u =
-          made-then (soFar k) run₀ run n m (cond asked (insert (getD finders k 0) (take n run)) (take n run))
-          (soFar (k + 1)) new q u
-          (ap₂ (λ (b : Bool) (xs : List ℕ). cond b (insert (getD finders k 0) xs) xs) e
-          (made-front (soFar k) run₀ run n m)
-          ∙ sym (back-take finders k (take start run₀) lt))
-          (subst (λ (l : List ℕ). length (soFar k) ≤ length l) (sym (back-take finders k (take start run₀) lt))
-          (put-size (p (getD finders k 0)) (getD finders k 0) (soFar k) .0))
-
-      pub turn-end : length finders ≤ k → Made (backInto p finders (take start run₀)) run₀ run n
-      turn-end ge = subst (λ (l : List ℕ). Made (backInto p l (take start run₀)) run₀ run n) (take-all k finders ge) m
+      turn-on put =
+          made-then made put
+          (ap₂ (λ (b : Bool) (xs : List ℕ). cond b (insert (getD finders k 0) xs) xs) wanted (made-front made)
+          ∙ sym (back-take p finders k (take start run₀) lt))
+          (subst (λ (l : List ℕ). length (soFar k) ≤ length l)
+          (sym (back-take p finders k (take start run₀) lt))
+          (put-size p (p (getD finders k 0)) (getD finders k 0) (soFar k) .0))
 
 -- ---- a lane's finished list
 module _ (lanes mine finders : List ℕ) (l : ℕ) where
@@ -214,7 +224,7 @@ module _ (lanes mine finders : List ℕ) (l : ℕ) where
       go true = back-least (wants lanes mine) finders mine
       go false = le-refl (length mine)
 
-  module _ (run₀ run : List ℕ) (e : run ≡ written mine run₀) where
+  module _ (run₀ : List ℕ) {run : List ℕ} (e : run ≡ written mine run₀) where
     pub finish-plain : twoWayRow lanes (suc l) ≡ false
         → Made (finishedFrom lanes mine finders l) run₀ run (length mine)
     finish-plain z =
@@ -233,13 +243,11 @@ module _ (lanes mine finders : List ℕ) (l : ℕ) where
         ap (λ (xs : List ℕ). length (backInto (wants lanes mine) finders xs)) copied
         ∙ ap length (sym (back-is z))
 
-    pub finish-back : twoWayRow lanes (suc l) ≡ true → (new : List ℕ) (q : ℕ)
+    pub finish-back : twoWayRow lanes (suc l) ≡ true → {new : List ℕ} {q : ℕ}
         → Made (backInto (wants lanes mine) finders (take (length mine) run)) run new q
         → Made (finishedFrom lanes mine finders l) run₀ new q
-    finish-back z new q m =
-        made-then mine run₀ run (length mine) (record { list = e; size = refl })
-        (backInto (wants lanes mine) finders (take (length mine) run)) (finishedFrom lanes mine finders l) new q
-        m
+    finish-back z m =
+        made-then (record { list = e; size = refl }) m
         (ap (backInto (wants lanes mine) finders) copied ∙ sym (back-is z)) finish-least
 
 -- ---- one list more, written to the tail of an output
@@ -249,7 +257,7 @@ module _ (list : ℕ → List ℕ) (f : ℕ → ℕ) (few : (i : ℕ) → length
   start-most zero = le-refl 0
   start-most (suc i) = let a : startOf list i ≤ total i f = start-most i in let b = few i in omega arith
 
-  module _ (n i at : ℕ) (out₀ out : List ℕ) (li : i < n) (room : total n f ≤ length out₀)
+  module _ (n i : ℕ) {at : ℕ} (out₀ out : List ℕ) (li : i < n) (room : total n f ≤ length out₀)
       (ea : at ≡ startOf list i) (long : length out ≡ length out₀) where
     upto : total (i + 1) f ≤ length out₀
     upto = let a = Rattle.words.proofs.Laws.total-le (i + 1) n f (omega arith) in omega arith
@@ -257,20 +265,20 @@ module _ (list : ℕ → List ℕ) (f : ℕ → ℕ) (few : (i : ℕ) → length
     pub tail-room : at + f i ≤ length out
     tail-room = let a = upto in let b = Rattle.words.proofs.Laws.total-more i f in let d = start-most i in omega arith
 
-    pub tail-more : out ≡ written (joined i list) out₀ → (xs new : List ℕ) → xs ≡ list i
+    pub tail-more : out ≡ written (joined i list) out₀ → {xs new : List ℕ} → xs ≡ list i
         → new ≡ written xs (tailFrom at out (let a = tail-room in omega arith))
         → take at out ++ (new ++ drop (length out - at) (drop at out)) ≡ written (joined (i + 1) list) out₀
-    tail-more e xs new ex en =
+    tail-more e {xs} {new} ex en =
         let h : at ≤ length out = (let a = tail-room in omega arith) in
         tail-back at out h new
         ∙ packed-more list i at out₀ out (take at out ++ new) e ea
         (ap (λ (l : List ℕ). take at out ++ l) (en ∙ ap₂ written ex (tail-is at out h)))
         (let a = start-most (i + 1) in let b = upto in omega arith)
 
-    pub more-long : (new : List ℕ) → new ≡ written (joined (i + 1) list) out₀ → length new ≡ length out₀
-    more-long new e =
+    pub more-long : {new : List ℕ} → new ≡ written (joined (i + 1) list) out₀ → length new ≡ length out₀
+    more-long e =
         ap length e
-        ∙ written-long (joined (i + 1) list) out₀
+        ∙ written-length (joined (i + 1) list) out₀
         (let a = joined-long list (i + 1) in let b = start-most (i + 1) in let d = upto in omega arith)
 
 pub successors-most : (R : Rows) (l : ℕ) → length (successorsByRow R l) ≤ exitCount R l

@@ -153,7 +153,8 @@ module _ (lanes owner : List ℕ) (l s link : ℕ) (e : Bool) where
       (sym (b ∙ ap (λ (z : ℕ). laneRowOf lanes owner z s (getD lanes (link + 1) 0)) a))
 
 -- ---- off a lane at one end
-module _ (R : Rows) (l : ℕ) (e : Bool) (w link : ℕ) (o : Option ℕ) (own : w ≡ getD (R .owner) l 0) (known : 0 < w) (at : link ≡ pick e (l * 10 + 8) (l * 10 + 6))
+module _ (R : Rows) (l : ℕ) (e : Bool) (w link : ℕ) (o : Option ℕ) (own : w ≡ getD (R .owner) l 0)
+    (known : 0 < w) (at : link ≡ pick e (l * 10 + 8) (l * 10 + 6))
     (next : o ≡ nextSection (numbersAt (R .roads) (R .sections) (w - 1)) (getD (R .lanes) (l * 10 + 3) 0) e) where
   exits-cases : exitsByRow R l e ≡ exitsFromRow R l (w - 1) e link o
   unfolding exitsByRow
@@ -199,7 +200,10 @@ module _ (R : Rows) (l : ℕ) (old new : List ℕ) (q : ℕ) where
   unfolding successorsByRow
   resolved-both a b t =
       let e : getD (R .lanes) (l * 10 + 5) 0 ≡ suc (suc (getD (R .lanes) (l * 10 + 5) 0 - 2)) = omega arith in
-      record { list = t .list ∙ ap (λ (d : ℕ). written (successorsFromRow R l d) old) (sym e); size = t .size ∙ ap (λ (d : ℕ). length (successorsFromRow R l d)) (sym e) }
+      record {
+        list = t .list ∙ ap (λ (d : ℕ). written (successorsFromRow R l d) old) (sym e);
+        size = t .size ∙ ap (λ (d : ℕ). length (successorsFromRow R l d)) (sym e);
+      }
 
 pub room-none : (es : List Entry) (old : List ℕ) → length es ≤ length old → Room 0 es old
 room-none es old h = record { rising = λ i j a b. absurd (not-suc-le-zero b); fits = omega arith }

@@ -119,7 +119,8 @@ pub record Walk (both : Bool) (start : ℕ) (R : Rows) (n j w k : ℕ) (old : Li
   pub bucket : (r : ℕ) → at ≡ suc r → connectionHash (R .junctions) (R .sides) n r ≡ meetingHash (j + 1) w
   pub took : Took both start (joined (n - at) (meetingAt R j w k)) old run m
 
-module _ (both : Bool) (start : ℕ) (R : Rows) (n j w k : ℕ) (old heads next : List ℕ) (room : Room start (junctionByRow R j w k) old) (lj : j < length (R .junctions) / 5)
+module _ (both : Bool) (start : ℕ) (R : Rows) (n j w k : ℕ) (old heads next : List ℕ)
+    (room : Room start (junctionByRow R j w k) old) (lj : j < length (R .junctions) / 5)
     (fits : endOf (R .junctions) j ≤ n) (homes : Homes (R .junctions))
     (chained : Chained (connectionHash (R .junctions) (R .sides) n) n heads next) where
   abbrev hash : ℕ → ℕ

@@ -146,6 +146,12 @@ pub record Room (n : ℕ) (es : List Entry) (old : List ℕ) : Type 0 where
   pub rising : Rising (take n old)
   pub fits : n + length es ≤ length old
 
+-- few roads, and the part of each lies in the sections
+pub record Sectioned (roads sections : List ℕ) : Type 0 where
+  pub few : length roads / 20 ≤ 16384
+  pub parts : (r : ℕ) → r < length roads / 20
+      → getD roads (r * 20 + 18) 0 + getD roads (r * 20 + 19) 0 ≤ length sections
+
 -- rows and parts lie in their tables, sections ascend, and the chains hold the lanes by their keys
 pub record Sound (roads sections junctions connections pairs lanes owner sides ends heads next : List ℕ) : Type 0 where
   pub few : length lanes / 10 ≤ 16384

@@ -1,9 +1,9 @@
 -- All lanes' lists, from what each finds by its own links and from who finds it. Definitions only.
-use Prim.Native.Nat.{ℕ, zero, suc, _+_, _*_, _/_}
+use Prim.Native.Nat.{ℕ, zero, suc, _+_, _*_, _/_, _≤_}
 use mathlib.Core.Path.{_≡_}
 use mathlib.Core.Bool.{Bool, true, false, not, _&&_, cond}
 use mathlib.Core.List.{List, [], _∷_}
-use lib.ListN.{length, getD}
+use lib.ListN.{length, getD, take}
 use Rattle.model.specs.Lists.{insert, member}
 use Rattle.model.specs.Lookup.{listPart}
 use Rattle.model.specs.Rows.{written}
@@ -11,6 +11,7 @@ use Rattle.model.specs.Succession.{isBoth}
 use Rattle.model.specs.Tables.{directionOf}
 use Rattle.words.specs.Rows.{lastOf}
 use Rattle.words.specs.Keys.{isId}
+use Rattle.succession.specs.Runs.{Rising}
 use Rattle.succession.specs.ByRow.{Rows, exitsByRow}
 
 -- how many lanes lane l is led into, before any is left out
@@ -43,6 +44,12 @@ finishedAt lanes offsets ids finderOffsets finderIds l =
 pub record Made (xs old new : List ℕ) (q : ℕ) : Type 0 where
   pub list : new ≡ written xs old
   pub size : q ≡ length xs
+
+-- a run of `start` words that ascend, with room for the links back from those of the finders that p wants
+pub record Taking (p : ℕ → Bool) (finders : List ℕ) (start : ℕ) (run : List ℕ) : Type 0 where
+  pub rising : Rising (take start run)
+  pub begun : start ≤ length run
+  pub room : length (backInto p finders (take start run)) ≤ length run
 
 -- how long the two lists of a lane are together
 abbrev pub bothLong : (offsets ids finderOffsets finderIds : List ℕ) → ℕ → ℕ

@@ -20,12 +20,12 @@ ghost use Rattle.model.specs.Rules.{firstBroken};
 ghost use Rattle.model.specs.Tables.{Tables, laneTables};
 ghost use Rattle.words.specs.Rows.{any, total};
 ghost use Rattle.words.specs.Chain.{Chained};
-ghost use Rattle.words.specs.Keys.{idBefore, idHash, nameHash};
+ghost use Rattle.words.specs.Keys.{idBefore, nameHash};
 ghost use Rattle.rules.specs.ByRow.{Linked};
 ghost use Rattle.tables.specs.Verdicts.{refusalOf};
 ghost use Rattle.succession.specs.Runs.{Rising};
 ghost use Rattle.succession.specs.Named.{Ended, Sided};
-ghost use Rattle.succession.specs.Packs.{AsMany, Filled, listersOf, startOf};
+ghost use Rattle.succession.specs.Packs.{AsMany, ById, Filled, listersOf, startOf};
 ghost use Rattle.succession.specs.Finished.{bothLong, finishedAt};
 ghost use Rattle.succession.specs.Answers.{answerOf, contentOf, onwardAt, outputs, ownList};
 
@@ -193,11 +193,9 @@ fn put_lists(
 ) -> Succession
     ghost { ℕ → List ℕ }
     requires { λ onward. ⌜ finishedAt (now lanes) (now starts) (now ids) (now fstarts) (now fids) ≡ onward ⌝ }
-    requires { λ _. ⌜ (length (now lanes) / 10 ≤ 16384) × (length (now heads) ≡ 16384) × (length (now lanes) / 10 ≤ length (now next)) ⌝ }
-    requires { λ _. ⌜ Chained (idHash (now lanes)) (length (now lanes) / 10) (now heads) (now next) ⌝ }
-    requires { λ _. ⌜ any (length (now lanes) / 10) (idBefore (now lanes)) ≡ false ⌝ }
-    requires { λ _. ⌜ ((l : ℕ) → l < (length (now lanes) / 10) → Rising (listPart (now starts) (now ids) l))
-        × (total (length (now lanes) / 10) (bothLong (now starts) (now ids) (now fstarts) (now fids)) ≤ 131072) ⌝ }
+    requires { λ _. ⌜ ById (now lanes) (now heads) (now next) ⌝ }
+    requires { λ _. ⌜ ((l : ℕ) → l < length (now lanes) / 10 → Rising (listPart (now starts) (now ids) l)) ⌝ }
+    requires { λ _. ⌜ total (length (now lanes) / 10) (bothLong (now starts) (now ids) (now fstarts) (now fids)) ≤ 131072 ⌝ }
     requires { λ onward. ⌜ AsMany (now lanes) onward ⌝ }
     ensures { λ onward q. ⌜ outcome (answerOf q) (outputs (now («successor_offsets» .exit)) (now («successor_ids» .exit))
         (now («predecessor_offsets» .exit)) (now («predecessor_ids» .exit)))
@@ -254,9 +252,9 @@ fn write_lists(
 ) -> Succession
     ghost { ℕ → List ℕ }
     requires { λ onward. ⌜ onwardAt (now lanes) (now starts) (now ids) ≡ onward ⌝ }
-    requires { λ _. ⌜ (length (now lanes) / 10 ≤ 16384) × (any (length (now lanes) / 10) (idBefore (now lanes)) ≡ false)
-        × ((l : ℕ) → l < (length (now lanes) / 10) → Rising (listPart (now starts) (now ids) l))
-        × (startOf (listPart (now starts) (now ids)) (length (now lanes) / 10) ≤ 65536) ⌝ }
+    requires { λ _. ⌜ (length (now lanes) / 10 ≤ 16384) × (any (length (now lanes) / 10) (idBefore (now lanes)) ≡ false) ⌝ }
+    requires { λ _. ⌜ ((l : ℕ) → l < length (now lanes) / 10 → Rising (listPart (now starts) (now ids) l)) ⌝ }
+    requires { λ _. ⌜ startOf (listPart (now starts) (now ids)) (length (now lanes) / 10) ≤ 65536 ⌝ }
     requires { λ onward. ⌜ AsMany (now lanes) onward ⌝ }
     ensures { λ onward q. ⌜ outcome (answerOf q) (outputs (now («successor_offsets» .exit)) (now («successor_ids» .exit))
         (now («predecessor_offsets» .exit)) (now («predecessor_ids» .exit)))

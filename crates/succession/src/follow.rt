@@ -39,7 +39,8 @@ fn cross(
     n: usize,
 ) -> usize
     ghost { Rows }
-    requires { λ R. ⌜ rowsOf (now roads) (now sections) (now junctions) (now connections) (now pairs) (now lanes) (now owner) (now sides) (now ends) ≡ R ⌝ }
+    requires { λ R. ⌜ rowsOf (now roads) (now sections) (now junctions) (now connections) (now pairs)
+        (now lanes) (now owner) (now sides) (now ends) ≡ R ⌝ }
     requires { λ _. ⌜ Sound (now roads) (now sections) (now junctions) (now connections) (now pairs) (now lanes)
         (now owner) (now sides) (now ends) (now heads) (now next) ⌝ }
     requires { λ _. ⌜ Meeting (now junctions) (now connections) (now sides) (now mheads) (now mnext) ⌝ }
@@ -117,7 +118,8 @@ fn leave(
     n: usize,
 ) -> usize
     ghost { Rows }
-    requires { λ R. ⌜ rowsOf (now roads) (now sections) (now junctions) (now connections) (now pairs) (now lanes) (now owner) (now sides) (now ends) ≡ R ⌝ }
+    requires { λ R. ⌜ rowsOf (now roads) (now sections) (now junctions) (now connections) (now pairs)
+        (now lanes) (now owner) (now sides) (now ends) ≡ R ⌝ }
     requires { λ _. ⌜ Sound (now roads) (now sections) (now junctions) (now connections) (now pairs) (now lanes)
         (now owner) (now sides) (now ends) (now heads) (now next) ⌝ }
     requires { λ _. ⌜ Meeting (now junctions) (now connections) (now sides) (now mheads) (now mnext) ⌝ }
@@ -199,7 +201,8 @@ fn exits(
     n: usize,
 ) -> usize
     ghost { Rows }
-    requires { λ R. ⌜ rowsOf (now roads) (now sections) (now junctions) (now connections) (now pairs) (now lanes) (now owner) (now sides) (now ends) ≡ R ⌝ }
+    requires { λ R. ⌜ rowsOf (now roads) (now sections) (now junctions) (now connections) (now pairs)
+        (now lanes) (now owner) (now sides) (now ends) ≡ R ⌝ }
     requires { λ _. ⌜ Sound (now roads) (now sections) (now junctions) (now connections) (now pairs) (now lanes)
         (now owner) (now sides) (now ends) (now heads) (now next) ⌝ }
     requires { λ _. ⌜ Meeting (now junctions) (now connections) (now sides) (now mheads) (now mnext) ⌝ }
@@ -267,7 +270,8 @@ pub fn successors_of(
     run: &mut [u32],
 ) -> usize
     ghost { Rows }
-    requires { λ R. ⌜ rowsOf (now roads) (now sections) (now junctions) (now connections) (now pairs) (now lanes) (now owner) (now sides) (now ends) ≡ R ⌝ }
+    requires { λ R. ⌜ rowsOf (now roads) (now sections) (now junctions) (now connections) (now pairs)
+        (now lanes) (now owner) (now sides) (now ends) ≡ R ⌝ }
     requires { λ _. ⌜ Sound (now roads) (now sections) (now junctions) (now connections) (now pairs) (now lanes)
         (now owner) (now sides) (now ends) (now heads) (now next) ⌝ }
     requires { λ _. ⌜ Meeting (now junctions) (now connections) (now sides) (now mheads) (now mnext) ⌝ }

@@ -29,7 +29,8 @@ fn through_pairs(
     start: usize,
 ) -> usize
     ghost { Rows }
-    requires { λ R. ⌜ rowsOf (now roads) (now sections) (now junctions) (now connections) (now pairs) (now lanes) (now owner) (now sides) (now ends) ≡ R ⌝ }
+    requires { λ R. ⌜ rowsOf (now roads) (now sections) (now junctions) (now connections) (now pairs)
+        (now lanes) (now owner) (now sides) (now ends) ≡ R ⌝ }
     requires { λ _. ⌜ Sound (now roads) (now sections) (now junctions) (now connections) (now pairs) (now lanes)
         (now owner) (now sides) (now ends) (now heads) (now next) ⌝ }
     requires { λ _. ⌜ c < length (now connections) / 7 ⌝ }
@@ -86,7 +87,8 @@ fn through_connection(
     n: usize,
 ) -> usize
     ghost { Rows }
-    requires { λ R. ⌜ rowsOf (now roads) (now sections) (now junctions) (now connections) (now pairs) (now lanes) (now owner) (now sides) (now ends) ≡ R ⌝ }
+    requires { λ R. ⌜ rowsOf (now roads) (now sections) (now junctions) (now connections) (now pairs)
+        (now lanes) (now owner) (now sides) (now ends) ≡ R ⌝ }
     requires { λ _. ⌜ Sound (now roads) (now sections) (now junctions) (now connections) (now pairs) (now lanes)
         (now owner) (now sides) (now ends) (now heads) (now next) ⌝ }
     requires { λ _. ⌜ (j < length (now junctions) / 5) × (c < length (now connections) / 7) ⌝ }
@@ -139,7 +141,8 @@ pub fn through_junction(
     start: usize,
 ) -> usize
     ghost { Rows }
-    requires { λ R. ⌜ rowsOf (now roads) (now sections) (now junctions) (now connections) (now pairs) (now lanes) (now owner) (now sides) (now ends) ≡ R ⌝ }
+    requires { λ R. ⌜ rowsOf (now roads) (now sections) (now junctions) (now connections) (now pairs)
+        (now lanes) (now owner) (now sides) (now ends) ≡ R ⌝ }
     requires { λ _. ⌜ Sound (now roads) (now sections) (now junctions) (now connections) (now pairs) (now lanes)
         (now owner) (now sides) (now ends) (now heads) (now next) ⌝ }
     requires { λ _. ⌜ Meeting (now junctions) (now connections) (now sides) (now mheads) (now mnext) ⌝ }

@@ -28,7 +28,8 @@ pub fn own_lists(
     own: &mut [u32],
 )
     ghost { Rows }
-    requires { λ R. ⌜ rowsOf (now roads) (now sections) (now junctions) (now connections) (now pairs) (now lanes) (now owner) (now sides) (now ends) ≡ R ⌝ }
+    requires { λ R. ⌜ rowsOf (now roads) (now sections) (now junctions) (now connections) (now pairs)
+        (now lanes) (now owner) (now sides) (now ends) ≡ R ⌝ }
     requires { λ _. ⌜ Sound (now roads) (now sections) (now junctions) (now connections) (now pairs) (now lanes)
         (now owner) (now sides) (now ends) (now heads) (now next) ⌝ }
     requires { λ _. ⌜ Meeting (now junctions) (now connections) (now sides) (now mheads) (now mnext) ⌝ }

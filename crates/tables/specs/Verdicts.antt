@@ -4,7 +4,10 @@ use mathlib.Core.Option.{Option, none, some}
 use Prim.Native.Nat.{ℕ}
 use Rattle.model.specs.Lists.{isSome}
 use Rattle.tables.specs.declared.verdict.Verdict.{Verdict}
-use Rattle.tables.specs.declared.verdict.Verdict.the-variants.{Admitted, BadSize, BadWord, RoadTwice, BadSections, BadParts, IdentityTwice, LaneUnlisted, PlaceTwice, OutputShort, BadEdges, BadLists, BadMarks, LeastNumber, TwoEnded}
+use Rattle.tables.specs.declared.verdict.Verdict.the-variants.{Admitted, BadSize, BadWord, RoadTwice}
+use Rattle.tables.specs.declared.verdict.Verdict.the-variants.{BadSections, BadParts, IdentityTwice}
+use Rattle.tables.specs.declared.verdict.Verdict.the-variants.{LaneUnlisted, PlaceTwice, OutputShort, BadEdges}
+use Rattle.tables.specs.declared.verdict.Verdict.the-variants.{BadLists, BadMarks, LeastNumber, TwoEnded}
 
 -- no refusal, or its number
 abbrev pub refusalOf : Verdict → Option ℕ

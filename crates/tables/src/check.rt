@@ -38,7 +38,9 @@ pub fn check_repair(
     connections: &[u32],
     pairs: &[u32],
 ) -> Verdict
-    ensures { λ q. ⌜ refusalOf q ≡ firstBroken (repairRules (mapTables (now (text .entry)) (now (roads .entry)) (now (sections .entry)) (now (junctions .entry)) (now (connections .entry)) (now (pairs .entry)))) ⌝ }
+    ensures { λ q. ⌜ refusalOf q ≡ firstBroken (repairRules
+        (mapTables (now (text .entry)) (now (roads .entry)) (now (sections .entry)) (now (junctions .entry))
+        (now (connections .entry)) (now (pairs .entry)))) ⌝ }
 {
     let mut heads = [0u32; 16384];
     let mut next = [0u32; 16384];
@@ -63,7 +65,9 @@ pub fn check_succession(
     pairs: &[u32],
     lanes: &[u32],
 ) -> Verdict
-    ensures { λ q. ⌜ refusalOf q ≡ firstBroken (successionRules (laneTables (now (text .entry)) (now (roads .entry)) (now (sections .entry)) (now (junctions .entry)) (now (connections .entry)) (now (pairs .entry)) (now (lanes .entry)))) ⌝ }
+    ensures { λ q. ⌜ refusalOf q ≡ firstBroken (successionRules
+        (laneTables (now (text .entry)) (now (roads .entry)) (now (sections .entry)) (now (junctions .entry))
+        (now (connections .entry)) (now (pairs .entry)) (now (lanes .entry)))) ⌝ }
 {
     let mut heads = [0u32; 16384];
     let mut next = [0u32; 16384];
@@ -97,7 +101,10 @@ pub fn check_reversal(
     edges: &[f32],
     marks: &[u32],
 ) -> Verdict
-    ensures { λ q. ⌜ refusalOf q ≡ firstBroken (reversalRules (allTables (now (text .entry)) (now (roads .entry)) (now (sections .entry)) (now (junctions .entry)) (now (connections .entry)) (now (pairs .entry)) (now (lanes .entry)) (now (edges .entry))) (now (marks .entry))) ⌝ }
+    ensures { λ q. ⌜ refusalOf q ≡ firstBroken (reversalRules
+        (allTables (now (text .entry)) (now (roads .entry)) (now (sections .entry)) (now (junctions .entry))
+        (now (connections .entry)) (now (pairs .entry)) (now (lanes .entry)) (now (edges .entry)))
+        (now (marks .entry))) ⌝ }
 {
     let mut heads = [0u32; 16384];
     let mut next = [0u32; 16384];

@@ -7,16 +7,16 @@ use rules::worded;
 use words::index;
 use words::tests::both;
 ghost use mathlib.Core.Path.{_≡_};
-ghost use mathlib.Core.Bool.{true, false, not, _&&_};
+ghost use mathlib.Core.Bool.{true};
 ghost use mathlib.Core.List.{[], _∷_, _++_};
-ghost use Prim.Native.Nat.{ℕ, _+_, _*_, _/_, _≤_, _<_};
-ghost use lib.ListN.{length, getD};
+ghost use Prim.Native.Nat.{_/_, _≤_};
+ghost use lib.ListN.{length};
 ghost use mathlib.Core.Option.{none};
 ghost use Rattle.model.specs.Tables.{Tables, mapTables, laneTables, allTables};
 ghost use Rattle.model.specs.Rules.{firstBroken, rule, edgesFit};
 ghost use Rattle.model.specs.Calls.{rulesTo5, laneRules, repairRules, successionRules, reversalRules};
 ghost use Rattle.words.specs.Chain.{Chained, Empty};
-ghost use Rattle.words.specs.Keys.{nameHash, laneHash};
+ghost use Rattle.words.specs.Keys.{nameHash};
 ghost use Rattle.rules.specs.ByRow.{Few, Linked};
 ghost use Rattle.tables.specs.Verdicts.{refusalOf, admits};
 
@@ -76,7 +76,8 @@ pub fn map_verdict(
     next: &mut [u32],
 ) -> Verdict
     ghost { Tables }
-    requires { λ t. ⌜ mapTables (now text) (now roads) (now sections) (now junctions) (now connections) (now pairs) ≡ t ⌝ }
+    requires { λ t. ⌜ mapTables (now text) (now roads) (now sections) (now junctions) (now connections)
+        (now pairs) ≡ t ⌝ }
     requires { λ _. ⌜ (sizes ≡ true → Few (now roads) (now sections) (now connections) (now pairs)) ⌝ }
     requires { λ _. ⌜ Empty (now heads) (now next) ⌝ }
     ensures { λ t q. ⌜ refusalOf q ≡ firstBroken (rulesTo5 sizes words t) ⌝ }
@@ -114,7 +115,8 @@ pub fn repair_verdict(
     next: &mut [u32],
 ) -> Verdict
     ghost { Tables }
-    requires { λ t. ⌜ mapTables (now text) (now roads) (now sections) (now junctions) (now connections) (now pairs) ≡ t ⌝ }
+    requires { λ t. ⌜ mapTables (now text) (now roads) (now sections) (now junctions) (now connections)
+        (now pairs) ≡ t ⌝ }
     requires { λ _. ⌜ Empty (now heads) (now next) ⌝ }
     ensures { λ t q. ⌜ refusalOf q ≡ firstBroken (repairRules t) ⌝ }
     ensures { λ _ q. ⌜ (refusalOf q ≡ none → Chained (nameHash (now (text .entry)) 20 0 (now (roads .entry)))
@@ -136,7 +138,8 @@ pub fn repair_verdict(
     )
 }
 
-// 1 to 8, where the answers of 1 and 2 are at hand. Links the roads by name and the lanes by road, section and number, and finds each lane's road.
+// 1 to 8, where the answers of 1 and 2 are at hand. Links the roads by name and the lanes by road, section and
+// number, and finds each lane's road.
 pub fn lane_verdict(
     sizes: bool,
     words: bool,
@@ -154,7 +157,8 @@ pub fn lane_verdict(
     knext: &mut [u32],
 ) -> Verdict
     ghost { Tables }
-    requires { λ t. ⌜ laneTables (now text) (now roads) (now sections) (now junctions) (now connections) (now pairs) (now lanes) ≡ t ⌝ }
+    requires { λ t. ⌜ laneTables (now text) (now roads) (now sections) (now junctions) (now connections)
+        (now pairs) (now lanes) ≡ t ⌝ }
     requires { λ _. ⌜ (sizes ≡ true → Few (now roads) (now sections) (now connections) (now pairs))
         × (sizes ≡ true → length (now lanes) / 10 ≤ 16384) ⌝ }
     requires { λ _. ⌜ Empty (now heads) (now next) ⌝ }
@@ -208,7 +212,8 @@ pub fn succession_verdict(
     knext: &mut [u32],
 ) -> Verdict
     ghost { Tables }
-    requires { λ t. ⌜ laneTables (now text) (now roads) (now sections) (now junctions) (now connections) (now pairs) (now lanes) ≡ t ⌝ }
+    requires { λ t. ⌜ laneTables (now text) (now roads) (now sections) (now junctions) (now connections)
+        (now pairs) (now lanes) ≡ t ⌝ }
     requires { λ _. ⌜ Empty (now heads) (now next) ⌝ }
     requires { λ _. ⌜ length (now owner) ≡ 16384 ⌝ }
     requires { λ _. ⌜ Empty (now kheads) (now knext) ⌝ }
@@ -261,14 +266,15 @@ pub fn table_verdict(
     knext: &mut [u32],
 ) -> Verdict
     ghost { Tables }
-    requires { λ t. ⌜ allTables (now text) (now roads) (now sections) (now junctions) (now connections) (now pairs)
-        (now lanes) (now edges) ≡ t ⌝ }
+    requires { λ t. ⌜ allTables (now text) (now roads) (now sections) (now junctions) (now connections)
+        (now pairs) (now lanes) (now edges) ≡ t ⌝ }
     requires { λ _. ⌜ (sizes ≡ true → Few (now roads) (now sections) (now connections) (now pairs))
         × (sizes ≡ true → length (now lanes) / 10 ≤ 16384) ⌝ }
     requires { λ _. ⌜ Empty (now heads) (now next) ⌝ }
     requires { λ _. ⌜ length (now owner) ≡ 16384 ⌝ }
     requires { λ _. ⌜ Empty (now kheads) (now knext) ⌝ }
-    ensures { λ t q. ⌜ refusalOf q ≡ firstBroken (rulesTo5 sizes words t ++ laneRules t ++ (rule 10 (edgesFit t) ∷ [])) ⌝ }
+    ensures { λ t q. ⌜ refusalOf q ≡ firstBroken (rulesTo5 sizes words t ++ laneRules t
+        ++ (rule 10 (edgesFit t) ∷ [])) ⌝ }
     ensures { λ _ q. ⌜ (refusalOf q ≡ none → Linked (now (text .entry)) (now (roads .entry)) (now (lanes .entry))
         (now (heads .exit)) (now (next .exit)) (now (owner .exit)) (now (kheads .exit)) (now (knext .exit))) ⌝ }
 {
@@ -315,8 +321,8 @@ pub fn reversal_verdict(
     knext: &mut [u32],
 ) -> Verdict
     ghost { Tables }
-    requires { λ t. ⌜ allTables (now text) (now roads) (now sections) (now junctions) (now connections) (now pairs)
-        (now lanes) (now edges) ≡ t ⌝ }
+    requires { λ t. ⌜ allTables (now text) (now roads) (now sections) (now junctions) (now connections)
+        (now pairs) (now lanes) (now edges) ≡ t ⌝ }
     requires { λ _. ⌜ Empty (now heads) (now next) ⌝ }
     requires { λ _. ⌜ length (now owner) ≡ 16384 ⌝ }
     requires { λ _. ⌜ Empty (now kheads) (now knext) ⌝ }

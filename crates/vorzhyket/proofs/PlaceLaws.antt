@@ -37,7 +37,8 @@ module _ {A : Type 0} where
   no-length [] e = refl
   no-length (x ∷ xs) e = absurd (let z : suc (length xs) ≡ 0 = e in omega arith)
 
-  place-there : (first c : ℕ) (xs : List A) → partAt (placeOf first (length (part first c xs))) xs ≡ part first c xs
+  place-there : (first c : ℕ) (xs : List A)
+      → partAt (placeOf first (length (part first c xs))) xs ≡ part first c xs
   place-there first c xs = go (length (part first c xs)) refl
     where
       go : (n : ℕ) → length (part first c xs) ≡ n → partAt (placeOf first n) xs ≡ part first c xs
@@ -45,49 +46,74 @@ module _ {A : Type 0} where
       go (suc n) e = ap (λ (k : ℕ). part first k xs) (sym e) ∙ take-again c (drop first xs)
 
   -- the part, or none
-  place-if : (b : Bool) (first c : ℕ) (xs : List A) → partAt (placeOf first (length (cond b (part first c xs) []))) xs ≡ cond b (part first c xs) []
+  place-if : (b : Bool) (first c : ℕ) (xs : List A)
+      → partAt (placeOf first (length (cond b (part first c xs) []))) xs ≡ cond b (part first c xs) []
   place-if true first c xs = place-there first c xs
   place-if false first c xs = refl
 
 -- THE LIST: its place names the lanes that list lookup gives, in the identities that are asked
-pub list-there : (so si po pi : List ℕ) (row : ℕ) (before : Bool) → partAt (lookupPlace so si po pi row before) (pick before si pi) ≡ listLookup so si po pi row before
+pub list-there : (so si po pi : List ℕ) (row : ℕ) (before : Bool)
+    → partAt (lookupPlace so si po pi row before) (pick before si pi) ≡ listLookup so si po pi row before
 unfolding lookupPlace listLookup listPlace listPart
-list-there so si po pi row false = place-if (rowListed so si row) (word so row) (word so (suc row) - word so row) si
-list-there so si po pi row true = place-if (rowListed po pi row) (word po row) (word po (suc row) - word po row) pi
+list-there so si po pi row false =
+    place-if (rowListed so si row) (word so row) (word so (suc row) - word so row) si
+list-there so si po pi row true =
+    place-if (rowListed po pi row) (word po row) (word po (suc row) - word po row) pi
 
 -- THE NAME: its place names the name's bytes
-pub name-there : (text : List ℕ) (start size : ℕ) → partAt (namePlace text start size) text ≡ nameBytes text (span start size)
+pub name-there : (text : List ℕ) (start size : ℕ)
+    → partAt (namePlace text start size) text ≡ nameBytes text (span start size)
 unfolding namePlace nameBytes bytesOf
 name-there text start size = place-if (placed text (span start size)) start size text
 
 -- ---- the side that is asked
-module _ (so si po pi : List ℕ) (row before : ℕ) {p : List ℕ} where
-  pub asked-onward : before ≡ 0 → p ≡ listPlace so si row → p ≡ lookupPlace so si po pi row (asksBefore before)
-  unfolding lookupPlace
-  asked-onward z e = e ∙ ap (λ (b : Bool). pick (not b) (listPlace so si row) (listPlace po pi row)) (sym (eq-eqb before 0 z))
+module _ (so si po pi : List ℕ) (row before : ℕ) where
+  abbrev placed-by : Bool → List ℕ
+  placed-by onward = pick (not onward) (listPlace so si row) (listPlace po pi row)
 
-  pub asked-before : (before ≡ 0 → ⊥) → p ≡ listPlace po pi row → p ≡ lookupPlace so si po pi row (asksBefore before)
+  pub asked-onward : {p : List ℕ} → before ≡ 0 → p ≡ listPlace so si row
+      → p ≡ lookupPlace so si po pi row (asksBefore before)
   unfolding lookupPlace
-  asked-before z e = e ∙ ap (λ (b : Bool). pick (not b) (listPlace so si row) (listPlace po pi row)) (sym (ne-eqb before 0 z))
+  asked-onward zero-is e = e ∙ ap placed-by (sym (eq-eqb before 0 zero-is))
+
+  pub asked-before : {p : List ℕ} → (before ≡ 0 → ⊥) → p ≡ listPlace po pi row
+      → p ≡ lookupPlace so si po pi row (asksBefore before)
+  unfolding lookupPlace
+  asked-before not-zero e = e ∙ ap placed-by (sym (ne-eqb before 0 not-zero))
 
 -- ---- what a part that is not empty says
 module _ (offsets ids : List ℕ) (row : ℕ) where
-  pub list-long : (length (listPart offsets ids row) ≡ 0 → ⊥) → (suc row < length offsets) × (length (listPart offsets ids row) ≤ word offsets (suc row))
+  abbrev begins : ℕ
+  begins = word offsets row
+
+  abbrev ends : ℕ
+  ends = word offsets (suc row)
+
+  abbrev list : Bool → List ℕ
+  list listed = cond listed (part begins (ends - begins) ids) []
+
+  inside : rowListed offsets ids row ≡ true → suc row < length offsets
+  unfolding rowListed
+  inside listed =
+      let there = ltb (suc row) (length offsets) in
+      let ordered = leb begins ends in
+      ltb-true (suc row) (length offsets)
+      (left-on there ordered (left-on (there && ordered) (leb ends (length ids)) listed))
+
+  pub list-long : (length (listPart offsets ids row) ≡ 0 → ⊥)
+      → (suc row < length offsets) × (length (listPart offsets ids row) ≤ ends)
   unfolding listPart
   list-long = go (rowListed offsets ids row) refl
     where
-      go : (b : Bool) → rowListed offsets ids row ≡ b → (length (cond b (part (word offsets row) (word offsets (suc row) - word offsets row) ids) []) ≡ 0 → ⊥) →
-          (suc row < length offsets) × (length (cond b (part (word offsets row) (word offsets (suc row) - word offsets row) ids) []) ≤ word offsets (suc row))
-      go false e z = absurd (z refl)
-      go true e z = (inside e, let l = length-take (word offsets (suc row) - word offsets row) (drop (word offsets row) ids) in omega arith)
-        where
-          inside : rowListed offsets ids row ≡ true → suc row < length offsets
-          inside e = unfold rowListed in ltb-true (suc row) (length offsets) (left-on (ltb (suc row) (length offsets)) (leb (word offsets row) (word offsets (suc row))) (left-on (ltb (suc row) (length offsets) && leb (word offsets row) (word offsets (suc row))) (leb (word offsets (suc row)) (length ids)) e))
+      go : (b : Bool) → rowListed offsets ids row ≡ b → (length (list b) ≡ 0 → ⊥)
+          → (suc row < length offsets) × (length (list b) ≤ ends)
+      go false listed full = absurd (full refl)
+      go true listed full = (inside listed, omega (arith, length-take (ends - begins) (drop begins ids)))
 
 pub name-long : (text : List ℕ) (start size : ℕ) → length (nameBytes text (span start size)) ≤ size
 unfolding nameBytes bytesOf
 name-long text start size = go (placed text (span start size))
   where
     go : (b : Bool) → length (cond b (take size (drop start text)) []) ≤ size
-    go true = let l = length-take size (drop start text) in omega arith
+    go true = omega (arith, length-take size (drop start text))
     go false = omega arith

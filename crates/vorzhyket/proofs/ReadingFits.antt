@@ -1,67 +1,75 @@
--- THE COUNTS OF AN ACCEPTED READING are words.
-use mathlib.Core.Path.{_≡_, refl, sym, ap, _∙_, subst}
+-- THE COUNTS OF AN ACCEPTED READING are words, since where no rule is broken the content's rows are.
+use mathlib.Core.Path.{_≡_, refl, sym, ap, _∙_}
 use mathlib.Core.Bool.{Bool, true, false, cond}
 use mathlib.Core.Option.{Option, none, some}
-use mathlib.Core.List.{List, [], _∷_, _++_, append-nil, map}
+use mathlib.Core.List.{List, [], _∷_, append-nil, map}
 use Prim.Native.Nat.{ℕ, zero, suc, _+_, _/_, _≤_, _<_}
 use native.Mathlib.Nat.{add-zero}
 use native.Mathlib.Omega.{arith}
 use lib.ListN.{length, length-append, length-map}
-use Rattle.model.specs.Calls.{longEnough, wrote}
+use Rattle.model.specs.Calls.{Answer, outcome, tableWriting}
 use Rattle.model.specs.Lists.{bindO, gather, isSome, mapO}
-use Rattle.model.specs.Reading.{RawTables, ReadWarning, connectionDropped, connectionWarnings, connectionsAt, endText, junctionWarnings, keptConnections, kindAt, laneLinkDropped, laneLinkWarnings, laneLinksAt, leadsInto, partRows, passedOver, rawConnection, rawJunction, readConnection, readJunction, readJunctions, readPair, readWarningRow, readWarnings, reads, toList}
-use Rattle.model.specs.ReadingCalls.{JunctionOutputs, junctionContent, junctionCounts, junctionLengths, putJunctions, rawJunctionRules, rawLaneContent, rawLaneRules, readJunctionsCall, readLanesCall, readTargetsCall, targetContent, targetRules}
+use Rattle.model.specs.Reading.{RawTables, ReadWarning, connectionDropped, connectionWarnings, connectionsAt, endText}
+use Rattle.model.specs.Reading.{junctionWarnings, keptConnections, kindAt, laneLinkDropped, laneLinkWarnings}
+use Rattle.model.specs.Reading.{laneLinksAt, leadsInto, partRows, passedOver, rawConnection, rawJunction}
+use Rattle.model.specs.Reading.{readConnection, readJunction, readJunctions, readPair, readWarningRow, readWarnings}
+use Rattle.model.specs.Reading.{reads, toList}
+use Rattle.model.specs.ReadingCalls.{JunctionOutputs, junctionContent, junctionCounts, junctionWriting}
+use Rattle.model.specs.ReadingCalls.{rawJunctionRules, rawLaneContent, rawLaneRules, readJunctionsCall}
+use Rattle.model.specs.ReadingCalls.{readLanesCall, readTargetsCall, targetContent, targetRules}
 use Rattle.model.specs.Records.{Connection, Junction, Pair, Span}
-use Rattle.model.specs.Rows.{word, written}
+use Rattle.model.specs.Rows.{word}
 use Rattle.model.specs.Rules.{firstBroken}
 use Rattle.model.specs.Tables.{allConnections, allPairs, nameIn}
 use Rattle.laws.proofs.Bound.{gather-most}
-use Rattle.laws.proofs.RulesReversed.{unbroken-append}
 use Rattle.laws.proofs.WordsReversed.{gather-gather, length-connections, length-junctions, length-pairs}
 use Rattle.words.specs.Rows.{total}
 use Rattle.words.proofs.Laws.{total-le, total-more, total-none}
 use Rattle.rules.specs.Parts.{counts}
-use Rattle.reading.specs.Laid.{Ready, connectionsOf, pairsOf, rawTables}
+use Rattle.reading.specs.Laid.{Ready, connectionsOf, pairsOf}
 use Rattle.reading.proofs.CallLaws.{ready}
 use Rattle.reading.proofs.LaneLaws.{lanes-few, lanes-length}
 use Rattle.reading.proofs.NameLaws.{word-of}
 use Rattle.reading.proofs.TargetLaws.{targets-few, targets-length}
-use Rattle.vorzhyket.specs.Exported.{Words}
-use Rattle.vorzhyket.proofs.Left.{wrote-of}
+use Rattle.vorzhyket.specs.Exported.{Counted, Words}
+use Rattle.vorzhyket.proofs.Left.{counted}
 
 -- ---- targets and lanes
-pub targets-fit : (text raw o rows : List ℕ) → wrote rows ≡ readTargetsCall text raw o .answer → Words rows
-unfolding readTargetsCall
-targets-fit text raw o rows q =
-    let n = length (targetContent text raw) in
-    let w = wrote-of (firstBroken (targetRules text raw ++ longEnough (n ∷ []) (length o ∷ []))) (n / 7 ∷ []) (written (targetContent text raw) o) o q in
-    let h = unbroken-append (targetRules text raw) (longEnough (n ∷ []) (length o ∷ [])) (w .0) .0 in
-    let a = targets-few text raw (sym h) in
-    let b = targets-length text raw in
-    subst Words (sym (w .1)) (omega arith, tt)
+target-words : (text raw : List ℕ) → firstBroken (targetRules text raw) ≡ none
+    → Words (length (targetContent text raw) / 7 ∷ [])
+target-words text raw unbroken =
+    let rows = targets-length text raw in (omega (arith, targets-few text raw (sym unbroken)), tt)
 
-pub lanes-fit : (text raw o rows : List ℕ) → wrote rows ≡ readLanesCall text raw o .answer → Words rows
+lane-words : (text raw : List ℕ) → firstBroken (rawLaneRules text raw) ≡ none
+    → Words (length (rawLaneContent text raw) / 4 ∷ [])
+lane-words text raw unbroken =
+    let rows = lanes-length text raw in (omega (arith, lanes-few text raw (sym unbroken)), tt)
+
+pub targets-counted : (text raw o : List ℕ) {y : Answer} {after : List ℕ}
+    → outcome y after ≡ readTargetsCall text raw o → Counted y
+unfolding readTargetsCall
+targets-counted text raw o e =
+    counted (tableWriting 7) (targetRules text raw) (targetContent text raw) o e (target-words text raw)
+
+pub lanes-counted : (text raw o : List ℕ) {y : Answer} {after : List ℕ} → outcome y after ≡ readLanesCall text raw o
+    → Counted y
 unfolding readLanesCall
-lanes-fit text raw o rows q =
-    let n = length (rawLaneContent text raw) in
-    let w = wrote-of (firstBroken (rawLaneRules text raw ++ longEnough (n ∷ []) (length o ∷ []))) (n / 4 ∷ []) (written (rawLaneContent text raw) o) o q in
-    let h = unbroken-append (rawLaneRules text raw) (longEnough (n ∷ []) (length o ∷ [])) (w .0) .0 in
-    let a = lanes-few text raw (sym h) in
-    let b = lanes-length text raw in
-    subst Words (sym (w .1)) (omega arith, tt)
+lanes-counted text raw o e =
+    counted (tableWriting 4) (rawLaneRules text raw) (rawLaneContent text raw) o e (lane-words text raw)
 
 -- ---- rows of a part, each adding at most what g grows by
-rows-most : {A : Type 0} (f : ℕ → List A) (g : ℕ → ℕ) (n : ℕ) → ((k : ℕ) → k < n → g k + length (f k) ≤ g (k + 1)) → (first count : ℕ) → first + count ≤ n → g first + length (gather f (partRows first count)) ≤ g (first + count)
-rows-most f g n h first zero l = let e = ap g (add-zero first) in omega arith
-rows-most f g n h first (suc m) l =
-    let a = length-append (f first) (gather f (partRows (suc first) m)) in
-    let b = h first (omega arith) in
-    let c = rows-most f g n h (suc first) m (omega arith) in
-    let p : first + 1 ≡ suc first = omega arith in
-    let q : suc first + m ≡ first + suc m = omega arith in
-    let d = ap g p in
-    let e = ap g q in
-    omega arith
+rows-most : {A : Type 0} (f : ℕ → List A) (g : ℕ → ℕ) (n : ℕ)
+    → ((k : ℕ) → k < n → g k + length (f k) ≤ g (k + 1))
+    → (first count : ℕ) → first + count ≤ n
+    → g first + length (gather f (partRows first count)) ≤ g (first + count)
+rows-most f g n each first zero within = omega (arith, ap g (add-zero first))
+rows-most f g n each first (suc m) within =
+    let joined = length-append (f first) (gather f (partRows (suc first) m)) in
+    let here = each first (omega arith) in
+    let rest = rows-most f g n each (suc first) m (omega arith) in
+    let next : first + 1 ≡ suc first = omega arith in
+    let end : suc first + m ≡ first + suc m = omega arith in
+    omega (arith, ap g next, ap g end)
 
 part-length : (first count : ℕ) → length (partRows first count) ≡ count
 part-length first zero = refl
@@ -71,14 +79,20 @@ one-most : {A : Type 0} (o : Option A) → length (toList o) ≤ 1
 one-most none = omega arith
 one-most (some a) = omega arith
 
-module _ (text js cs ls : List ℕ) where
-  abbrev t : RawTables
-  t = rawTables text js cs ls
+module _ (t : RawTables) where
+  -- how many lane links a connection has, and how many connections a junction
+  abbrev linksOf : ℕ → ℕ
+  linksOf = counts 14 13 (t .connections)
+
+  abbrev sizesOf : ℕ → ℕ
+  sizesOf = counts 8 7 (t .junctions)
 
   -- ---- a connection: as many pairs as it has lane links, and a warning more
   module _ (j c : ℕ) where
-    links : length (laneLinksAt t c) ≡ counts 14 13 cs c
-    links = part-length (word (rawConnection t c) 12) (word (rawConnection t c) 13) ∙ word-of 14 c cs 13 (omega arith)
+    links : length (laneLinksAt t c) ≡ linksOf c
+    links =
+        part-length (word (rawConnection t c) 12) (word (rawConnection t c) 13)
+        ∙ word-of 14 c (t .connections) 13 (omega arith)
 
     kept-one : length (keptConnections t j c) ≤ 1
     unfolding keptConnections
@@ -88,26 +102,37 @@ module _ (text js cs ls : List ℕ) where
         go true = omega arith
         go false = one-most (readConnection t j c)
 
-    kept-pairs : length (pairsOf (keptConnections t j c)) ≤ counts 14 13 cs c
+    -- its pairs, the connection with them, and its lane links' warnings
+    abbrev pairs : List Pair
+    pairs = gather (λ l. toList (readPair t l)) (laneLinksAt t c)
+
+    abbrev made : Bool → Span → Span → Connection
+    made contact incoming connecting =
+        record { incoming = incoming; connecting = connecting; contact = contact; pairs = pairs }
+
+    abbrev dropped : List ReadWarning
+    dropped = gather (laneLinkWarnings t j c) (laneLinksAt t c)
+
+    kept-pairs : length (pairsOf (keptConnections t j c)) ≤ linksOf c
     unfolding keptConnections readConnection
-    kept-pairs = go (passedOver t j c) (nameIn (rawConnection t c) 4) (leadsInto t j c) (reads text endText (nameIn (rawConnection t c) 10))
+    kept-pairs =
+        go (passedOver t j c) (nameIn (rawConnection t c) 4) (leadsInto t j c)
+        (reads (t .text) endText (nameIn (rawConnection t c) 10))
       where
-        pairs : List Pair
-        pairs = gather (λ l. toList (readPair t l)) (laneLinksAt t c)
-
-        few : length pairs ≤ counts 14 13 cs c
+        few : length pairs ≤ linksOf c
         few =
-            let a = gather-most 1 (λ l. toList (readPair t l)) (laneLinksAt t c) (λ l. one-most (readPair t l)) in
-            let b = links in
-            omega arith
+            let one-each =
+            gather-most 1 (λ l. toList (readPair t l)) (laneLinksAt t c) (λ l. one-most (readPair t l)) in
+            omega (arith, links)
 
-        go : (b : Bool) (x y : Option Span) (e : Bool) → length (pairsOf (cond b [] (toList (bindO x λ incoming. mapO (λ connecting. record { incoming = incoming; connecting = connecting; contact = e; pairs = pairs }) y)))) ≤ counts 14 13 cs c
+        go : (b : Bool) (x y : Option Span) (e : Bool)
+            → length (pairsOf (cond b [] (toList (bindO x λ incoming. mapO (made e incoming) y)))) ≤ linksOf c
         go true x y e = omega arith
         go false none y e = omega arith
         go false (some x) none e = omega arith
-        go false (some x) (some y) e = let a = length-append pairs [] in let b = few in omega arith
+        go false (some x) (some y) e = omega (arith, length-append pairs [], few)
 
-    warned : length (connectionWarnings t j c) ≤ counts 14 13 cs c + 1
+    warned : length (connectionWarnings t j c) ≤ linksOf c + 1
     unfolding connectionWarnings
     warned = go (passedOver t j c) (isSome (readConnection t j c))
       where
@@ -118,20 +143,17 @@ module _ (text js cs ls : List ℕ) where
             one true = omega arith
             one false = omega arith
 
-        go : (b d : Bool) → length (cond b [] (cond d (gather (laneLinkWarnings t j c) (laneLinksAt t c)) (connectionDropped j c ∷ []))) ≤ counts 14 13 cs c + 1
+        go : (b d : Bool) → length (cond b [] (cond d dropped (connectionDropped j c ∷ []))) ≤ linksOf c + 1
         go true d = omega arith
-        go false true =
-            let a = gather-most 1 (laneLinkWarnings t j c) (laneLinksAt t c) drop-one in
-            let b = links in
-            omega arith
+        go false true = omega (arith, gather-most 1 (laneLinkWarnings t j c) (laneLinksAt t c) drop-one, links)
         go false false = omega arith
 
   -- ---- a junction: as many connections as its part has, their pairs, and a warning for each of both
   abbrev pairs-to : ℕ → ℕ
-  pairs-to c = total c (counts 14 13 cs)
+  pairs-to c = total c linksOf
 
   abbrev warned-to : ℕ → ℕ
-  warned-to c = c + total c (counts 14 13 cs)
+  warned-to c = c + total c linksOf
 
   module _ (j : ℕ) where
     abbrev first : ℕ
@@ -140,100 +162,132 @@ module _ (text js cs ls : List ℕ) where
     abbrev count : ℕ
     count = word (rawJunction t j) 7
 
+    abbrev kept : List Connection
+    kept = gather (keptConnections t j) (connectionsAt t j)
+
+    abbrev junctionBy : Option Span → Option Junction
+    junctionBy o = mapO (λ n. record { name = n; kind = kindAt t j; connections = kept }) o
+
     connections-most : length (connectionsOf (toList (readJunction t j))) ≤ count
     unfolding readJunction
     connections-most = go (nameIn (rawJunction t j) 0)
       where
-        kept : List Connection
-        kept = gather (keptConnections t j) (connectionsAt t j)
-
-        go : (o : Option Span) → length (connectionsOf (toList (mapO (λ n. record { name = n; kind = kindAt t j; connections = kept }) o))) ≤ count
+        go : (o : Option Span) → length (connectionsOf (toList (junctionBy o))) ≤ count
         go none = omega arith
         go (some n) =
-            let a = length-append kept [] in
-            let b = gather-most 1 (keptConnections t j) (connectionsAt t j) (kept-one j) in
-            let d = part-length first count in
-            omega arith
+            let one-each = gather-most 1 (keptConnections t j) (connectionsAt t j) (kept-one j) in
+            omega (arith, length-append kept [], part-length first count)
 
-    pairs-most : pairs-to first + length (pairsOf (connectionsOf (toList (readJunction t j)))) ≤ pairs-to (first + count)
+    pairs-most : pairs-to first + length (pairsOf (connectionsOf (toList (readJunction t j))))
+        ≤ pairs-to (first + count)
     unfolding readJunction
     pairs-most = go (nameIn (rawJunction t j) 0)
       where
-        go : (o : Option Span) → pairs-to first + length (pairsOf (connectionsOf (toList (mapO (λ n. record { name = n; kind = kindAt t j; connections = gather (keptConnections t j) (partRows first count) }) o)))) ≤ total (first + count) (counts 14 13 cs)
-        go none = let a = total-le first (first + count) (counts 14 13 cs) (omega arith) in omega arith
+        each : (c : ℕ) → c < first + count → pairs-to c + length (pairsOf (keptConnections t j c)) ≤ pairs-to (c + 1)
+        each c within = omega (arith, kept-pairs j c, total-more c linksOf)
+
+        go : (o : Option Span)
+            → pairs-to first + length (pairsOf (connectionsOf (toList (junctionBy o)))) ≤ pairs-to (first + count)
+        go none = omega (arith, total-le first (first + count) linksOf (omega arith))
         go (some n) =
-            let e = ap length (ap pairsOf (append-nil (gather (keptConnections t j) (partRows first count))) ∙ gather-gather (keptConnections t j) (λ (c : Connection). c .pairs) (partRows first count)) in
-            let a = rows-most (λ c. pairsOf (keptConnections t j c)) (λ c. total c (counts 14 13 cs)) (first + count) (λ c h. let x = kept-pairs j c in let y = total-more c (counts 14 13 cs) in omega arith) first count (omega arith) in
-            omega arith
+            let pairs =
+            ap pairsOf (append-nil kept)
+            ∙ gather-gather (keptConnections t j) (λ (c : Connection). c .pairs) (partRows first count) in
+            let most =
+            rows-most (λ c. pairsOf (keptConnections t j c)) pairs-to (first + count) each first count
+            (omega arith) in
+            omega (arith, ap length pairs)
+
+    -- the warnings of its connections, read or not
+    abbrev read : List ReadWarning
+    read = gather (connectionWarnings t j) (partRows first count)
+
+    abbrev unread : List ReadWarning
+    unread = map (connectionDropped j) (partRows first count)
 
     warnings-most : warned-to first + length (junctionWarnings t j) ≤ warned-to (first + count)
     unfolding junctionWarnings
     warnings-most = go (isSome (nameIn (rawJunction t j) 0))
       where
-        go : (b : Bool) → first + pairs-to first + length (cond b (gather (connectionWarnings t j) (partRows first count)) (map (connectionDropped j) (partRows first count))) ≤ first + count + total (first + count) (counts 14 13 cs)
-        go true = rows-most (connectionWarnings t j) (λ c. c + total c (counts 14 13 cs)) (first + count) (λ c h. let x = warned j c in let y = total-more c (counts 14 13 cs) in omega arith) first count (omega arith)
+        each : (c : ℕ) → c < first + count → warned-to c + length (connectionWarnings t j c) ≤ warned-to (c + 1)
+        each c within = omega (arith, warned j c, total-more c linksOf)
+
+        go : (b : Bool) → warned-to first + length (cond b read unread) ≤ warned-to (first + count)
+        go true = rows-most (connectionWarnings t j) warned-to (first + count) each first count (omega arith)
         go false =
-            let a = length-map (partRows first count) (connectionDropped j) in
-            let b = part-length first count in
-            let d = total-le first (first + count) (counts 14 13 cs) (omega arith) in
-            omega arith
+            let one-each = length-map (partRows first count) (connectionDropped j) in
+            omega (arith, part-length first count, total-le first (first + count) linksOf (omega arith))
 
   -- ---- all of them
-  module _ (r : Ready js cs ls) where
+  module _ (r : Ready (t .junctions) (t .connections) (t .laneLinks)) where
     -- a junction's part ends where the next begins
-    begins : (j : ℕ) → j < length js / 8 → (first j ≡ total j (counts 8 7 js)) × (first j + count j ≡ total (j + 1) (counts 8 7 js))
-    begins j h =
-        let a = word-of 8 j js 6 (omega arith) in
-        let b = word-of 8 j js 7 (omega arith) in
-        let d = r .connection-parts .begins j h in
-        let e = total-more j (counts 8 7 js) in
-        (omega arith, omega arith)
+    begins : (j : ℕ) → j < length (t .junctions) / 8
+        → (first j ≡ total j sizesOf) × (first j + count j ≡ total (j + 1) sizesOf)
+    begins j there =
+        let first-is = word-of 8 j (t .junctions) 6 (omega arith) in
+        let count-is = word-of 8 j (t .junctions) 7 (omega arith) in
+        let next = total-more j sizesOf in
+        let part = r .connection-parts .begins j there in (omega arith, omega arith)
 
     -- what every junction adds, by what it adds to its part
-    all-most : {A : Type 0} (f : ℕ → List A) (g : ℕ → ℕ) → ((j : ℕ) → g (first j) + length (f j) ≤ g (first j + count j)) → g 0 + length (gather f (partRows 0 (length js / 8))) ≤ g (length cs / 14)
-    all-most f g h =
-        let a = rows-most f (λ j. g (total j (counts 8 7 js))) (length js / 8) (λ j l. let b = begins j l in let x = ap g (b .0) in let y = ap g (b .1) in let z = h j in omega arith) 0 (length js / 8) (omega arith) in
-        let w = ap g (r .connection-parts .whole) in
-        let z = ap g (sym (total-none (counts 8 7 js))) in
-        let n : 0 + length js / 8 ≡ length js / 8 = omega arith in
-        let e = ap (λ (k : ℕ). g (total k (counts 8 7 js))) n in
-        omega arith
+    all-most : {A : Type 0} (f : ℕ → List A) (g : ℕ → ℕ)
+        → ((j : ℕ) → g (first j) + length (f j) ≤ g (first j + count j))
+        → g 0 + length (gather f (partRows 0 (length (t .junctions) / 8))) ≤ g (length (t .connections) / 14)
+    all-most f g each =
+        let n = length (t .junctions) / 8 in
+        let from-front : 0 + n ≡ n = omega arith in
+        let most = rows-most f (λ j. g (total j sizesOf)) n at 0 n (omega arith) in
+        let start = ap g (sym (total-none sizesOf)) in
+        let end = ap (λ (k : ℕ). g (total k sizesOf)) from-front in
+        omega (arith, ap g (r .connection-parts .whole))
+      where
+        at : (j : ℕ) → j < length (t .junctions) / 8
+            → g (total j sizesOf) + length (f j) ≤ g (total (j + 1) sizesOf)
+        at j there =
+            let part = begins j there in
+            omega (arith, ap g (part .0), ap g (part .1), each j)
 
-    few : (length (readJunctions t) ≤ 16384) × (length (allConnections (readJunctions t)) ≤ 16384) × (length (allPairs (readJunctions t)) ≤ 16384) × (length (readWarnings t) ≤ 32768)
+    few : (length (readJunctions t) ≤ 16384) × (length (allConnections (readJunctions t)) ≤ 16384)
+        × (length (allPairs (readJunctions t)) ≤ 16384) × (length (readWarnings t) ≤ 32768)
     unfolding readJunctions readWarnings allConnections allPairs
     few =
-        let rows = partRows 0 (length js / 8) in
-        let a = gather-most 1 (λ j. toList (readJunction t j)) rows (λ j. one-most (readJunction t j)) in
-        let b = part-length 0 (length js / 8) in
-        let x = r .few-junctions in
-        let y = r .few-connections in
-        let z = r .few-links in
-        let cg = gather-gather (λ j. toList (readJunction t j)) (λ (j : Junction). j .connections) rows in
-        let c = all-most (λ j. connectionsOf (toList (readJunction t j))) (λ k. k) (λ j. let m = connections-most j in omega arith) in
-        let ce = ap length cg in
-        let pe = ap length (ap pairsOf cg ∙ gather-gather (λ j. connectionsOf (toList (readJunction t j))) (λ (c : Connection). c .pairs) rows) in
-        let p = all-most (λ j. pairsOf (connectionsOf (toList (readJunction t j)))) pairs-to pairs-most in
-        let w = all-most (junctionWarnings t) warned-to warnings-most in
-        let e = r .link-parts .whole in
-        (omega arith, omega arith, omega arith, omega arith)
+        let rows = partRows 0 (length (t .junctions) / 8) in
+        let read : ℕ → List Junction = λ j. toList (readJunction t j) in
+        let junctions = gather-most 1 read rows (λ j. one-most (readJunction t j)) in
+        let parts = gather-gather read (λ (j : Junction). j .connections) rows in
+        let connections =
+        all-most (λ j. connectionsOf (read j)) (λ k. k) (λ j. let most = connections-most j in omega arith) in
+        let part-pairs =
+        ap pairsOf parts
+        ∙ gather-gather (λ j. connectionsOf (read j)) (λ (c : Connection). c .pairs) rows in
+        let pairs = all-most (λ j. pairsOf (connectionsOf (read j))) pairs-to pairs-most in
+        let warnings = all-most (junctionWarnings t) warned-to warnings-most in (
+          omega (arith, part-length 0 (length (t .junctions) / 8), r .few-junctions),
+          omega (arith, ap length parts, r .few-connections),
+          omega (arith, ap length part-pairs, r .link-parts .whole, r .few-links),
+          omega (arith, r .link-parts .whole, r .few-links, r .few-connections),
+        )
 
-pub junctions-fit : (text js cs ls : List ℕ) (o : JunctionOutputs) (rows : List ℕ) → wrote rows ≡ readJunctionsCall (rawTables text js cs ls) o .answer → Words rows
-unfolding readJunctionsCall junctionCounts junctionContent
-junctions-fit text js cs ls o rows q =
-    let t = rawTables text js cs ls in
-    let w = wrote-of (readJunctionsRefusal t (junctionLengths o)) (junctionCounts (junctionContent t)) (putJunctions (junctionContent t) o) o q in
-    let h = unbroken-append (rawJunctionRules t) (longEnough (junctionLengths (junctionContent t)) (junctionLengths o)) (w .0) .0 in
-    let f = few text js cs ls (ready text js cs ls (sym h)) in
-    let f0 = f .0 in
-    let f1 = f .1 in
-    let f2 = f .2 in
-    let f3 = f .3 in
-    let s0 = length-junctions (readJunctions t) in
-    let s1 = length-connections (readJunctions t) in
-    let s2 = length-pairs (readJunctions t) in
-    let s3 = gather-most 4 readWarningRow (readWarnings t) four in
-    subst Words (sym (w .1)) (omega arith, (omega arith, (omega arith, (omega arith, tt))))
+junction-words : (t : RawTables) → firstBroken (rawJunctionRules t) ≡ none
+    → Words (junctionCounts (junctionContent t))
+unfolding junctionCounts junctionContent
+junction-words t unbroken =
+    let few-rows = few t (ready t (sym unbroken)) in
+    let few-junctions = few-rows .0 in
+    let few-connections = few-rows .1 in
+    let few-pairs = few-rows .2 in
+    let few-warnings = few-rows .3 in
+    let junctions = length-junctions (readJunctions t) in
+    let connections = length-connections (readJunctions t) in
+    let pairs = length-pairs (readJunctions t) in
+    let warnings = gather-most 4 readWarningRow (readWarnings t) four in
+    (omega arith, (omega arith, (omega arith, (omega arith, tt))))
   where
     four : (w : ReadWarning) → length (readWarningRow w) ≤ 4
     four (connectionDropped j c) = omega arith
     four (laneLinkDropped j c l) = omega arith
+
+pub junctions-counted : (t : RawTables) (o : JunctionOutputs) {y : Answer} {after : JunctionOutputs}
+    → outcome y after ≡ readJunctionsCall t o → Counted y
+unfolding readJunctionsCall
+junctions-counted t o e = counted junctionWriting (rawJunctionRules t) (junctionContent t) o e (junction-words t)

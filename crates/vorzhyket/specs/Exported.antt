@@ -6,7 +6,8 @@ use Rattle.geometry.specs.Root as geometry
 use Rattle.model.specs.Calls.{Answer, Outcome, refused, wrote}
 use Rattle.model.specs.Length.{Checked, fine, reported, uneven}
 
--- the number returned, and `written`, which held `before`: an accepted call returns 0 and leaves the rows written to each output, a refusal returns its number and leaves `written` as it was
+-- the number returned, and `written`, which held `before`: an accepted call returns 0 and leaves the rows written to
+-- each output, a refusal returns its number and leaves `written` as it was
 abbrev pub answered : Answer → List ℕ → ℕ × List ℕ
 answered (wrote rows) before = (0, rows)
 answered (refused k) before = (k, before)

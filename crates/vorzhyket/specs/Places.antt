@@ -28,7 +28,8 @@ abbrev pub asksBefore : ℕ → Bool
 asksBefore before = not (eqb before 0)
 
 -- the place of a lane's list among the identities that are asked
-unfoldable pub lookupPlace : (successorOffsets successorIds predecessorOffsets predecessorIds : List ℕ) → ℕ → Bool → List ℕ
+unfoldable pub lookupPlace : (successorOffsets successorIds predecessorOffsets predecessorIds : List ℕ) → ℕ → Bool
+    → List ℕ
 lookupPlace so si po pi row before = pick before (listPlace so si row) (listPlace po pi row)
 
 -- a name's bytes begin at the name's start

@@ -6,7 +6,7 @@ use succession::answer::Succession;
 use tables::check::number;
 ghost use mathlib.Core.Path.{_≡_};
 ghost use Rattle.repair.specs.Answers as repair;
-ghost use Rattle.succession.specs.Outcome as succession;
+ghost use Rattle.succession.specs.Answers as succession;
 ghost use Rattle.gaps.specs.Answers as gaps;
 ghost use Rattle.reversal.specs.Answers as reversal;
 ghost use Rattle.vorzhyket.specs.Exported.{answered, Counted};

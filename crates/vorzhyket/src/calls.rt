@@ -1,4 +1,5 @@
-// The four calls over the tables of a map. Each returns 0 and leaves in `written` the rows written to each output, or returns the number of a refusal and changes no lent word.
+// The four calls over the tables of a map. Each returns 0 and leaves in `written` the rows written to each output, or
+// returns the number of a refusal and changes no lent word.
 use crate::answers::listed;
 use crate::answers::measured;
 use crate::answers::repaired;
@@ -10,9 +11,9 @@ use succession::call::succession;
 ghost use mathlib.Core.Path.{_≡_};
 ghost use Rattle.model.specs.Calls.{repairCall, successionCall, gapCall, reversalCall};
 ghost use Rattle.model.specs.Tables.{mapTables, laneTables, allTables};
-ghost use Rattle.repair.specs.Answers.{outs};
-ghost use Rattle.succession.specs.Outcome.{outputs};
-ghost use Rattle.reversal.specs.Answers.{sixOf};
+ghost use Rattle.repair.specs.Answers as repair;
+ghost use Rattle.succession.specs.Answers as succession;
+ghost use Rattle.reversal.specs.Answers as reversal;
 ghost use Rattle.vorzhyket.specs.Exported.{exported};
 
 // The map repaired, and a warning for each link that it lacked.
@@ -31,7 +32,17 @@ pub extern "C" fn vz_repair(
     warnings_out: &mut [u32],
     written: &mut [u32; 5],
 ) -> u32
-    ensures { λ q. ⌜ ((q, now (written .exit)), outs (now («roads_out» .exit)) (now («junctions_out» .exit)) (now («connections_out» .exit)) (now («pairs_out» .exit)) (now («warnings_out» .exit))) ≡ exported (repairCall (mapTables (now (text .entry)) (now (roads .entry)) (now (sections .entry)) (now (junctions .entry)) (now (connections .entry)) (now (pairs .entry))) (outs (now («roads_out» .entry)) (now («junctions_out» .entry)) (now («connections_out» .entry)) (now («pairs_out» .entry)) (now («warnings_out» .entry)))) (now (written .entry)) ⌝ }
+    ensures { λ q. ⌜ (
+      (q, now (written .exit)),
+      repair.outputs (now («roads_out» .exit)) (now («junctions_out» .exit)) (now («connections_out» .exit))
+          (now («pairs_out» .exit)) (now («warnings_out» .exit)),
+    )
+        ≡ exported (repairCall
+        (mapTables (now (text .entry)) (now (roads .entry)) (now (sections .entry)) (now (junctions .entry))
+        (now (connections .entry)) (now (pairs .entry)))
+        (repair.outputs (now («roads_out» .entry)) (now («junctions_out» .entry)) (now («connections_out» .entry))
+        (now («pairs_out» .entry)) (now («warnings_out» .entry))))
+        (now (written .entry)) ⌝ }
 {
     let a = repair(
         text,
@@ -65,7 +76,17 @@ pub extern "C" fn vz_succession(
     predecessor_ids: &mut [u32],
     written: &mut [u32; 4],
 ) -> u32
-    ensures { λ q. ⌜ ((q, now (written .exit)), outputs (now («successor_offsets» .exit)) (now («successor_ids» .exit)) (now («predecessor_offsets» .exit)) (now («predecessor_ids» .exit))) ≡ exported (successionCall (laneTables (now (text .entry)) (now (roads .entry)) (now (sections .entry)) (now (junctions .entry)) (now (connections .entry)) (now (pairs .entry)) (now (lanes .entry))) (outputs (now («successor_offsets» .entry)) (now («successor_ids» .entry)) (now («predecessor_offsets» .entry)) (now («predecessor_ids» .entry)))) (now (written .entry)) ⌝ }
+    ensures { λ q. ⌜ (
+      (q, now (written .exit)),
+      succession.outputs (now («successor_offsets» .exit)) (now («successor_ids» .exit))
+          (now («predecessor_offsets» .exit)) (now («predecessor_ids» .exit)),
+    )
+        ≡ exported (successionCall
+        (laneTables (now (text .entry)) (now (roads .entry)) (now (sections .entry)) (now (junctions .entry))
+        (now (connections .entry)) (now (pairs .entry)) (now (lanes .entry)))
+        (succession.outputs (now («successor_offsets» .entry)) (now («successor_ids» .entry))
+        (now («predecessor_offsets» .entry)) (now («predecessor_ids» .entry))))
+        (now (written .entry)) ⌝ }
 {
     let a = succession(
         text,
@@ -99,7 +120,12 @@ pub extern "C" fn vz_gaps(
     gaps_out: &mut [u32],
     written: &mut [u32; 1],
 ) -> u32
-    ensures { λ q. ⌜ ((q, now (written .exit)), now («gaps_out» .exit)) ≡ exported (gapCall (allTables (now (text .entry)) (now (roads .entry)) (now (sections .entry)) (now (junctions .entry)) (now (connections .entry)) (now (pairs .entry)) (now (lanes .entry)) (now (edges .entry))) (now (offsets .entry)) (now (ids .entry)) (now («gaps_out» .entry))) (now (written .entry)) ⌝ }
+    ensures { λ q. ⌜ ((q, now (written .exit)), now («gaps_out» .exit))
+        ≡ exported (gapCall
+        (allTables (now (text .entry)) (now (roads .entry)) (now (sections .entry)) (now (junctions .entry))
+        (now (connections .entry)) (now (pairs .entry)) (now (lanes .entry)) (now (edges .entry)))
+        (now (offsets .entry)) (now (ids .entry)) (now («gaps_out» .entry)))
+        (now (written .entry)) ⌝ }
 {
     let a = link_gaps(
         text,
@@ -137,7 +163,18 @@ pub extern "C" fn vz_reverse(
     edges_out: &mut [f32],
     written: &mut [u32; 6],
 ) -> u32
-    ensures { λ q. ⌜ ((q, now (written .exit)), sixOf (now («roads_out» .exit)) (now («sections_out» .exit)) (now («connections_out» .exit)) (now («pairs_out» .exit)) (now («lanes_out» .exit)) (now («edges_out» .exit))) ≡ exported (reversalCall (allTables (now (text .entry)) (now (roads .entry)) (now (sections .entry)) (now (junctions .entry)) (now (connections .entry)) (now (pairs .entry)) (now (lanes .entry)) (now (edges .entry))) (now (marks .entry)) (sixOf (now («roads_out» .entry)) (now («sections_out» .entry)) (now («connections_out» .entry)) (now («pairs_out» .entry)) (now («lanes_out» .entry)) (now («edges_out» .entry)))) (now (written .entry)) ⌝ }
+    ensures { λ q. ⌜ (
+      (q, now (written .exit)),
+      reversal.outputs (now («roads_out» .exit)) (now («sections_out» .exit)) (now («connections_out» .exit))
+          (now («pairs_out» .exit)) (now («lanes_out» .exit)) (now («edges_out» .exit)),
+    )
+        ≡ exported (reversalCall
+        (allTables (now (text .entry)) (now (roads .entry)) (now (sections .entry)) (now (junctions .entry))
+        (now (connections .entry)) (now (pairs .entry)) (now (lanes .entry)) (now (edges .entry)))
+        (now (marks .entry))
+        (reversal.outputs (now («roads_out» .entry)) (now («sections_out» .entry)) (now («connections_out» .entry))
+        (now («pairs_out» .entry)) (now («lanes_out» .entry)) (now («edges_out» .entry))))
+        (now (written .entry)) ⌝ }
 {
     let a = reverse(
         text,

@@ -27,7 +27,9 @@ pub extern "C" fn vz_list(
     before: u32,
     part: &mut [u32; 2],
 )
-    ensures { λ _. ⌜ now (part .exit) ≡ lookupPlace (now («successor_offsets» .entry)) (now («successor_ids» .entry)) (now («predecessor_offsets» .entry)) (now («predecessor_ids» .entry)) row (asksBefore before) ⌝ }
+    ensures { λ _. ⌜ now (part .exit)
+        ≡ lookupPlace (now («successor_offsets» .entry)) (now («successor_ids» .entry))
+        (now («predecessor_offsets» .entry)) (now («predecessor_ids» .entry)) row (asksBefore before) ⌝ }
 {
     if before == 0 {
         *part = list_place(successor_offsets, successor_ids, row);

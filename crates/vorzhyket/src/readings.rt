@@ -1,4 +1,5 @@
-// Attribute reading, and the length check. Each reading returns 0 and leaves in `written` the rows written to each output, or returns the number of a refusal and changes no lent word.
+// Attribute reading, and the length check. Each reading returns 0 and leaves in `written` the rows written to each
+// output, or returns the number of a refusal and changes no lent word.
 use reading::junctions::ReadJunctions;
 use reading::junctions::read_junctions;
 use reading::lanes::ReadTable;
@@ -12,7 +13,6 @@ ghost use Rattle.model.specs.Length.{lengthCall};
 ghost use Rattle.model.specs.ReadingCalls.{readJunctionsCall, readLanesCall, readTargetsCall};
 ghost use Rattle.reading.specs.Answers as reading;
 ghost use Rattle.reading.specs.JunctionAnswers as junctions;
-ghost use Rattle.reading.specs.JunctionAnswers.{outs};
 ghost use Rattle.reading.specs.Laid.{rawTables};
 ghost use Rattle.vorzhyket.specs.Exported.{Counted, answered, exported, exportedLength};
 
@@ -57,13 +57,16 @@ pub extern "C" fn vz_read_targets(
     targets_out: &mut [u32],
     written: &mut [u32; 1],
 ) -> u32
-    ensures { λ q. ⌜ ((q, now (written .exit)), now («targets_out» .exit)) ≡ exported (readTargetsCall (now (text .entry)) (now (raw .entry)) (now («targets_out» .entry))) (now (written .entry)) ⌝ }
+    ensures { λ q. ⌜ ((q, now (written .exit)), now («targets_out» .exit))
+        ≡ exported (readTargetsCall (now (text .entry)) (now (raw .entry)) (now («targets_out» .entry)))
+        (now (written .entry)) ⌝ }
 {
     let targets = read_targets(text, raw, targets_out);
     table_read(targets, written)
 }
 
-// The junctions, connections and pairs of the raw tables, and a warning for each connection or lane link that is dropped.
+// The junctions, connections and pairs of the raw tables, and a warning for each connection or lane link that is
+// dropped.
 #[no_mangle]
 pub extern "C" fn vz_read_junctions(
     text: &[u8],
@@ -76,7 +79,17 @@ pub extern "C" fn vz_read_junctions(
     warnings_out: &mut [u32],
     written: &mut [u32; 4],
 ) -> u32
-    ensures { λ q. ⌜ ((q, now (written .exit)), outs (now («junctions_out» .exit)) (now («connections_out» .exit)) (now («pairs_out» .exit)) (now («warnings_out» .exit))) ≡ exported (readJunctionsCall (rawTables (now (text .entry)) (now («raw_junctions» .entry)) (now («raw_connections» .entry)) (now («raw_lane_links» .entry))) (outs (now («junctions_out» .entry)) (now («connections_out» .entry)) (now («pairs_out» .entry)) (now («warnings_out» .entry)))) (now (written .entry)) ⌝ }
+    ensures { λ q. ⌜ (
+      (q, now (written .exit)),
+      junctions.outputs (now («junctions_out» .exit)) (now («connections_out» .exit)) (now («pairs_out» .exit))
+          (now («warnings_out» .exit)),
+    )
+        ≡ exported (readJunctionsCall
+        (rawTables (now (text .entry)) (now («raw_junctions» .entry)) (now («raw_connections» .entry))
+        (now («raw_lane_links» .entry)))
+        (junctions.outputs (now («junctions_out» .entry)) (now («connections_out» .entry)) (now («pairs_out» .entry))
+        (now («warnings_out» .entry))))
+        (now (written .entry)) ⌝ }
 {
     let a = read_junctions(
         text,
@@ -99,16 +112,20 @@ pub extern "C" fn vz_read_lanes(
     links_out: &mut [u32],
     written: &mut [u32; 1],
 ) -> u32
-    ensures { λ q. ⌜ ((q, now (written .exit)), now («links_out» .exit)) ≡ exported (readLanesCall (now (text .entry)) (now (raw .entry)) (now («links_out» .entry))) (now (written .entry)) ⌝ }
+    ensures { λ q. ⌜ ((q, now (written .exit)), now («links_out» .exit))
+        ≡ exported (readLanesCall (now (text .entry)) (now (raw .entry)) (now («links_out» .entry)))
+        (now (written .entry)) ⌝ }
 {
     let links = read_lanes(text, raw, links_out);
     table_read(links, written)
 }
 
-// 1 and where the plan view ends in `sum`, if that is off the road's length; 0 if there is nothing to report, 16 if starts and lengths differ in count, and `sum` stays.
+// 1 and where the plan view ends in `sum`, if that is off the road's length; 0 if there is nothing to report, 16 if
+// starts and lengths differ in count, and `sum` stays.
 #[no_mangle]
 pub extern "C" fn vz_length(starts: &[f64], lengths: &[f64], length: f64, sum: &mut f64) -> u32
-    ensures { λ q. ⌜ (q, now (sum .exit)) ≡ exportedLength (lengthCall (now (starts .entry)) (now (lengths .entry)) length) (now (sum .entry)) ⌝ }
+    ensures { λ q. ⌜ (q, now (sum .exit))
+        ≡ exportedLength (lengthCall (now (starts .entry)) (now (lengths .entry)) length) (now (sum .entry)) ⌝ }
 {
     let a = check_length(starts, lengths, length);
     match a {

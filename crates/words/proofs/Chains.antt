@@ -1,6 +1,6 @@
 -- The laws of hash chains, over any hash and any test of a row against a key.
 use Prim.Native.Nat.{ℕ, zero, suc, _+_, _-_, _<_, _≤_}
-use mathlib.Core.Path.{_≡_, refl, sym, ap, _∙_, subst, subst₂}
+use mathlib.Core.Path.{_≡_, refl, sym, ap, _∙_, subst}
 use mathlib.Core.Logic.{⊎-elim}
 use mathlib.Core.List.{List}
 use mathlib.Core.Bool.{Bool, true, false, _||_}
@@ -49,6 +49,9 @@ pub last-le : (n : ℕ) (p : ℕ → Bool) → lastOf n p ≤ n
 last-le zero p = rw last-none (le-refl 0)
 last-le (suc n) p =
     let ih = last-le n p in by-last (λ (k : ℕ). k ≤ suc n) n p (λ e. le-refl (suc n)) (λ e. le-step ih)
+
+pub found-le : (n : ℕ) (p : ℕ → Bool) {found : ℕ} → found ≡ lastOf n p → found ≤ n
+found-le n p is = rw is (last-le n p)
 
 -- the row that is found has p
 pub last-has : (n r : ℕ) (p : ℕ → Bool) → lastOf n p ≡ suc r → p r ≡ true

@@ -69,32 +69,31 @@ module _ {A : Type 0} where
   pub rows-begin : (f : ℕ → List A) (out : List A) → out ≡ written (joined 0 f) out
   rows-begin f out = sym (ap (λ (l : List A). written l out) (joined-none f) ∙ written-none out)
 
-  pub rows-turn : (w i : ℕ) (f : ℕ → List A) (out₀ : List A) {row out out′ : List A}
-      → ((k : ℕ) → length (f k) ≡ w) → out ≡ written (joined i f) out₀ → row ≡ f i
-      → out′ ≡ spliced (i * w) row out → i * w + w ≤ length out₀ →
-      out′ ≡ written (joined (i + 1) f) out₀
-  rows-turn w i f out₀ {row} {out} {out′} even e r p h =
-      put-step (joined i f) (f i) out₀ e (p ∙ ap (λ (l : List A). spliced (i * w) l out) r)
-      (sym (joined-even w i f even)) (joined-more i f) (let z = even i in omega arith)
+  pub rows-turn : (w i : ℕ) (f : ℕ → List A) (old : List A) {row out new : List A}
+      → ((k : ℕ) → length (f k) ≡ w) → out ≡ written (joined i f) old → row ≡ f i
+      → new ≡ spliced (i * w) row out → i * w + w ≤ length old → new ≡ written (joined (i + 1) f) old
+  rows-turn w i f old {row} {out} {new} even so-far is put room =
+      put-step (joined i f) (f i) old so-far (put ∙ ap (λ (l : List A). spliced (i * w) l out) is)
+      (sym (joined-even w i f even)) (joined-more i f) (let long = even i in omega arith)
 
   -- the parts of a table: each is put where those before it end
-  pub parts-turn : (i at : ℕ) (f : ℕ → List A) (out₀ : List A) {out out′ : List A} → at ≡ length (joined i f)
-      → out ≡ written (joined i f) out₀ → out′ ≡ spliced at (f i) out → at + length (f i) ≤ length out₀ →
-      out′ ≡ written (joined (i + 1) f) out₀
-  parts-turn i at f out₀ {out} {out′} g e p h = put-step (joined i f) (f i) out₀ e p g (joined-more i f) h
+  pub parts-turn : (i at : ℕ) (f : ℕ → List A) (old : List A) {out new : List A} → at ≡ length (joined i f)
+      → out ≡ written (joined i f) old → new ≡ spliced at (f i) out → at + length (f i) ≤ length old
+      → new ≡ written (joined (i + 1) f) old
+  parts-turn i at f old here so-far put room = put-step (joined i f) (f i) old so-far put here (joined-more i f) room
 
   -- the same within a part
-  pub within-turn : (w at k : ℕ) (f : ℕ → List A) (out₀ : List A) {row out out′ : List A} {here : ℕ}
-      → ((k : ℕ) → length (f k) ≡ w) → out ≡ spliced at (joined k f) out₀ → row ≡ f k → here ≡ at + k * w
-      → out′ ≡ spliced here row out → at + k * w + w ≤ length out₀ →
-      out′ ≡ spliced at (joined (k + 1) f) out₀
-  within-turn w at k f out₀ {row} {out} {out′} {here} even e r g p h =
-      let n = joined-even w k f even in
-      let l = even k in
-      p ∙ ap₂ (λ (a : ℕ) (o : List A). spliced a row o) (g ∙ ap (λ (m : ℕ). at + m) (sym n)) e
-      ∙ ap (λ (x : List A). spliced (at + length (joined k f)) x (spliced at (joined k f) out₀)) r
-      ∙ spliced-twice at (joined k f) (f k) out₀ (omega arith)
-      ∙ ap (λ (x : List A). spliced at x out₀) (sym (joined-more k f))
+  pub within-turn : (w at k : ℕ) (f : ℕ → List A) (old : List A) {row out new : List A} {here : ℕ}
+      → ((k : ℕ) → length (f k) ≡ w) → out ≡ spliced at (joined k f) old → row ≡ f k → here ≡ at + k * w
+      → new ≡ spliced here row out → at + k * w + w ≤ length old → new ≡ spliced at (joined (k + 1) f) old
+  within-turn w at k f old {row} {out} {new} {here} even so-far is at-is put room =
+      let before = joined-even w k f even in
+      let long = even k in
+      put
+      ∙ ap₂ (λ (a : ℕ) (o : List A). spliced a row o) (at-is ∙ ap (λ (m : ℕ). at + m) (sym before)) so-far
+      ∙ ap (λ (x : List A). spliced (at + length (joined k f)) x (spliced at (joined k f) old)) is
+      ∙ spliced-twice at (joined k f) (f k) old (omega arith)
+      ∙ ap (λ (x : List A). spliced at x old) (sym (joined-more k f))
 
 -- room for row i, where the output has room for the table
 pub row-room : (len w i out : ℕ) → i < len / w → len ≤ out → i * w + w ≤ out

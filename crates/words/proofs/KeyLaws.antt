@@ -1,16 +1,15 @@
 -- Names as bytes, and what the chains need of each kind of key: equal keys lie in one bucket.
-use Prim.Native.Nat.{ℕ, zero, suc, _+_, _*_, _-_, _/_, _%_, _<_, _≤_}
-use Prim.Native.Nat.{min}
+use Prim.Native.Nat.{ℕ, zero, suc, _+_, _*_, _-_, _/_, _%_, _<_, _≤_, min}
 use mathlib.Core.Path.{_≡_, refl, sym, ap, ap₂, _∙_, subst}
 use mathlib.Core.List.{List, [], _∷_}
 use mathlib.Core.Bool.{Bool, true, false, not, _&&_, _||_, false≢true, cond}
 use native.Mathlib.Numerals.{add-one}
 use native.Mathlib.Omega.{arith}
-use native.Mathlib.Nat.{div-add-mod'}
+use native.Mathlib.Nat.{div-add-mod', le-of-lt, le-trans, mul-le-mul-right}
 use lib.ListN.{length, getD, take, drop, drop-of-length-le, length-drop}
 use lib.Seq.{drop-cons, take-all}
 use lib.Dec.{eqb, ltb}
-use borrow.Author.Tests.{eq-eqb, eqb-true, ne-eqb, le-leb, lt-leb}
+use borrow.Author.Tests.{eq-eqb, eqb-true, eqb-false, ne-eqb, le-leb, lt-leb, ltb-true, ltb-false}
 use Rattle.model.specs.Records.{Span}
 use Rattle.model.specs.Text.{bytesOf, equalBytes, nameBytes, placed, sameIn}
 use Rattle.words.specs.Keys.{bears, hashFrom, hashName, idHash, isDirectOf, isId, isKey, keyHash}
@@ -47,7 +46,7 @@ equal-off a b h = go (equalBytes a b) refl
 pub name-past : (text : List ℕ) (s n : ℕ) → length text < s
     → take 0 (drop (length text) text) ≡ bytesOf text (span s n)
 unfolding bytesOf
-name-past text s n h = sym (ap (take n) (drop-of-length-le text (native.Mathlib.Nat.le-of-lt h)) ∙ none n)
+name-past text s n h = sym (ap (take n) (drop-of-length-le text (le-of-lt h)) ∙ none n)
   where
     none : (n : ℕ) → _≡_ {A = List ℕ} (take n []) []
     none zero = refl
@@ -60,35 +59,32 @@ name-cut text s n h l =
     let d = length-drop s text in
     take-all (length text - s) (drop s text) (omega arith) ∙ sym (take-all n (drop s text) (omega arith))
 
-pub name-any : (text : List ℕ) (s n : ℕ)
-    → take (min (s + n) (length text) - min s (length text)) (drop (min s (length text)) text)
-    ≡ bytesOf text (span s n)
+-- the part of the text between a name's ends, each cut down to the text's length
+abbrev pub cutPart : List ℕ → ℕ → ℕ → List ℕ
+cutPart text s n = take (min (s + n) (length text) - min s (length text)) (drop (min s (length text)) text)
+
+pub name-any : (text : List ℕ) (s n : ℕ) → cutPart text s n ≡ bytesOf text (span s n)
 unfolding bytesOf
 name-any text s n = go (ltb (length text) s) refl (ltb (length text) (s + n)) refl
   where
+    -- with the two ends worked out
+    ends : {size start : ℕ} → min (s + n) (length text) - min s (length text) ≡ size → min s (length text) ≡ start
+        → cutPart text s n ≡ take size (drop start text)
+    ends size-is start-is = ap₂ (λ (i j : ℕ). take i (drop j text)) size-is start-is
+
     go : (b : Bool) → ltb (length text) s ≡ b → (d : Bool) → ltb (length text) (s + n) ≡ d
-        → take (min (s + n) (length text) - min s (length text)) (drop (min s (length text)) text)
-        ≡ bytesOf text (span s n)
+        → cutPart text s n ≡ bytesOf text (span s n)
     go true e d f =
-        let h : length text < s = borrow.Author.Tests.ltb-true (length text) s e in
-        let x : min (s + n) (length text) - min s (length text) ≡ 0 = omega arith in
-        let y : min s (length text) ≡ length text = omega arith in
-        ap₂ (λ (i j : ℕ). take i (drop j text)) x y ∙ name-past text s n h
+        let starts-past : length text < s = ltb-true (length text) s e in
+        ends {size = 0} {start = length text} (omega arith) (omega arith) ∙ name-past text s n starts-past
     go false e true f =
-        let h : s ≤ length text = borrow.Author.Tests.ltb-false (length text) s e in
-        let l : length text < s + n = borrow.Author.Tests.ltb-true (length text) (s + n) f in
-        let x : min (s + n) (length text) - min s (length text) ≡ length text - s = omega arith in
-        let y : min s (length text) ≡ s = omega arith in
-        ap₂ (λ (i j : ℕ). take i (drop j text)) x y ∙ name-cut text s n h l
+        let starts-in : s ≤ length text = ltb-false (length text) s e in
+        let ends-past : length text < s + n = ltb-true (length text) (s + n) f in
+        ends {size = length text - s} {start = s} (omega arith) (omega arith) ∙ name-cut text s n starts-in ends-past
     go false e false f =
-        let h : s ≤ length text = borrow.Author.Tests.ltb-false (length text) s e in
-        let l : s + n ≤ length text = borrow.Author.Tests.ltb-false (length text) (s + n) f in
-        let x : min (s + n) (length text) - min s (length text) ≡ n = omega arith in
-        let y : min s (length text) ≡ s = omega arith in
-        ap₂ (λ (i j : ℕ). take i (drop j text)) x y ∙ whole
-      where
-        whole : take n (drop s text) ≡ bytesOf text (span s n)
-        whole = refl
+        let starts-in : s ≤ length text = ltb-false (length text) s e in
+        let ends-in : s + n ≤ length text = ltb-false (length text) (s + n) f in
+        ends {size = n} {start = s} (omega arith) (omega arith)
 
 -- some row below i has p just where the last such row is one
 pub any-is : (i : ℕ) (p : ℕ → Bool) → any i p ≡ not (eqb (lastOf i p) 0)
@@ -96,7 +92,12 @@ any-is i p = go (eqb (lastOf i p) 0) refl
   where
     go : (b : Bool) → eqb (lastOf i p) 0 ≡ b → any i p ≡ not b
     go true e = last-any i p (eqb-true (lastOf i p) 0 e)
-    go false e = any-last i p (borrow.Author.Tests.eqb-false (lastOf i p) 0 e)
+    go false e = any-last i p (eqb-false (lastOf i p) 0 e)
+
+-- whether a lookup by key k found a row, where k is the key that is meant
+pub found-any : {K : Type 0} (p : K → ℕ → Bool) (n : ℕ) {k key : K} {found : ℕ} {r : Bool} → k ≡ key
+    → found ≡ lastOf n (p k) → r ≡ not (eqb found 0) → r ≡ any n (p key)
+found-any p n {k} {key} is last tested = tested ∙ ap (λ (f : ℕ). not (eqb f 0)) last ∙ sym (any-is n (p k)) ∙ rw is
 
 -- a link loop's turn: whether two rows below i + 1 are alike
 pub met-more : (i : ℕ) (B p : ℕ → Bool) {r t : Bool} {f : ℕ} → r ≡ (t || not (eqb f 0)) → t ≡ any i B
@@ -154,7 +155,7 @@ pub rows-in : (n w : ℕ) → n / w * w ≤ n
 rows-in n w = let b = div-add-mod' n w in omega arith
 
 pub rows-le : (i n w len : ℕ) → i ≤ n → n * w ≤ len → i * w ≤ len
-rows-le i n w len h l = native.Mathlib.Nat.le-trans (native.Mathlib.Nat.mul-le-mul-right w h) l
+rows-le i n w len h l = le-trans (mul-le-mul-right w h) l
 
 -- ---- a lane's key, test by test
 module _ (lanes owner : List ℕ) (w s k r : ℕ) where

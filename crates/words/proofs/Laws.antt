@@ -9,9 +9,10 @@ use native.Mathlib.Nat.{add-assoc, le-of-suc-le-suc, not-suc-le-zero, eq-or-lt-o
 use native.Mathlib.Nat.{le-step, zero-add}
 use native.Mathlib.Numerals.{add-one}
 use native.Mathlib.Omega.{arith}
-use lib.ListN.{length, getD, take, drop, length-append, length-take, length-drop, List·getD-append}
+use lib.ListN.{length, getD, set, take, drop, length-append, length-set, length-take, length-drop, List·getD-append}
 use lib.Seq.{length-take-le, take-at, drop-at, drop-drop, drop-append-add, ext-getD, getD-at}
-use Rattle.model.specs.Rows.{rows, written}
+use lib.Seq.{paste, paste-zero, paste-suc, take-length}
+use Rattle.model.specs.Rows.{written}
 use Rattle.words.specs.Rows.{any, spliced, tab, total}
 
 -- ---- Bool
@@ -164,12 +165,11 @@ module _ {B : Type 0} where
       → spliced at row (written content out) ≡ written (content ++ row) out
   unfolding spliced written
   put-written content row out at e h =
-      let t : take at (content ++ drop (length content) out) ≡ content =
-      take-at content (drop (length content) out) at (sym e) in
-      let d : drop (at + length row) (content ++ drop (length content) out) ≡ drop (length (content ++ row)) out =
-      rw (e, drop-append-add, drop-drop, length-append)
-      in
-      rw (t, d)
+      let rest = drop (length content) out in
+      let front : take at (content ++ rest) ≡ content = take-at content rest at (sym e) in
+      let back : drop (at + length row) (content ++ rest) ≡ drop (length (content ++ row)) out =
+      rw (e, drop-append-add, drop-drop, length-append) in
+      rw (front, back)
 
   pub written-length : (content out : List B) → length content ≤ length out
       → length (written content out) ≡ length out
@@ -181,14 +181,39 @@ module _ {B : Type 0} where
   written-none out = refl
 
   -- a loop's turn: what `put` leaves is the output with one more row written
-  pub put-step : (content row out₀ : List B) {content′ out out′ : List B} {at : ℕ} → out ≡ written content out₀
-      → out′ ≡ spliced at row out → at ≡ length content → content′ ≡ content ++ row
-      → at + length row ≤ length out₀ → out′ ≡ written content′ out₀
-  put-step content row out₀ {content′} {out} {out′} {at} e f g h fits =
-      f
-      ∙ ap (λ (o : List B). spliced at row o) e
-      ∙ put-written content row out₀ at g fits
-      ∙ ap (λ (w : List B). written w out₀) (sym h)
+  pub put-step : (content row old : List B) {longer out new : List B} {at : ℕ} → out ≡ written content old
+      → new ≡ spliced at row out → at ≡ length content → longer ≡ content ++ row
+      → at + length row ≤ length old → new ≡ written longer old
+  put-step content row old {longer} {out} {new} {at} so-far put here more fits =
+      put
+      ∙ ap (λ (o : List B). spliced at row o) so-far
+      ∙ put-written content row old at here fits
+      ∙ ap (λ (w : List B). written w old) (sym more)
+
+-- ---- what a loop that puts a row keeps before word k: the first k words of the row are in place
+pub record Putting {B : Type 0} (at : ℕ) (row old : List B) (k : ℕ) (out : List B) : Type 0 where
+  pub below : k ≤ length row
+  pub put : out ≡ paste old at row k
+  pub kept : length out ≡ length old
+
+module _ {B : Type 0} {at : ℕ} {row old : List B} where
+  pub putting-none : Putting at row old 0 old
+  putting-none = record { below = omega arith; put = paste-zero old at row; kept = refl }
+
+  module _ {k : ℕ} {out : List B} (putting : Putting at row old k out) where
+    pub putting-more : (d : B) → k < length row → at + length row ≤ length old
+        → Putting at row old (k + 1) (set out (at + k) (getD row k d))
+    putting-more d less fits = record {
+      below = omega arith;
+      put = let room : at + k < length old = omega arith in
+          rw (putting .put, add-one, paste-suc old at row k d room less);
+      kept = simp length-set (putting .kept);
+    }
+
+    -- the end
+    pub all-put : length row ≤ k → out ≡ spliced at row old
+    unfolding spliced
+    all-put past = let end : k ≡ length row = omega (arith, putting .below) in rw (putting .put, end, take-length)
 
 -- two tabs that agree below n
 module _ {A : Type 0} where
@@ -205,16 +230,15 @@ module _ {B : Type 0} where
   spliced-twice at xs ys out h =
       let head = take at out ++ xs in
       let rest = drop (at + length xs) out in
-      let n : length head ≡ at + length xs =
+      let long : length head ≡ at + length xs =
       length-append (take at out) xs
       ∙ ap (λ (k : ℕ). k + length xs) (length-take-le at out (omega arith)) in
-      let t : take (at + length xs) (head ++ rest) ≡ head = take-at head rest (at + length xs) n in
-      let d : drop (at + length xs + length ys) (head ++ rest) ≡ drop (at + length xs + length ys) out =
+      let front : take (at + length xs) (head ++ rest) ≡ head = take-at head rest (at + length xs) long in
+      let back : drop (at + length xs + length ys) (head ++ rest) ≡ drop (at + length xs + length ys) out =
       sym (drop-drop (length ys) (at + length xs) (head ++ rest))
-      ∙ ap (λ (l : List B). drop (length ys) l) (drop-at head rest (at + length xs) n)
-      ∙ drop-drop (length ys) (at + length xs) out
-      in
-      ap₂ (λ (a b : List B). a ++ ys ++ b) t d
+      ∙ ap (λ (l : List B). drop (length ys) l) (drop-at head rest (at + length xs) long)
+      ∙ drop-drop (length ys) (at + length xs) out in
+      ap₂ (λ (a b : List B). a ++ ys ++ b) front back
       ∙ ap₂ (λ (a : List B) (k : ℕ). a ++ drop k out) (append-assoc (take at out) xs ys)
       (add-assoc at (length xs) (length ys) ∙ ap (λ (k : ℕ). at + k) (sym (length-append xs ys)))
 

@@ -7,6 +7,7 @@ use mathlib.Core.Bool.{Bool, true, false, not, _&&_, _||_}
 use native.Mathlib.Nat.{le-of-suc-le-suc, not-suc-le-zero, eq-or-lt-of-le, le-refl, le-step, suc-mul}
 use native.Mathlib.Nat.{mul-le-mul-right}
 use native.Mathlib.Numerals.{add-one}
+use native.Mathlib.Omega.{arith}
 use lib.ListN.{length, getD, take, drop}
 use lib.Seq.{getD-take, ext-getD}
 use lib.Dec.{ltb}
@@ -72,6 +73,27 @@ pub all-same : (n : ℕ) (p q : ℕ → Bool) → ((i : ℕ) → i < n → p i �
 unfolding all
 all-same zero p q h = refl
 all-same (suc n) p q h = ap₂ _&&_ (all-same n p q (λ i lt. h i (le-step lt))) (h n (le-refl (suc n)))
+
+-- ---- a loop that tests one row after another and ends at the first that fails: what it keeps before turn i
+pub record Passing (p : ℕ → Bool) (n i : ℕ) : Type 0 where
+  pub below : i ≤ n
+  pub passed : all i p ≡ true
+
+module _ {p : ℕ → Bool} {n : ℕ} where
+  pub passing-none : Passing p n 0
+  passing-none = record { below = omega arith; passed = all-none p }
+
+  module _ {i : ℕ} (passing : Passing p n i) where
+    -- row i fails
+    pub one-fails : i < n → p i ≡ false → false ≡ all n p
+    one-fails less fails = sym (all-miss n i p less fails)
+
+    pub passing-more : i < n → p i ≡ true → Passing p n (i + 1)
+    passing-more less passes = record { below = omega arith; passed = all-step i p (passing .passed) passes }
+
+    -- the end
+    pub all-pass : n ≤ i → true ≡ all n p
+    all-pass past = let end : i ≡ n = omega (arith, passing .below) in rw end at (sym (passing .passed))
 
 -- ---- lists that are tabs
 module _ {A : Type 0} where
@@ -158,6 +180,15 @@ module _ (w : ℕ) (ws : List ℕ) where
       ∙ every-tab p (length ws / w) (λ i. take w (drop (i * w) ws))
       ∙ all-same (length ws / w) (λ i. p (take w (drop (i * w) ws))) (λ i. p (drop (i * w) ws))
       (λ i lt. h (drop (i * w) ws))
+
+  -- a loop that tests the rows of a table
+  module _ {p : List ℕ → Bool} (local : Local w p) {i : ℕ}
+      (passing : Passing (λ k. p (from w ws k)) (length ws / w) i) where
+    pub row-fails : i < length ws / w → p (from w ws i) ≡ false → false ≡ every p (table w ws)
+    row-fails less fails = one-fails passing less fails ∙ sym (every-rows p local)
+
+    pub rows-pass : length ws / w ≤ i → true ≡ every p (table w ws)
+    rows-pass past = all-pass passing past ∙ sym (every-rows p local)
 
   -- the rows as records
   pub map-rows : {R : Type 0} (f : List ℕ → R) → Local w f

@@ -1,7 +1,7 @@
 -- Hash chains over the rows of a table: heads has a word for each bucket, next one for each row. A word is 0,
 -- or a row plus 1.
 -- `hash r` is the bucket of row r, whatever the key is.
-use Prim.Native.Nat.{ℕ, _<_, _≤_}
+use Prim.Native.Nat.{ℕ, _<_}
 use mathlib.Core.Path.{_≡_}
 use mathlib.Core.List.{List}
 use mathlib.Core.Bool.{Bool}

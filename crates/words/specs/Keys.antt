@@ -1,13 +1,13 @@
 -- The keys that rows are found by, and the bucket that a key lies in. A bucket is no part of what a call
 -- promises. Definitions only.
-use Prim.Native.Nat.{ℕ, zero, suc, _+_, _*_, _%_}
+use Prim.Native.Nat.{ℕ, _+_, _*_, _%_}
 use mathlib.Core.List.{List, [], _∷_}
 use mathlib.Core.Bool.{Bool, _&&_}
 use lib.ListN.{getD}
 use lib.Dec.{eqb}
 use Rattle.model.specs.Records.{Span}
 use Rattle.model.specs.Text.{bytesOf, sameIn}
-use Rattle.words.specs.Rows.{any, span, nameAt}
+use Rattle.words.specs.Rows.{any, nameAt}
 
 -- how many buckets there are
 abbrev pub buckets : ℕ

@@ -1,5 +1,5 @@
-// Rows by name, by identity, by road and section and number: hash chains in lent arrays. `heads` has a word for each bucket and `next` one for each
-// row; a word is a row plus 1, and 0 for none.
+// Rows by name, by identity, by road and section and number: hash chains in lent arrays. `heads` has a word for each
+// bucket and `next` one for each row; a word is a row plus 1, and 0 for none.
 use crate::names;
 use crate::rows;
 ghost use mathlib.Core.Path.{_≡_};
@@ -9,7 +9,8 @@ ghost use lib.ListN.{length, getD, set};
 ghost use lib.Dec.{eqb};
 ghost use Rattle.words.specs.Rows.{any, lastOf, span};
 ghost use Rattle.words.specs.Chain.{Chained, Empty};
-ghost use Rattle.words.specs.Keys.{bears, nameHash, nameBefore, isId, idHash, idBefore, isKey, keyHash, laneHash, keyBefore, isDirectOf};
+ghost use Rattle.words.specs.Keys.{bears, nameHash, nameBefore, isId, idHash, idBefore, isDirectOf};
+ghost use Rattle.words.specs.Keys.{isKey, keyHash, laneHash, keyBefore};
 
 // Whether a row was met before, or this one has been now.
 fn met(before: bool, found: usize) -> bool
@@ -43,8 +44,8 @@ pub fn find_name(
     start: usize,
     size: usize,
 ) -> usize
-    requires { ⌜ (w ≤ 20) × (k + 1 < w) × (n * w ≤ length (now ws)) × (n ≤ 16384) × (length (now heads) ≡ 16384) × (n ≤ length (now next))
-        × (start < 4294967296) × (size < 4294967296) ⌝ }
+    requires { ⌜ (w ≤ 20) × (k + 1 < w) × (n * w ≤ length (now ws)) × (n ≤ 16384)
+        × (length (now heads) ≡ 16384) × (n ≤ length (now next)) × (start < 4294967296) × (size < 4294967296) ⌝ }
     requires { ⌜ Chained (nameHash (now text) w k (now ws)) n (now heads) (now next) ⌝ }
     ensures { λ r. ⌜ r ≡ lastOf n (bears (now (text .entry)) w k (now (ws .entry)) (span start size)) ⌝ }
 {

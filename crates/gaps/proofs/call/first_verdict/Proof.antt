@@ -1,21 +1,79 @@
-use lib.ListN.{length, length-replicate}
-use mathlib.Core.List.{[], _∷_, _++_}
-use mathlib.Core.Bool.{_&&_, true}
-use Prim.Native.Nat.{ℕ}
-use native.Mathlib.Omega.{arith}
-use mathlib.Core.Path.{_≡_, sym, ap₂, _∙_}
+-- `first_verdict` is `table_verdict` with its own answers of rules 1 and 2.
 use borrow.Author.Needs.{needs}
+use lib.ListN.{length-replicate}
+use mathlib.Core.Bool.{true, _&&_}
+use mathlib.Core.List.{List, [], _∷_, _++_}
+use mathlib.Core.Path.{_≡_, sym, ap₂, _∙_}
+use native.Mathlib.Omega.{arith}
+use Prim.Native.Nat.{ℕ}
 use Rattle.model.specs.Calls.{gapRules, laneRules, rulesTo5}
 use Rattle.model.specs.Rules.{edgesFit, edgesSized, firstBroken, lanesSized, lanesWorded, listsSized, mapSized}
 use Rattle.model.specs.Rules.{mapWorded, rule}
-use Rattle.model.specs.Tables.{allTables, mapTables}
+use Rattle.model.specs.Tables.{Tables, allTables}
 use Rattle.words.proofs.Chains.{fresh}
 use Rattle.words.proofs.Scans.{left-on, right-on}
-use Rattle.rules.proofs.Counts.{few, sized-few, sized10, sized12}
+use Rattle.rules.proofs.Counts.{few, lanes-few}
 use Rattle.rules.proofs.Leaves.{both-is}
 use Rattle.gaps.proofs.call.first_verdict.Statement.{statement}
 use Rattle.gaps.proofs.call.first_verdict.Tie as tie
 
+-- ---- the tables
+module _ (sized : tie.After-map-sized) where
+  abbrev start : tie.Start
+  start = search
+
+  abbrev tables : Tables
+  tables =
+      allTables (start .args .text .now) (start .args .roads .now) (start .args .sections .now)
+      (start .args .junctions .now) (start .args .connections .now) (start .args .pairs .now)
+      (start .args .lanes .now) (start .args .edges .now)
+
+-- ---- the answers of rules 1 and 2
+module _ (asked : tie.After-both4) where
+  abbrev map-asked : tie.After-map-sized
+  map-asked = search
+
+  abbrev t : Tables
+  t = tables map-asked
+
+  sizes-are : asked .both4 .result
+      ≡ (mapSized 16384 t && lanesSized t && edgesSized t
+      && listsSized (start map-asked .args .offsets .now) (start map-asked .args .ids .now))
+  unfolding mapSized lanesSized edgesSized listsSized
+  sizes-are =
+      let lanes-sized : tie.After-fits2 = search in
+      let map-and-lanes : tie.After-both = search in
+      let edges-sized : tie.After-fits3 = search in
+      let and-edges : tie.After-both2 = search in
+      let offsets-sized : tie.After-fits4 = search in
+      let ids-sized : tie.After-fits5 = search in
+      let lists : tie.After-both3 = search in
+      both-is (asked .both4 .ensures)
+      (both-is (and-edges .both2 .ensures)
+      (both-is (map-and-lanes .both .ensures) (map-asked .map-sized .ensures) (lanes-sized .fits2 .ensures))
+      (edges-sized .fits3 .ensures))
+      (both-is (lists .both3 .ensures) (offsets-sized .fits4 .ensures) (ids-sized .fits5 .ensures))
+
+  -- where 1 passes
+  module _ (passes : asked .both4 .result ≡ true) where
+    map-and-lanes-pass : (mapSized 16384 t && lanesSized t) ≡ true
+    map-and-lanes-pass = left-on _ (edgesSized t) (left-on _ (listsSized _ _) (sym sizes-are ∙ passes))
+
+    map-passes : mapSized 16384 t ≡ true
+    map-passes = left-on _ (lanesSized t) map-and-lanes-pass
+
+    lanes-pass : lanesSized t ≡ true
+    lanes-pass = right-on (mapSized 16384 t) _ map-and-lanes-pass
+
+words-are : (asked : tie.After-both5)
+    → asked .both5 .result ≡ (mapWorded (tables (search)) && lanesWorded (tables (search)))
+unfolding mapWorded lanesWorded
+words-are asked =
+    let map-worded : tie.After-map-worded = search in
+    let lanes-worded : tie.After-lanes-worded = search in
+    both-is (asked .both5 .ensures) (map-worded .map-worded .ensures) (lanes-worded .lanes-worded .ensures)
+
+-- ---- the calls
 map-sized-requires : tie.Need-map-sized-requires
 map-sized-requires c κs = search needs
 
@@ -68,75 +126,25 @@ slice-aggregate-table-verdict-5 : tie.Need-slice-aggregate-table-verdict-5
 slice-aggregate-table-verdict-5 c = search needs
 
 table-verdict-requires : tie.Need-table-verdict-requires
-unfolding listsSized
 table-verdict-requires c κs =
-    let after-both4 : tie.After-both4 = search in
-    let after-both3 : tie.After-both3 = search in
-    let after-fits5 : tie.After-fits5 = search in
-    let after-fits4 : tie.After-fits4 = search in
-    let after-both2 : tie.After-both2 = search in
-    let after-fits3 : tie.After-fits3 = search in
-    let after-both : tie.After-both = search in
-    let after-fits2 : tie.After-fits2 = search in
-    let after-map-sized : tie.After-map-sized = search in
-    let after-shared-slice-known4 = after-map-sized .before .before .before .before .before .before .before in
-    let start = after-shared-slice-known4 .before .before .before .before in
-    let lanes = start .args .lanes .now in
-    let m = (mapTables (start .args .text .now) (start .args .roads .now) (start .args .sections .now)
-    (start .args .junctions .now) (start .args .connections .now) (start .args .pairs .now)) in
-    let sized = both-is (after-both4 .both4 .ensures)
-    (both-is (after-both2 .both2 .ensures)
-    (both-is (after-both .both .ensures) (after-map-sized .map-sized .ensures)
-    (after-fits2 .fits2 .ensures)) (after-fits3 .fits3 .ensures))
-    (both-is (after-both3 .both3 .ensures) (after-fits4 .fits4 .ensures) (after-fits5 .fits5 .ensures)) in
-    let l = sized10 lanes in
-    let e12 = sized12 (start .args .edges .now) in
-    let li = listsSized (start .args .offsets .now) (start .args .ids .now) in
-    let on : after-both4 .both4 .result ≡ true → (mapSized 16384 m && l) ≡ true =
-    λ e. left-on (mapSized 16384 m && l) e12 (left-on (mapSized 16384 m && l && e12) li (sym sized ∙ e)) in (
+    let asked : tie.After-both4 = search in (
       (
-        λ e. few 16384 m (omega arith) (left-on (mapSized 16384 m) l (on e)),
-        λ e. sized-few 10 16384 (length lanes) (right-on (mapSized 16384 m) l (on e)),
+        λ passes. few 16384 (t asked) (omega arith) (map-passes asked passes),
+        λ passes. lanes-few (t asked) (lanes-pass asked passes),
       ),
-      (
-        fresh,
-        (
-          length-replicate {A = ℕ} 16384 0,
-          fresh,
-        ),
-      ),
+      (fresh, (length-replicate {A = ℕ} 16384 0, fresh)),
     )
 
 returns : tie.Need-returns
-unfolding gapRules laneRules rulesTo5 mapSized lanesSized edgesSized listsSized mapWorded lanesWorded
+unfolding gapRules laneRules rulesTo5
 returns c =
-    let after-table-verdict : tie.After-table-verdict = search in
-    let after-both5 : tie.After-both5 = search in
-    let after-lanes-worded : tie.After-lanes-worded = search in
-    let after-map-worded : tie.After-map-worded = search in
-    let after-both4 : tie.After-both4 = search in
-    let after-both3 : tie.After-both3 = search in
-    let after-fits5 : tie.After-fits5 = search in
-    let after-fits4 : tie.After-fits4 = search in
-    let after-both2 : tie.After-both2 = search in
-    let after-fits3 : tie.After-fits3 = search in
-    let after-both : tie.After-both = search in
-    let after-fits2 : tie.After-fits2 = search in
-    let after-map-sized : tie.After-map-sized = search in
-    let after-shared-slice-known4 = after-map-sized .before .before .before .before .before .before .before in
-    let start = after-shared-slice-known4 .before .before .before .before in
-    let t = (allTables (start .args .text .now) (start .args .roads .now) (start .args .sections .now)
-    (start .args .junctions .now) (start .args .connections .now) (start .args .pairs .now)
-    (start .args .lanes .now) (start .args .edges .now)) in
-    let sized = both-is (after-both4 .both4 .ensures)
-    (both-is (after-both2 .both2 .ensures)
-    (both-is (after-both .both .ensures) (after-map-sized .map-sized .ensures)
-    (after-fits2 .fits2 .ensures)) (after-fits3 .fits3 .ensures))
-    (both-is (after-both3 .both3 .ensures) (after-fits4 .fits4 .ensures) (after-fits5 .fits5 .ensures)) in
-    let worded = both-is (after-both5 .both5 .ensures) (after-map-worded .map-worded .ensures)
-    (after-lanes-worded .lanes-worded .ensures) in
-    after-table-verdict .table-verdict .ensures .0
-    ∙ ap₂ (λ a b. firstBroken (rulesTo5 a b t ++ laneRules t ++ (rule 10 (edgesFit t) ∷ []))) sized worded
+    let judged : tie.After-table-verdict = search in
+    let asked : tie.After-both4 = search in
+    let there = t asked in
+    judged .table-verdict .ensures .0
+    ∙ ap₂ (λ sizes words.
+    firstBroken (rulesTo5 sizes words there ++ laneRules there ++ (rule 10 (edgesFit there) ∷ [])))
+    (sizes-are asked) (words-are (search))
 
 pub first-verdict-spec : {M : Type 1} → statement M
 first-verdict-spec =

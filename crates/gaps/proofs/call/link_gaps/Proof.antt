@@ -1,11 +1,12 @@
 -- `link_gaps` is refused by its verdict, or writes its rows: the words by row numbers are the model's content.
 use borrow.Author.Needs.{needs}
 use borrow.Author.Tests.{not-true, not-false}
-use lib.ListN.{length, length-replicate, take}
+use lib.ListN.{length}
 use mathlib.Core.Bool.{true}
 use mathlib.Core.List.{List}
 use mathlib.Core.Option.{none}
 use mathlib.Core.Path.{_≡_, sym, ap, _∙_}
+use native.Mathlib.Omega.{arith}
 use Prim.Native.Nat.{ℕ, _/_}
 use Rattle.model.specs.Calls.{gapCall, gapContent, gapRules, gapWidth, tableWriting, writtenOr9}
 use Rattle.model.specs.Rules.{Rule, firstBroken}
@@ -17,7 +18,7 @@ use Rattle.tables.proofs.Called.{call-admitted, call-refused}
 use Rattle.tables.proofs.Order.{is-none}
 use Rattle.gaps.specs.Links.{listsRight, rowsBelow}
 use Rattle.gaps.proofs.Bridge.{content-is}
-use Rattle.gaps.proofs.CallLaws.{Kept, gap-kept, gap-through}
+use Rattle.gaps.proofs.CallLaws.{Kept, first-nine, gap-kept, gap-through}
 use Rattle.gaps.proofs.call.link_gaps.Statement.{statement}
 use Rattle.gaps.proofs.call.link_gaps.Tie as tie
 
@@ -42,12 +43,15 @@ module _ (start : tie.Start) where
   content = gapContent tables offsets ids
 
 -- ---- what the verdict says
+abbrev begin : tie.After-gap-verdict → tie.Start
+begin judged = search
+
 module _ (tried : tie.After-admitted) where
   abbrev judged : tie.After-gap-verdict
   judged = search
 
   abbrev start : tie.Start
-  start = let near = judged in search
+  start = begin judged
 
   abbrev verdict : Verdict
   verdict = judged .gap-verdict .result
@@ -56,21 +60,34 @@ module _ (tried : tie.After-admitted) where
   first : refusalOf verdict ≡ firstBroken (rules start)
   first = judged .gap-verdict .ensures .0
 
-  module _ (free : admits verdict ≡ true) where
-    admitted : refusalOf verdict ≡ none
-    admitted = is-none (refusalOf verdict) free
+-- ---- what its admission leaves
+module _ (past : tie.Else1) where
+  abbrev tried : tie.After-admitted
+  tried = search
 
-    through : (none ≡ firstBroken (take 9 (rules start)))
-        × (listsRight (start .args .lanes .now) (offsets start) (ids start) ≡ true)
-    through = gap-through (tables start) (offsets start) (ids start) (sym admitted ∙ first)
+  abbrev begun : tie.Start
+  begun = start tried
 
-    kept : Kept (tables start) (ids start)
-    kept = gap-kept (tables start) (offsets start) (ids start) (through .0)
+  free : admits (verdict tried) ≡ true
+  free = sym (tried .admitted .ensures) ∙ not-false _ (past .if1 .left)
 
-    -- the words by row numbers are the model's
-    content-same : rowsBelow (start .args .lanes .now) (start .args .edges .now) (offsets start) (ids start)
-        (length (start .args .lanes .now) / 10) ≡ content start
-    content-same = content-is (tables start) (offsets start) (ids start) (kept .even) (kept .once) (through .1)
+  admitted : refusalOf (verdict tried) ≡ none
+  admitted = is-none (refusalOf (verdict tried)) free
+
+  through : (none ≡ firstBroken (first-nine (tables begun) (offsets begun) (ids begun)))
+      × (listsRight (begun .args .lanes .now) (offsets begun) (ids begun) ≡ true)
+  through = gap-through (tables begun) (offsets begun) (ids begun) (sym admitted ∙ first tried)
+
+  right : listsRight (begun .args .lanes .now) (offsets begun) (ids begun) ≡ true
+  right = through .1
+
+  kept : Kept (tables begun) (ids begun)
+  kept = gap-kept (tables begun) (offsets begun) (ids begun) (through .0)
+
+  -- the words by row numbers are the model's
+  content-same : rowsBelow (begun .args .lanes .now) (begun .args .edges .now) (offsets begun) (ids begun)
+      (length (begun .args .lanes .now) / 10) ≡ content begun
+  content-same = content-is (tables begun) (offsets begun) (ids begun) (kept .even) (kept .once) right
 
 slice-aggregate-gap-verdict : tie.Need-slice-aggregate-gap-verdict
 slice-aggregate-gap-verdict c = search needs
@@ -102,23 +119,10 @@ write-rows-requires : tie.Need-write-rows-requires
 write-rows-requires c κs =
     let past : tie.Else1 = search in
     let tried : tie.After-admitted = search in
-    let free = sym (tried .admitted .ensures) ∙ not-false _ (past .if1 .left) in
-    let lengths = judged tried .gap-verdict .kept .1 .1 .1 .1 .1 .1 .1 .1 .1 .1 in
-    let few = kept tried free in (
-      (
-        few .few,
-        few .even,
-        lengths .0 ∙ length-replicate {A = ℕ} 16384 0,
-        lengths .1 .0 ∙ length-replicate {A = ℕ} 16384 0,
-        few .short,
-      ),
-      (judged tried .gap-verdict .ensures .1 (admitted tried free), through tried free .1),
-    )
+    (judged tried .gap-verdict .ensures .1 (admitted past), right past)
 
 same-length : tie.Need-same-length
-same-length c =
-    let written : tie.After-write-rows = search in
-    written .write-rows .kept .1 .1 .1 .1 .1 .1 .0
+same-length c = let written : tie.After-write-rows = search in omega (arith, written .write-rows .kept)
 
 returns-2 : tie.Need-returns-2
 unfolding gapCall
@@ -126,11 +130,10 @@ returns-2 c =
     let written : tie.After-write-rows = search in
     let past : tie.Else1 = search in
     let tried : tie.After-admitted = search in
-    let free = sym (tried .admitted .ensures) ∙ not-false _ (past .if1 .left) in
-    let out = start tried .args .out .now in
+    let out = begun past .args .out .now in
     written .write-rows .ensures
-    ∙ ap (λ (rows : List ℕ). writtenOr9 (tableWriting gapWidth) rows out) (content-same tried free)
-    ∙ call-admitted (tableWriting gapWidth) (rules (start tried)) (content (start tried)) out (verdict tried) free
+    ∙ ap (λ (rows : List ℕ). writtenOr9 (tableWriting gapWidth) rows out) (content-same past)
+    ∙ call-admitted (tableWriting gapWidth) (rules (begun past)) (content (begun past)) out (verdict tried) (free past)
     (first tried)
 
 pub link-gaps-spec : {M : Type 1} → statement M

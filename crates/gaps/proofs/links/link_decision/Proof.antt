@@ -1,8 +1,5 @@
-use lib.ListN.{getD}
-use Prim.Native.Nat.{_+_, _*_}
+-- `link_decision` decides by the least gap between the ends of two lanes.
 use borrow.Author.Needs.{needs}
-use Rattle.geometry.specs.Edges.{endsAt}
-use Rattle.model.specs.Tables.{directionOf}
 use Rattle.gaps.specs.Links.{decisionAt}
 use Rattle.gaps.proofs.RowLaws.{decision-is, link-gap}
 use Rattle.gaps.proofs.links.link_decision.Statement.{statement}
@@ -53,20 +50,14 @@ gap-decision-requires c κs = search needs
 returns : tie.Need-returns
 unfolding decisionAt
 returns c =
-    let after-least-gap : tie.After-least-gap = search in
-    let after-ends-at2 : tie.After-ends-at2 = search in
-    let after-ends-at : tie.After-ends-at = search in
-    let after-direction2 : tie.After-direction2 = search in
-    let after-direction : tie.After-direction = search in
-    let start : tie.Start = search in
-    let lane = start .args .lane in let next = start .args .next in
-    let l = start .args .lanes .now in
-    let es = start .args .edges .now in
-    let g = link-gap (after-least-gap .least-gap .ensures) (after-ends-at .ends-at .ensures)
-    (after-direction .direction .ensures) (after-ends-at2 .ends-at2 .ensures)
-    (after-direction2 .direction2 .ensures) in
-    decision-is (endsAt es lane) (directionOf (getD l (lane * 10 + 5) 0)) (endsAt es next)
-    (directionOf (getD l (next * 10 + 5) 0)) (c .gap-decision .ensures) g
+    let gap : tie.After-least-gap = search in
+    let to : tie.After-ends-at2 = search in
+    let from : tie.After-ends-at = search in
+    let enters : tie.After-direction2 = search in
+    let leaves : tie.After-direction = search in
+    decision-is _ _ _ _ (c .gap-decision .ensures)
+    (link-gap (gap .least-gap .ensures) (from .ends-at .ensures) (leaves .direction .ensures)
+    (to .ends-at2 .ensures) (enters .direction2 .ensures))
 
 pub link-decision-spec : {M : Type 1} → statement M
 link-decision-spec =

@@ -1,20 +1,69 @@
-use Rattle.gaps.proofs.LinkLaws.{link-row}
-use Rattle.gaps.specs.Links.{putIf}
-use Rattle.tables.proofs.Identities.{found-none, found-row}
-use Rattle.words.proofs.Chains.{last-le}
-use Rattle.words.specs.Rows.{lastOf}
-use Rattle.words.specs.Keys.{isId}
-use lib.ListN.{length}
-use native.Mathlib.Omega.{arith}
-use mathlib.Core.List.{List}
-use mathlib.Core.Path.{refl, ap, subst, _∙_}
-use Prim.Native.Nat.{ℕ, _+_, _/_, _<_}
+-- `link_row`: the identity is borne, so its lane has a row, and the row of that link's decision is put.
 use borrow.Author.Needs.{needs}
+use lib.ListN.{length}
+use mathlib.Core.List.{List}
+use mathlib.Core.Path.{_≡_, refl, sym}
+use native.Mathlib.Omega.{arith}
+use Prim.Native.Nat.{ℕ, suc, _*_, _/_, _<_}
+use Rattle.words.proofs.Chains.{last-le}
+use Rattle.words.specs.Keys.{isId}
+use Rattle.words.specs.Rows.{lastOf}
+use Rattle.tables.proofs.Identities.{found-none, found-row}
+use Rattle.gaps.specs.Links.{Room, linkRow, rowOf}
+use Rattle.gaps.proofs.LinkLaws.{link-row}
 use Rattle.gaps.proofs.links.link_row.Statement.{statement}
 use Rattle.gaps.proofs.links.link_row.Tie as tie
 
+-- ---- the row that bears the identity, plus 1
+module _ (start : tie.Start) where
+  abbrev count : ℕ
+  count = length (start .args .lanes .now) / 10
+
+  abbrev last : ℕ
+  last = lastOf count (isId (start .args .lanes .now) (start .args .id .0))
+
+  even : length (start .args .edges .now) ≡ 12 * count
+  even = start .pre .1 .0
+
+  in-table : start .args .lane < count
+  in-table = start .pre .1 .1 .0 .0
+
+  borne : 0 < last
+  borne = start .pre .1 .1 .1 .0
+
+  abbrev words : List ℕ
+  words = linkRow (start .args .lanes .now) (start .args .edges .now) (start .args .lane) (start .args .id .0)
+
+  room : Room (start .args .write) (start .args .at) words (start .args .out .now)
+  room = start .pre .1 .1 .1 .1
+
+-- ---- the row that is found
+module _ (found : tie.After-r) where
+  abbrev start : tie.Start
+  start = search
+
+  abbrev row : ℕ
+  row = found .r .given .0 .0
+
+  row-is : last start ≡ suc row
+  row-is = let asked : tie.After-lane-row = search in found-row _ (asked .lane-row .ensures) (found .r .given .1)
+
+-- ---- the words of its decision are those of the link
+module _ (decided : tie.After-link-decision) where
+  abbrev found : tie.After-r
+  found = search
+
+  abbrev begun : tie.Start
+  begun = start found
+
+  words-same : rowOf (begun .args .lane) (row found) (decided .link-decision .result) ≡ words begun
+  words-same = link-row _ _ _ _ refl (row-is found) (decided .link-decision .ensures .0)
+
+-- ---- the answers
 lane-row-requires : tie.Need-lane-row-requires
-lane-row-requires c κs = search needs
+lane-row-requires c κs =
+    let start : tie.Start = search in
+    let by-id = start .pre .0 in ((by-id .few, by-id .buckets, by-id .rows), by-id .linked)
 
 enum-known-r : tie.Need-enum-known-r
 enum-known-r c = search needs
@@ -24,69 +73,41 @@ cast-link-decision c = search needs
 
 link-decision-requires : tie.Need-link-decision-requires
 link-decision-requires c κs =
-    let after-r : tie.After-r = search in
-    let after-lane-row : tie.After-lane-row = search in
+    let found : tie.After-r = search in
     let start : tie.Start = search in
-    let lanes = start .args .lanes .now in
-    let e = (found-row (lastOf (length lanes / 10) (isId lanes (start .args .id .0)))
-    (after-lane-row .lane-row .ensures) (after-r .r .given .1)) in
-    let l = (last-le (length lanes / 10) (isId lanes (start .args .id .0))) in
-    (start .pre .0 .4, omega (arith, e, l), start .pre .0 .1)
+    let most = last-le (count start) (isId (start .args .lanes .now) (start .args .id .0)) in
+    ((in-table start, omega (arith, row-is found, most)), even start)
 
 cast-put-row : tie.Need-cast-put-row
 cast-put-row c = search needs
 
 put-row-requires : tie.Need-put-row-requires
 put-row-requires c κs =
-    let after-link-decision : tie.After-link-decision = search in
-    let after-r : tie.After-r = search in
-    let after-lane-row : tie.After-lane-row = search in
+    let decided : tie.After-link-decision = search in
     let start : tie.Start = search in
-    let lanes = start .args .lanes .now in
-    let lastOf′ = lastOf (length lanes / 10) (isId lanes (start .args .id .0)) in (
-      start .pre .0 .5,
-      (λ w.
-          let k = ap length (link-row lanes (start .args .edges .now) (start .args .lane)
-          (start .args .id .0) {f = lastOf′} refl
-          (found-row lastOf′ (after-lane-row .lane-row .ensures) (after-r .r .given .1))
-          (after-link-decision .link-decision .ensures .0)) in
-          let h = start .pre .1 .1 w in omega (arith, k, h)),
-      after-link-decision .link-decision .ensures .1,
-    )
+    let place-low = start .pre .1 .1 .0 .1 in
+    ((place-low, decided .link-decision .ensures .1), rw (sym (words-same decided)) at (room start))
 
 enum-told : tie.Need-enum-told
 enum-told c = search needs
 
 same-length : tie.Need-same-length
 same-length c =
-    let after-put-row : tie.After-put-row = search in
-    after-put-row .put-row .kept .0
+    let put : tie.After-put-row = search in
+    put .put-row .kept .0
 
 returns : tie.Need-returns
 returns c =
-    let after-put-row : tie.After-put-row = search in
-    let after-link-decision : tie.After-link-decision = search in
-    let after-r : tie.After-r = search in
-    let after-lane-row : tie.After-lane-row = search in
-    let start : tie.Start = search in
-    let lanes = start .args .lanes .now in let at = start .args .at in
-    let lastOf′ = lastOf (length lanes / 10) (isId lanes (start .args .id .0)) in
-    let e = (link-row lanes (start .args .edges .now) (start .args .lane) (start .args .id .0) {f = lastOf′}
-    refl (found-row lastOf′ (after-lane-row .lane-row .ensures) (after-r .r .given .1))
-    (after-link-decision .link-decision .ensures .0)) in (
-      after-put-row .put-row .ensures .0 ∙ ap (λ (w : List ℕ). at + length w) e,
-      after-put-row .put-row .ensures .1
-          ∙ ap (λ (w : List ℕ). putIf (start .args .write) at w (start .args .out .now)) e,
-    )
+    let put : tie.After-put-row = search in
+    let decided : tie.After-link-decision = search in
+    rw (words-same decided) at (put .put-row .ensures)
 
 returns-2 : tie.Need-returns-2
 returns-2 c =
-    let after-lane-row : tie.After-lane-row = search in
+    let asked : tie.After-lane-row = search in
     let start : tie.Start = search in
-    let lanes = start .args .lanes .now in
-    let z = found-none (lastOf (length lanes / 10) (isId lanes (start .args .id .0)))
-    (after-lane-row .lane-row .ensures) (c .enum-told .given .1) in
-    absurd (let y : 0 < 0 = subst (λ (m : ℕ). 0 < m) z (start .pre .0 .6) in omega (arith, y))
+    let nothing = found-none (last start) (asked .lane-row .ensures) (c .enum-told .given .1) in
+    absurd (omega (arith, nothing, borne start))
 
 pub link-row-spec : {M : Type 1} → statement M
 link-row-spec =

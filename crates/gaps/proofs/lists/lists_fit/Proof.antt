@@ -1,3 +1,4 @@
+-- `lists_fit` asks the three parts of rule 11.
 use lib.ListN.{length}
 use lib.Dec.{eqb}
 use native.Mathlib.Numerals.{add-one}
@@ -25,15 +26,15 @@ both-requires-2 c κs = search needs
 
 returns : tie.Need-returns
 returns c =
-    let after-all-borne : tie.After-all-borne = search in
-    let after-both : tie.After-both = search in
-    let after-offsets-climb : tie.After-offsets-climb = search in
+    let borne : tie.After-all-borne = search in
+    let counted-and-climb : tie.After-both = search in
+    let climb : tie.After-offsets-climb = search in
     let start : tie.Start = search in
+    let counted = ap (λ (n : ℕ). eqb (length (start .args .offsets .now)) n)
+    (add-one (length (start .args .lanes .now) / 10)) in
     both-is (c .both2 .ensures)
-    (both-is (after-both .both .ensures)
-    (ap (λ (m : ℕ). eqb (length (start .args .offsets .now)) m)
-    (add-one (length (start .args .lanes .now) / 10))) (after-offsets-climb .offsets-climb .ensures))
-    (after-all-borne .all-borne .ensures)
+    (both-is (counted-and-climb .both .ensures) counted (climb .offsets-climb .ensures))
+    (borne .all-borne .ensures)
 
 pub lists-fit-spec : {M : Type 1} → statement M
 lists-fit-spec =

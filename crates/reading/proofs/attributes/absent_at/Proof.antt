@@ -1,3 +1,4 @@
+-- `absent_at`: the two words of an absent name.
 use borrow.Author.Needs.{needs}
 use Rattle.rules.proofs.Leaves.{both-is}
 use Rattle.reading.proofs.attributes.absent_at.Statement.{statement}
@@ -29,9 +30,9 @@ both-requires c κs = search needs
 
 returns : tie.Need-returns
 returns c =
-    let after-is2 : tie.After-is2 = search in
-    let after-is : tie.After-is = search in
-    both-is (c .both .ensures) (after-is .is .ensures) (after-is2 .is2 .ensures)
+    let second : tie.After-is2 = search in
+    let first : tie.After-is = search in
+    both-is (c .both .ensures) (first .is .ensures) (second .is2 .ensures)
 
 pub absent-at-spec : {M : Type 1} → statement M
 absent-at-spec =

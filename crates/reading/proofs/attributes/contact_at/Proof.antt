@@ -1,5 +1,6 @@
-use mathlib.Core.Path.{ap, _∙_}
+-- `contact_at`: whether the attribute reads "end".
 use borrow.Author.Needs.{needs}
+use mathlib.Core.Path.{ap, _∙_}
 use Rattle.model.specs.Tables.{bit}
 use Rattle.reading.proofs.attributes.contact_at.Statement.{statement}
 use Rattle.reading.proofs.attributes.contact_at.Tie as tie
@@ -14,9 +15,7 @@ bit-requires : tie.Need-bit-requires
 bit-requires c κs = search needs
 
 returns : tie.Need-returns
-returns c =
-    let after-reads-at : tie.After-reads-at = search in
-    c .bit .ensures ∙ ap bit (after-reads-at .reads-at .ensures)
+returns c = let read : tie.After-reads-at = search in c .bit .ensures ∙ ap bit (read .reads-at .ensures)
 
 pub contact-at-spec : {M : Type 1} → statement M
 contact-at-spec =

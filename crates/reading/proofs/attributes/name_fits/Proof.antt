@@ -1,5 +1,6 @@
-use mathlib.Core.Path.{sym, _∙_}
+-- `name_fits`: absent, or within the text.
 use borrow.Author.Needs.{needs}
+use mathlib.Core.Path.{sym, _∙_}
 use Rattle.model.specs.Text.{placed}
 use Rattle.reading.proofs.NameLaws.{fits-absent, fits-there}
 use Rattle.reading.proofs.attributes.name_fits.Statement.{statement}
@@ -10,10 +11,10 @@ absent-at-requires c κs = search needs
 
 returns : tie.Need-returns
 returns c =
-    let after-absent-at : tie.After-absent-at = search in
+    let tested : tie.After-absent-at = search in
     let start : tie.Start = search in
     fits-absent (start .args .text .now) (start .args .ws .now) (start .args .at)
-    (sym (after-absent-at .absent-at .ensures) ∙ c .if1 .taken)
+    (sym (tested .absent-at .ensures) ∙ c .if1 .taken)
 
 word-requires : tie.Need-word-requires
 word-requires c κs = search needs
@@ -30,13 +31,12 @@ add-result c = search needs
 returns-2 : tie.Need-returns-2
 unfolding placed
 returns-2 c =
-    let after-word : tie.After-word = search in
-    let else1 : tie.Else1 = search in
-    let after-absent-at : tie.After-absent-at = search in
+    let begin : tie.After-word = search in
+    let past : tie.Else1 = search in
+    let tested : tie.After-absent-at = search in
     let start : tie.Start = search in
     fits-there (start .args .text .now) (start .args .ws .now) (start .args .at)
-    (sym (after-absent-at .absent-at .ensures) ∙ else1 .if1 .left)
-    (rw (after-word .word .ensures .0, c .word2 .ensures .0))
+    (sym (tested .absent-at .ensures) ∙ past .if1 .left) (rw (begin .word .ensures .0, c .word2 .ensures .0))
 
 pub name-fits-spec : {M : Type 1} → statement M
 name-fits-spec =

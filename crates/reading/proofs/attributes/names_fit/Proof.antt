@@ -1,8 +1,9 @@
+-- `names_fit`: before turn `i` the first `i` names fit, so the test is that of the rest.
+use borrow.Author.Needs.{needs}
 use borrow.Author.Tests.{not-true, not-false}
 use Prim.Native.Nat.{ℕ, _+_, _*_, _-_, _≤_}
 use mathlib.Core.Path.{_≡_, sym, ap, ap₂, _∙_}
 use native.Mathlib.Omega.{arith}
-use borrow.Author.Needs.{needs}
 use Rattle.model.specs.ReadingCalls.{namesWorded}
 use Rattle.words.proofs.Scans.{and-off-left, and-on}
 use Rattle.reading.proofs.NameLaws.{names-step}
@@ -15,14 +16,21 @@ Inv-loop text ws at n i₀ i = (i ≤ n) × (namesWorded text n ws at ≡ namesW
 abbrev μ-loop : tie.MeasureT-loop
 μ-loop text ws at n i₀ i = n - i
 
+-- ---- the places
+abbrev Start : Type 0
+Start = tie.Start Inv-loop μ-loop
+
+abbrev Head : Type 0
+Head = tie.At-loop Inv-loop μ-loop
+
 loop-holds : tie.Need-loop-holds Inv-loop μ-loop
 loop-holds c =
-    let start : tie.Start Inv-loop μ-loop = search in
-    let n = start .args .n in let at = start .args .at in (
-      omega arith,
-      ap₂ (λ (m k : ℕ). namesWorded (start .args .text .now) m (start .args .ws .now) k)
-          (let z : n ≡ n - 0 = omega arith in z) (let z : at ≡ at + 0 * 2 = omega arith in z),
-    )
+    let start : Start = search in
+    let n = start .args .n in
+    let at = start .args .at in
+    let all-left : n ≡ n - 0 = omega arith in
+    let at-front : at ≡ at + 0 * 2 = omega arith in
+    (omega arith, ap₂ (λ (m k : ℕ). namesWorded (start .args .text .now) m (start .args .ws .now) k) all-left at-front)
 
 mul-name-fits : tie.Need-mul-name-fits Inv-loop μ-loop
 mul-name-fits c = search needs
@@ -35,16 +43,14 @@ name-fits-requires c κs = search needs
 
 returns : tie.Need-returns Inv-loop μ-loop
 returns c =
-    let after-name-fits : tie.After-name-fits Inv-loop μ-loop = search in
-    let at-loop : tie.At-loop Inv-loop μ-loop = search in
-    let start : tie.Start Inv-loop μ-loop = search in
-    let text = start .args .text .now in let n = start .args .n in let at = start .args .at in
-    let ws = start .args .ws .now in
-    let l = at-loop .loop in
-    sym (l .inv .1
-    ∙ names-step text n (l .i) at ws (omega arith)
-    ∙ and-off-left _ (namesWorded text (n - (l .i + 1)) ws (at + (l .i + 1) * 2))
-    (sym (after-name-fits .name-fits .ensures) ∙ not-true _ (c .if1 .taken)))
+    let tested : tie.After-name-fits Inv-loop μ-loop = search in
+    let head : Head = search in
+    let start : Start = search in
+    let unfit = sym (tested .name-fits .ensures) ∙ not-true _ (c .if1 .taken) in
+    sym (head .loop .inv .1
+    ∙ names-step (start .args .text .now) (start .args .n) (head .loop .i) (start .args .at) (start .args .ws .now)
+    (omega arith)
+    ∙ and-off-left _ _ unfit)
 
 add-i : tie.Need-add-i Inv-loop μ-loop
 add-i c = omega arith
@@ -54,28 +60,25 @@ loop-less c = omega arith
 
 loop-again : tie.Need-loop-again Inv-loop μ-loop
 loop-again c =
-    let after-name-fits : tie.After-name-fits Inv-loop μ-loop = search in
-    let at-loop : tie.At-loop Inv-loop μ-loop = search in
-    let start : tie.Start Inv-loop μ-loop = search in
-    let text = start .args .text .now in let n = start .args .n in let at = start .args .at in
-    let ws = start .args .ws .now in
-    let l = at-loop .loop in (
+    let tested : tie.After-name-fits Inv-loop μ-loop = search in
+    let head : Head = search in
+    let start : Start = search in
+    let fits = sym (tested .name-fits .ensures) ∙ not-false _ (c .if1 .left) in (
       omega arith,
-      l .inv .1
-          ∙ names-step text n (l .i) at ws (omega arith)
-          ∙ and-on _ (namesWorded text (n - (l .i + 1)) ws (at + (l .i + 1) * 2))
-          (sym (after-name-fits .name-fits .ensures) ∙ not-false _ (c .if1 .left)),
+      head .loop .inv .1
+          ∙ names-step (start .args .text .now) (start .args .n) (head .loop .i) (start .args .at)
+          (start .args .ws .now) (omega arith)
+          ∙ and-on _ _ fits,
     )
 
 returns-2 : tie.Need-returns-2 Inv-loop μ-loop
 returns-2 c =
-    let at-loop : tie.At-loop Inv-loop μ-loop = search in
-    let start : tie.Start Inv-loop μ-loop = search in
-    let l = at-loop .loop in
-    sym (l .inv .1
-    ∙ ap
-    (λ (m : ℕ). namesWorded (start .args .text .now) m (start .args .ws .now) (start .args .at + l .i * 2))
-    (let z : start .args .n - l .i ≡ 0 = omega arith in z))
+    let head : Head = search in
+    let start : Start = search in
+    let at = start .args .at + head .loop .i * 2 in
+    let none-left : start .args .n - head .loop .i ≡ 0 = omega arith in
+    sym (head .loop .inv .1
+    ∙ ap (λ (m : ℕ). namesWorded (start .args .text .now) m (start .args .ws .now) at) none-left)
 
 pub names-fit-spec : {M : Type 1} → statement M
 names-fit-spec =

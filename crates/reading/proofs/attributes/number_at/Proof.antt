@@ -1,8 +1,9 @@
-use mathlib.Core.Path.{sym, ap, _∙_}
+-- `number_at`: the lane number of an attribute that is there.
 use borrow.Author.Needs.{needs}
+use mathlib.Core.Path.{sym, ap, _∙_}
 use Rattle.model.specs.Reading.{laneNumber, numberOf}
-use Rattle.reading.proofs.NameLaws.{name-absent, name-there}
 use Rattle.reading.specs.Links.{linkRead}
+use Rattle.reading.proofs.NameLaws.{name-absent, name-there}
 use Rattle.reading.proofs.attributes.number_at.Statement.{statement}
 use Rattle.reading.proofs.attributes.number_at.Tie as tie
 
@@ -14,13 +15,12 @@ no-link-requires c κs = search needs
 
 returns : tie.Need-returns
 returns c =
-    let then1 : tie.Then1 = search in
-    let after-absent-at : tie.After-absent-at = search in
+    let missing : tie.Then1 = search in
+    let tested : tie.After-absent-at = search in
     let start : tie.Start = search in
-    c .no-link .ensures
-    ∙ sym (ap (λ o. linkRead (numberOf (start .args .text .now) o))
-    (name-absent (start .args .ws .now) (start .args .at)
-    (sym (after-absent-at .absent-at .ensures) ∙ then1 .if1 .taken)))
+    let absent = sym (tested .absent-at .ensures) ∙ missing .if1 .taken in
+    let nameless = name-absent (start .args .ws .now) (start .args .at) absent in
+    c .no-link .ensures ∙ sym (ap (λ o. linkRead (numberOf (start .args .text .now) o)) nameless)
 
 word-requires : tie.Need-word-requires
 word-requires c κs = search needs
@@ -39,18 +39,19 @@ lane-number-requires c κs = search needs
 
 returns-2 : tie.Need-returns-2
 returns-2 c =
-    let after-name : tie.After-name = search in
-    let after-word2 : tie.After-word2 = search in
-    let after-word : tie.After-word = search in
-    let else1 : tie.Else1 = search in
-    let after-absent-at : tie.After-absent-at = search in
+    let named : tie.After-name = search in
+    let size : tie.After-word2 = search in
+    let begin : tie.After-word = search in
+    let past : tie.Else1 = search in
+    let tested : tie.After-absent-at = search in
     let start : tie.Start = search in
+    let there = sym (tested .absent-at .ensures) ∙ past .if1 .left in
+    let first-is = begin .word .ensures .0 in
+    let size-is = size .word2 .ensures .0 in
+    let name-is = name-there (start .args .ws .now) (start .args .at) there first-is size-is in
     c .lane-number .ensures
-    ∙ ap (λ l. linkRead (laneNumber l)) (after-name .name .ensures)
-    ∙ sym (ap (λ o. linkRead (numberOf (start .args .text .now) o))
-    (name-there (start .args .ws .now) (start .args .at)
-    (sym (after-absent-at .absent-at .ensures) ∙ else1 .if1 .left) (after-word .word .ensures .0)
-    (after-word2 .word2 .ensures .0)))
+    ∙ ap (λ l. linkRead (laneNumber l)) (named .name .ensures)
+    ∙ sym (ap (λ o. linkRead (numberOf (start .args .text .now) o)) name-is)
 
 pub number-at-spec : {M : Type 1} → statement M
 number-at-spec =

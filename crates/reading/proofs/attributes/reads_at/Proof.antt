@@ -1,7 +1,8 @@
-use mathlib.Core.Path.{sym, ap, _∙_}
+-- `reads_at`: the bytes of an attribute that is there, beside those asked for.
 use borrow.Author.Needs.{needs}
-use Rattle.model.specs.Text.{equalBytes}
+use mathlib.Core.Path.{sym, ap, _∙_}
 use Rattle.model.specs.Reading.{reads}
+use Rattle.model.specs.Text.{equalBytes}
 use Rattle.reading.proofs.NameLaws.{name-absent, name-there}
 use Rattle.reading.proofs.attributes.reads_at.Statement.{statement}
 use Rattle.reading.proofs.attributes.reads_at.Tie as tie
@@ -11,11 +12,11 @@ absent-at-requires c κs = search needs
 
 returns : tie.Need-returns
 returns c =
-    let after-absent-at : tie.After-absent-at = search in
+    let tested : tie.After-absent-at = search in
     let start : tie.Start = search in
+    let absent = sym (tested .absent-at .ensures) ∙ c .if1 .taken in
     sym (ap (reads (start .args .text .now) (start .args .bytes .now))
-    (name-absent (start .args .ws .now) (start .args .at)
-    (sym (after-absent-at .absent-at .ensures) ∙ c .if1 .taken)))
+    (name-absent (start .args .ws .now) (start .args .at) absent))
 
 word-requires : tie.Need-word-requires
 word-requires c κs = search needs
@@ -34,19 +35,20 @@ same-bytes-requires c κs = search needs
 
 returns-2 : tie.Need-returns-2
 returns-2 c =
-    let after-name : tie.After-name = search in
-    let after-word2 : tie.After-word2 = search in
-    let after-word : tie.After-word = search in
-    let else1 : tie.Else1 = search in
-    let after-absent-at : tie.After-absent-at = search in
+    let named : tie.After-name = search in
+    let size : tie.After-word2 = search in
+    let begin : tie.After-word = search in
+    let past : tie.Else1 = search in
+    let tested : tie.After-absent-at = search in
     let start : tie.Start = search in
     let bytes = start .args .bytes .now in
+    let there = sym (tested .absent-at .ensures) ∙ past .if1 .left in
+    let first-is = begin .word .ensures .0 in
+    let size-is = size .word2 .ensures .0 in
+    let name-is = name-there (start .args .ws .now) (start .args .at) there first-is size-is in
     c .same-bytes .ensures
-    ∙ ap (λ l. equalBytes l bytes) (after-name .name .ensures)
-    ∙ sym (ap (reads (start .args .text .now) bytes)
-    (name-there (start .args .ws .now) (start .args .at)
-    (sym (after-absent-at .absent-at .ensures) ∙ else1 .if1 .left) (after-word .word .ensures .0)
-    (after-word2 .word2 .ensures .0)))
+    ∙ ap (λ l. equalBytes l bytes) (named .name .ensures)
+    ∙ sym (ap (reads (start .args .text .now) bytes) name-is)
 
 pub reads-at-spec : {M : Type 1} → statement M
 reads-at-spec =

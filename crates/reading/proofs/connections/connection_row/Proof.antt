@@ -1,8 +1,9 @@
-use lib.ListN.{getD}
-use mathlib.Core.List.{[], _∷_}
-use Prim.Native.Nat.{_+_}
-use native.Mathlib.Omega.{arith}
+-- `connection_row`: five words as they are read, and its part of the pairs.
 use borrow.Author.Needs.{needs}
+use lib.ListN.{getD}
+use Prim.Native.Nat.{_+_}
+use mathlib.Core.List.{[], _∷_}
+use native.Mathlib.Omega.{arith}
 use Rattle.reading.proofs.connections.connection_row.Statement.{statement}
 use Rattle.reading.proofs.connections.connection_row.Tie as tie
 
@@ -49,24 +50,22 @@ shared-slice-read-t23 : tie.Need-shared-slice-read-t23
 shared-slice-read-t23 c = search needs
 
 cast-t24 : tie.Need-cast-t24
-cast-t24 c =
-    let start : tie.Start = search in
-    omega (arith, start .pre .2)
+cast-t24 c = let start : tie.Start = search in omega (arith, start .pre .2)
 
 cast-t25 : tie.Need-cast-t25
-cast-t25 c =
-    let start : tie.Start = search in
-    omega (arith, start .pre .3)
+cast-t25 c = let start : tie.Start = search in omega (arith, start .pre .3)
 
 returns : tie.Need-returns
 returns c =
-    let after-contact-at : tie.After-contact-at = search in
+    let read : tie.After-contact-at = search in
     let start : tie.Start = search in
-    let connections = start .args .connections .now in let at = start .args .at in let k = start .args .k in
-    let e = after-contact-at .contact-at .ensures in
+    let connections = start .args .connections .now in
+    let at = start .args .at in
+    let k = start .args .k in
+    let contact = read .contact-at .ensures in
     λ z.
-    getD connections (at + 4) 0 ∷ getD connections (at + 4 + 1) 0 ∷ getD connections k 0
-    ∷ getD connections (k + 1) 0 ∷ e z ∷ start .args .first ∷ start .args .count ∷ []
+    getD connections (at + 4) 0 ∷ getD connections (at + 4 + 1) 0 ∷ getD connections k 0 ∷ getD connections (k + 1) 0
+    ∷ contact z ∷ start .args .first ∷ start .args .count ∷ []
 
 pub connection-row-spec : {M : Type 1} → statement M
 connection-row-spec =

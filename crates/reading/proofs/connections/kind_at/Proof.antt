@@ -1,5 +1,6 @@
-use mathlib.Core.Path.{sym, _∙_}
+-- `kind_at`: direct, virtual, or common for all else.
 use borrow.Author.Needs.{needs}
+use mathlib.Core.Path.{sym, _∙_}
 use Rattle.model.specs.Tables.{nameIn}
 use Rattle.reading.proofs.ConnectionLaws.{kind-common, kind-direct, kind-virtual}
 use Rattle.reading.proofs.connections.kind_at.Statement.{statement}
@@ -13,10 +14,10 @@ reads-at-requires c κs = search needs
 
 returns : tie.Need-returns
 returns c =
-    let after-reads-at : tie.After-reads-at = search in
+    let direct : tie.After-reads-at = search in
     let start : tie.Start = search in
     kind-direct (start .args .text .now) (nameIn (start .args .ws .now) (start .args .at))
-    (sym (after-reads-at .reads-at .ensures) ∙ c .if1 .taken)
+    (sym (direct .reads-at .ensures) ∙ c .if1 .taken)
 
 slice-aggregate-reads-at-2 : tie.Need-slice-aggregate-reads-at-2
 slice-aggregate-reads-at-2 c = search needs
@@ -26,23 +27,21 @@ reads-at-requires-2 c κs = search needs
 
 returns-2 : tie.Need-returns-2
 returns-2 c =
-    let after-reads-at2 : tie.After-reads-at2 = search in
-    let else1 : tie.Else1 = search in
-    let after-reads-at : tie.After-reads-at = search in
+    let virtual : tie.After-reads-at2 = search in
+    let past : tie.Else1 = search in
+    let direct : tie.After-reads-at = search in
     let start : tie.Start = search in
     kind-virtual (start .args .text .now) (nameIn (start .args .ws .now) (start .args .at))
-    (sym (after-reads-at .reads-at .ensures) ∙ else1 .if1 .left)
-    (sym (after-reads-at2 .reads-at2 .ensures) ∙ c .if2 .taken)
+    (sym (direct .reads-at .ensures) ∙ past .if1 .left) (sym (virtual .reads-at2 .ensures) ∙ c .if2 .taken)
 
 returns-3 : tie.Need-returns-3
 returns-3 c =
-    let after-reads-at2 : tie.After-reads-at2 = search in
-    let else1 : tie.Else1 = search in
-    let after-reads-at : tie.After-reads-at = search in
+    let virtual : tie.After-reads-at2 = search in
+    let past : tie.Else1 = search in
+    let direct : tie.After-reads-at = search in
     let start : tie.Start = search in
     kind-common (start .args .text .now) (nameIn (start .args .ws .now) (start .args .at))
-    (sym (after-reads-at .reads-at .ensures) ∙ else1 .if1 .left)
-    (sym (after-reads-at2 .reads-at2 .ensures) ∙ c .if2 .left)
+    (sym (direct .reads-at .ensures) ∙ past .if1 .left) (sym (virtual .reads-at2 .ensures) ∙ c .if2 .left)
 
 pub kind-at-spec : {M : Type 1} → statement M
 kind-at-spec =

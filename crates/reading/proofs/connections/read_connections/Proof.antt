@@ -1,123 +1,106 @@
-use native.Mathlib.Nat.{add-assoc, add-zero}
+-- `read_connections` reads the connections of a part. Before turn `k` the first `k` of them are read.
 use Prim.Native.Nat.{ℕ, _+_, _-_, _≤_}
-use mathlib.Core.Path.{_≡_, sym, subst}
+use mathlib.Core.Path.{_≡_, sym}
+use native.Mathlib.Nat.{add-assoc, add-zero}
 use native.Mathlib.Omega.{arith}
-use Rattle.model.specs.Reading.{connectionWarnings, keptConnections, partRows}
 use Rattle.model.specs.Lists.{gather}
+use Rattle.model.specs.Reading.{RawTables, connectionWarnings, keptConnections, partRows}
+use Rattle.reading.specs.Laid.{ConnectionsRead, Low, connectionOuts, rawTables}
+use Rattle.reading.proofs.RoomLaws.{low-at}
 use Rattle.reading.proofs.RunLaws.{connections-none, connections-turn}
-use Rattle.reading.specs.Laid.{ConnectionsRead, Low, rawTables}
 use Rattle.reading.proofs.connections.read_connections.Statement.{statement}
 use Rattle.reading.proofs.connections.read_connections.Tie as tie
 
 abbrev Inv-loop : tie.InvT-loop
 Inv-loop text junctions connections links j first count kind co₀ n po₀ p wo₀ w reach₀ k₀ co po wo reach k =
     (k ≤ count)
-    × ConnectionsRead
-    (gather (keptConnections (rawTables text junctions connections links) j) (partRows first k))
-    (gather (connectionWarnings (rawTables text junctions connections links) j) (partRows first k)) n p w
-    (reach .connections) (reach .pairs) (reach .warnings) co₀ po₀ wo₀ co po wo
+    × ConnectionsRead (gather (keptConnections (rawTables text junctions connections links) j) (partRows first k))
+    (gather (connectionWarnings (rawTables text junctions connections links) j) (partRows first k))
+    (connectionOuts co₀ n po₀ p wo₀ w)
+    (connectionOuts co (reach .connections) po (reach .pairs) wo (reach .warnings))
     × Low connections (first + k) (reach .connections) (reach .pairs) (reach .warnings)
 
 abbrev μ-loop : tie.MeasureT-loop
-μ-loop text junctions connections links j first count kind co₀ n po₀ p wo₀ w reach₀ k₀ co po wo reach k =
-    count - k
+μ-loop text junctions connections links j first count kind co₀ n po₀ p wo₀ w reach₀ k₀ co po wo reach k = count - k
+
+-- ---- the places
+abbrev Start : Type 0
+Start = tie.Start Inv-loop μ-loop
+
+abbrev Head : Type 0
+Head = tie.At-loop Inv-loop μ-loop
+
+abbrev Turn : Type 0
+Turn = tie.In-loop Inv-loop μ-loop
+
+-- the raw tables
+module _ (start : Start) where
+  abbrev tables : RawTables
+  tables =
+      rawTables (start .args .text .now) (start .args .junctions .now) (start .args .connections .now)
+      (start .args .links .now)
 
 loop-holds : tie.Need-loop-holds Inv-loop μ-loop
 loop-holds c =
-    let start : tie.Start Inv-loop μ-loop = search in
-    let n = start .args .n in let p = start .args .p in let w = start .args .w in (
+    let start : Start = search in
+    let args = start .args in (
       omega arith,
-      connections-none n p w (start .args .co .now) (start .args .po .now) (start .args .wo .now),
-      subst (λ (m : ℕ). Low (start .args .connections .now) m n p w) (sym (add-zero (start .args .first)))
-          (start .pre .1 .1 .2),
+      connections-none (connectionOuts (args .co .now) (args .n) (args .po .now) (args .p) (args .wo .now) (args .w)),
+      low-at (sym (add-zero (args .first))) (start .pre .1 .1),
     )
 
 add-read-connection : tie.Need-add-read-connection Inv-loop μ-loop
 add-read-connection c =
-    let start : tie.Start Inv-loop μ-loop = search in
-    omega (arith, start .pre .1 .1 .1, start .pre .0 .few-connections, c .loop-test .taken)
+    let start : Start = search in
+    omega (arith, start .pre .1 .0, start .pre .0 .ready .few-connections, c .loop-test .taken)
 
 read-connection-requires : tie.Need-read-connection-requires Inv-loop μ-loop
 read-connection-requires c κs =
-    let in-loop : tie.In-loop Inv-loop μ-loop = search in
-    let at-loop : tie.At-loop Inv-loop μ-loop = search in
-    let start : tie.Start Inv-loop μ-loop = search in (
-      start .pre .0,
-      (
-        start .pre .1 .0,
-        (
-          start .pre .1 .1 .0,
-          omega (arith, start .pre .1 .1 .1, in-loop .loop-test .taken),
-          at-loop .loop .inv .2,
-        ),
-      ),
-    )
+    let turn : Turn = search in
+    let head : Head = search in
+    let start : Start = search in
+    (start .pre .0, (omega (arith, start .pre .1 .0, turn .loop-test .taken), head .loop .inv .2))
 
 add-k : tie.Need-add-k Inv-loop μ-loop
 add-k c =
-    let in-loop : tie.In-loop Inv-loop μ-loop = search in
-    let start : tie.Start Inv-loop μ-loop = search in
-    omega (arith, start .pre .1 .1 .1, start .pre .0 .few-connections, in-loop .loop-test .taken)
+    let turn : Turn = search in
+    let start : Start = search in
+    omega (arith, start .pre .1 .0, start .pre .0 .ready .few-connections, turn .loop-test .taken)
 
 loop-less : tie.Need-loop-less Inv-loop μ-loop
-loop-less c =
-    let in-loop : tie.In-loop Inv-loop μ-loop = search in
-    omega (arith, in-loop .loop-test .taken)
+loop-less c = let turn : Turn = search in omega (arith, turn .loop-test .taken)
 
 loop-again : tie.Need-loop-again Inv-loop μ-loop
 loop-again c =
-    let after-read-connection : tie.After-read-connection Inv-loop μ-loop = search in
-    let in-loop : tie.In-loop Inv-loop μ-loop = search in
-    let at-loop : tie.At-loop Inv-loop μ-loop = search in
-    let start : tie.Start Inv-loop μ-loop = search in
-    let text = start .args .text .now in let junctions = start .args .junctions .now in
-    let connections = start .args .connections .now in let links = start .args .links .now in
-    let j = start .args .j in let first = start .args .first in
-    let l = at-loop .loop in (
-      omega (arith, in-loop .loop-test .taken),
-      connections-turn (keptConnections (rawTables text junctions connections links) j)
-          (connectionWarnings (rawTables text junctions connections links) j) first (l .k) (l .inv .1)
-          (after-read-connection .read-connection .ensures .0),
-      subst (λ (m : ℕ).
-          Low connections m (after-read-connection .read-connection .result .connections)
-          (after-read-connection .read-connection .result .pairs)
-          (after-read-connection .read-connection .result .warnings)) (add-assoc first (l .k) 1)
-          (after-read-connection .read-connection .ensures .1),
+    let read : tie.After-read-connection Inv-loop μ-loop = search in
+    let turn : Turn = search in
+    let head : Head = search in
+    let start : Start = search in
+    let args = start .args in
+    let t = tables start in
+    let k = head .loop .k in (
+      omega (arith, turn .loop-test .taken),
+      connections-turn (keptConnections t (args .j)) (connectionWarnings t (args .j)) (args .first) k
+          (head .loop .inv .1) (read .read-connection .ensures .0),
+      low-at (add-assoc (args .first) k 1) (read .read-connection .ensures .1),
     )
 
 same-length : tie.Need-same-length Inv-loop μ-loop
-same-length c =
-    let at-loop : tie.At-loop Inv-loop μ-loop = search in
-    at-loop .loop .inv .1 .rows .kept
+same-length c = let head : Head = search in head .loop .inv .1 .rows .kept
 
 same-length-2 : tie.Need-same-length-2 Inv-loop μ-loop
-same-length-2 c =
-    let at-loop : tie.At-loop Inv-loop μ-loop = search in
-    at-loop .loop .inv .1 .rest .pairs .kept
+same-length-2 c = let head : Head = search in head .loop .inv .1 .rest .pairs .kept
 
 same-length-3 : tie.Need-same-length-3 Inv-loop μ-loop
-same-length-3 c =
-    let at-loop : tie.At-loop Inv-loop μ-loop = search in
-    at-loop .loop .inv .1 .rest .warnings .kept
+same-length-3 c = let head : Head = search in head .loop .inv .1 .rest .warnings .kept
 
 returns : tie.Need-returns Inv-loop μ-loop
 returns c =
-    let at-loop : tie.At-loop Inv-loop μ-loop = search in
-    let start : tie.Start Inv-loop μ-loop = search in
-    let text = start .args .text .now in let junctions = start .args .junctions .now in
-    let connections = start .args .connections .now in let links = start .args .links .now in
-    let j = start .args .j in let first = start .args .first in
-    let l = at-loop .loop in
-    let past : l .k ≡ start .args .count = omega (arith, l .inv .0, c .loop-test .left) in
-    subst (λ (m : ℕ).
-    ConnectionsRead
-    (gather (keptConnections (rawTables text junctions connections links) j) (partRows first m))
-    (gather (connectionWarnings (rawTables text junctions connections links) j) (partRows first m))
-    (start .args .n) (start .args .p) (start .args .w) (l .reach .connections) (l .reach .pairs)
-    (l .reach .warnings) (start .args .co .now) (start .args .po .now) (start .args .wo .now) (l .co) (l .po)
-    (l .wo)
-    × Low connections (first + m) (l .reach .connections) (l .reach .pairs) (l .reach .warnings)) past
-    (l .inv .1, l .inv .2)
+    let head : Head = search in
+    let start : Start = search in
+    let inv = head .loop .inv in
+    let past : head .loop .k ≡ start .args .count = omega (arith, inv .0, c .loop-test .left) in
+    (rw past at (inv .1), rw past at (inv .2))
 
 pub read-connections-spec : {M : Type 1} → statement M
 read-connections-spec =

@@ -1,36 +1,45 @@
-use mathlib.Core.Path.{refl, sym, ap, ap₂, _∙_}
+-- `same_names`: both attributes are there, and have the same bytes.
 use borrow.Author.Needs.{needs}
-use Rattle.model.specs.Tables.{nameIn}
+use mathlib.Core.Option.{some}
+use mathlib.Core.Path.{_≡_, refl, sym, ap, ap₂, _∙_}
 use Rattle.model.specs.Reading.{sameNames}
+use Rattle.model.specs.Tables.{nameIn, spanIn}
 use Rattle.reading.proofs.NameLaws.{name-absent, name-there}
 use Rattle.reading.proofs.connections.same_names.Statement.{statement}
 use Rattle.reading.proofs.connections.same_names.Tie as tie
+
+-- ---- the first is there
+module _ (past : tie.Else1) where
+  abbrev start : tie.Start
+  start = search
+
+  first-there : nameIn (start .args .xs .now) (start .args .a) ≡ some (spanIn (start .args .xs .now) (start .args .a))
+  first-there =
+      let tested : tie.After-absent-at = search in
+      name-there (start .args .xs .now) (start .args .a) (sym (tested .absent-at .ensures) ∙ past .if1 .left) refl refl
 
 absent-at-requires : tie.Need-absent-at-requires
 absent-at-requires c κs = search needs
 
 returns : tie.Need-returns
 returns c =
-    let after-absent-at : tie.After-absent-at = search in
+    let tested : tie.After-absent-at = search in
     let start : tie.Start = search in
-    sym (ap (λ o. sameNames (start .args .text .now) o (nameIn (start .args .ys .now) (start .args .b)))
-    (name-absent (start .args .xs .now) (start .args .a)
-    (sym (after-absent-at .absent-at .ensures) ∙ c .if1 .taken)))
+    let absent = sym (tested .absent-at .ensures) ∙ c .if1 .taken in
+    let first = name-absent (start .args .xs .now) (start .args .a) absent in
+    sym (ap (λ o. sameNames (start .args .text .now) o (nameIn (start .args .ys .now) (start .args .b))) first)
 
 absent-at-requires-2 : tie.Need-absent-at-requires-2
 absent-at-requires-2 c κs = search needs
 
 returns-2 : tie.Need-returns-2
 returns-2 c =
-    let after-absent-at2 : tie.After-absent-at2 = search in
-    let else1 : tie.Else1 = search in
-    let after-absent-at : tie.After-absent-at = search in
+    let tested : tie.After-absent-at2 = search in
+    let past : tie.Else1 = search in
     let start : tie.Start = search in
-    sym (ap₂ (sameNames (start .args .text .now))
-    (name-there (start .args .xs .now) (start .args .a)
-    (sym (after-absent-at .absent-at .ensures) ∙ else1 .if1 .left) refl refl)
-    (name-absent (start .args .ys .now) (start .args .b)
-    (sym (after-absent-at2 .absent-at2 .ensures) ∙ c .if2 .taken)))
+    let absent = sym (tested .absent-at2 .ensures) ∙ c .if2 .taken in
+    let second = name-absent (start .args .ys .now) (start .args .b) absent in
+    sym (ap₂ (sameNames (start .args .text .now)) (first-there past) second)
 
 word-requires : tie.Need-word-requires
 word-requires c κs = search needs
@@ -46,20 +55,17 @@ named-requires c κs = search needs
 
 returns-3 : tie.Need-returns-3
 returns-3 c =
-    let after-word2 : tie.After-word2 = search in
-    let after-word : tie.After-word = search in
-    let else2 : tie.Else2 = search in
-    let after-absent-at2 : tie.After-absent-at2 = search in
-    let else1 : tie.Else1 = search in
-    let after-absent-at : tie.After-absent-at = search in
+    let size : tie.After-word2 = search in
+    let begin : tie.After-word = search in
+    let both : tie.Else2 = search in
+    let tested : tie.After-absent-at2 = search in
+    let past : tie.Else1 = search in
     let start : tie.Start = search in
-    c .named .ensures
-    ∙ sym (ap₂ (sameNames (start .args .text .now))
-    (name-there (start .args .xs .now) (start .args .a)
-    (sym (after-absent-at .absent-at .ensures) ∙ else1 .if1 .left) refl refl)
-    (name-there (start .args .ys .now) (start .args .b)
-    (sym (after-absent-at2 .absent-at2 .ensures) ∙ else2 .if2 .left) (after-word .word .ensures .0)
-    (after-word2 .word2 .ensures .0)))
+    let there = sym (tested .absent-at2 .ensures) ∙ both .if2 .left in
+    let first-is = begin .word .ensures .0 in
+    let size-is = size .word2 .ensures .0 in
+    let second = name-there (start .args .ys .now) (start .args .b) there first-is size-is in
+    c .named .ensures ∙ sym (ap₂ (sameNames (start .args .text .now)) (first-there past) second)
 
 pub same-names-spec : {M : Type 1} → statement M
 same-names-spec =

@@ -1,294 +1,192 @@
-use lib.ListN.{length}
-use mathlib.Core.List.{[]}
-use Prim.Native.Nat.{ℕ, _+_, _-_, _/_}
-use mathlib.Core.Path.{sym, subst, _∙_}
-use native.Mathlib.Omega.{arith}
+-- `read_junction` drops the connections of a junction without a name, with warning 1 each, or reads them and puts the
+-- junction.
 use borrow.Author.Needs.{needs}
-use Rattle.words.proofs.Scans.{row-fits}
+use lib.ListN.{length}
+use Prim.Native.Nat.{ℕ, _+_, _*_, _-_, _/_, _≤_}
+use mathlib.Core.Path.{sym, _∙_}
+use native.Mathlib.Omega.{arith}
 use Rattle.words.proofs.KeyLaws.{rows-in}
-use Rattle.reading.proofs.RoomLaws.{ground, low-dropped}
+use Rattle.words.proofs.Scans.{row-fits}
 use Rattle.reading.proofs.JunctionLaws.{kind-word, read-named, read-unnamed}
-use Rattle.reading.specs.Laid.{Low}
+use Rattle.reading.proofs.RoomLaws.{Ground, ground, low-at, low-dropped}
 use Rattle.reading.proofs.junctions.read_junction.Statement.{statement}
 use Rattle.reading.proofs.junctions.read_junction.Tie as tie
 
+-- ---- row j of the junctions
+module _ (start : tie.Start) where
+  row-there : start .args .j * 8 + 8 ≤ length (start .args .junctions .now)
+  row-there =
+      let fits = row-fits (length (start .args .junctions .now) / 8) 8 (start .args .j) (start .pre .1 .0) in
+      omega (arith, rows-in (length (start .args .junctions .now)) 8)
+
+-- ---- its part of the connections, and what the rows before it leave
+module _ (count : tie.After-word2) where
+  abbrev first : tie.After-word
+  first = search
+
+  abbrev start : tie.Start
+  start = search
+
+  on : Ground (start .args .junctions .now) (start .args .connections .now) (start .args .j) (first .word .result)
+      (count .word2 .result) (start .args .n) (start .args .p) (start .args .w)
+  on = ground (start .pre .0) (start .pre .1 .0) (start .pre .1 .1 .low) (first .word .ensures .0)
+      (count .word2 .ensures .0)
+
+  -- at most j junctions before it
+  junctions-few : start .args .m ≤ 16384
+  junctions-few = omega (arith, start .pre .1 .1 .junctions-low, on .small)
+
 mul-at : tie.Need-mul-at
-mul-at c =
-    let start : tie.Start = search in
-    let junctions = start .args .junctions .now in
-    let a = row-fits (length junctions / 8) 8 (start .args .j) (start .pre .1) in
-    let b = rows-in (length junctions) 8 in omega arith
+mul-at c = let start : tie.Start = search in omega (arith, row-there start)
 
 add-word : tie.Need-add-word
-add-word c =
-    let start : tie.Start = search in
-    let junctions = start .args .junctions .now in
-    let a = row-fits (length junctions / 8) 8 (start .args .j) (start .pre .1) in
-    let b = rows-in (length junctions) 8 in omega arith
+add-word c = let start : tie.Start = search in omega (arith, row-there start)
 
 word-requires : tie.Need-word-requires
-word-requires c κs =
-    let start : tie.Start = search in
-    let junctions = start .args .junctions .now in
-    let a = row-fits (length junctions / 8) 8 (start .args .j) (start .pre .1) in
-    let b = rows-in (length junctions) 8 in omega arith
+word-requires c κs = let start : tie.Start = search in omega (arith, row-there start)
 
 add-word-2 : tie.Need-add-word-2
-add-word-2 c =
-    let start : tie.Start = search in
-    let junctions = start .args .junctions .now in
-    let a = row-fits (length junctions / 8) 8 (start .args .j) (start .pre .1) in
-    let b = rows-in (length junctions) 8 in omega arith
+add-word-2 c = let start : tie.Start = search in omega (arith, row-there start)
 
 word-requires-2 : tie.Need-word-requires-2
-word-requires-2 c κs =
-    let start : tie.Start = search in
-    let junctions = start .args .junctions .now in
-    let a = row-fits (length junctions / 8) 8 (start .args .j) (start .pre .1) in
-    let b = rows-in (length junctions) 8 in omega arith
+word-requires-2 c κs = let start : tie.Start = search in omega (arith, row-there start)
 
 absent-at-requires : tie.Need-absent-at-requires
-absent-at-requires c κs =
-    let start : tie.Start = search in
-    let junctions = start .args .junctions .now in
-    let a = row-fits (length junctions / 8) 8 (start .args .j) (start .pre .1) in
-    let b = rows-in (length junctions) 8 in omega arith
+absent-at-requires c κs = let start : tie.Start = search in omega (arith, row-there start)
 
+-- ---- it has no name
 cast-drop-all : tie.Need-cast-drop-all
-cast-drop-all c =
-    let after-word2 : tie.After-word2 = search in
-    let after-word : tie.After-word = search in
-    let start : tie.Start = search in
-    let f = after-word .word .ensures .0 in
-    let g = after-word2 .word2 .ensures .0 in
-    let d = ground (start .pre .0) (start .pre .1) (start .pre .3) f g in omega (arith, d .small)
+cast-drop-all c = let count : tie.After-word2 = search in omega (arith, on count .small)
 
 drop-all-requires : tie.Need-drop-all-requires
-drop-all-requires c κs =
-    let after-word2 : tie.After-word2 = search in
-    let after-word : tie.After-word = search in
-    let start : tie.Start = search in
-    let f = after-word .word .ensures .0 in
-    let g = after-word2 .word2 .ensures .0 in
-    let d = ground (start .pre .0) (start .pre .1) (start .pre .3) f g in (d .few, d .warnings)
+drop-all-requires c κs = let count : tie.After-word2 = search in (on count .few, on count .warnings)
 
 add-t26 : tie.Need-add-t26
-add-t26 c =
-    let after-word2 : tie.After-word2 = search in
-    let after-word : tie.After-word = search in
-    let start : tie.Start = search in
-    let f = after-word .word .ensures .0 in
-    let g = after-word2 .word2 .ensures .0 in
-    let d = ground (start .pre .0) (start .pre .1) (start .pre .3) f g in omega (arith, d .warnings)
+add-t26 c = let count : tie.After-word2 = search in omega (arith, on count .warnings)
 
 same-length : tie.Need-same-length
-same-length c =
-    let after-drop-all : tie.After-drop-all = search in
-    after-drop-all .drop-all .kept .1 .1 .1 .0
+same-length c = let dropped : tie.After-drop-all = search in dropped .drop-all .ensures .kept
 
 returns : tie.Need-returns
 returns c =
-    let after-drop-all : tie.After-drop-all = search in
-    let then1 : tie.Then1 = search in
-    let after-absent-at : tie.After-absent-at = search in
-    let after-word2 : tie.After-word2 = search in
-    let after-word : tie.After-word = search in
-    let after-shared-slice-known2 = after-word .before .before .before .before .before .before .before in
-    let start = after-shared-slice-known2 .before .before in
-    let connections = start .args .connections .now in let n = start .args .n in let p = start .args .p in
-    let w = start .args .w in
-    let f = after-word .word .ensures .0 in
-    let g = after-word2 .word2 .ensures .0 in
-    let d = ground (start .pre .0) (start .pre .1) (start .pre .3) f g in (
-      read-unnamed (start .args .text .now) (start .args .junctions .now) connections (start .args .links .now)
-          (start .args .j) (start .args .m) n p w (start .args .jo .now) (start .args .co .now)
-          (start .args .po .now) (start .args .wo .now) f g
-          (sym (after-absent-at .absent-at .ensures) ∙ then1 .if1 .taken) (after-drop-all .drop-all .ensures),
-      omega (arith, start .pre .2),
-      subst (λ (m : ℕ). Low connections m n p (w + after-word2 .word2 .result)) (d .next)
-          (low-dropped (after-word2 .word2 .result) (d .start)),
+    let dropped : tie.After-drop-all = search in
+    let unnamed : tie.Then1 = search in
+    let tested : tie.After-absent-at = search in
+    let count : tie.After-word2 = search in
+    let args = start count .args in
+    let absent = sym (tested .absent-at .ensures) ∙ unnamed .if1 .taken in (
+      read-unnamed (args .text .now) (args .junctions .now) (args .connections .now) (args .links .now) (args .j)
+          (first count .word .ensures .0) (count .word2 .ensures .0) absent (dropped .drop-all .ensures),
+      record {
+        junctions-low = omega (arith, start count .pre .1 .1 .junctions-low);
+        low = low-at (on count .next) (low-dropped (count .word2 .result) (on count .start));
+      },
     )
 
+-- ---- it has one
 add-kind-at : tie.Need-add-kind-at
-add-kind-at c =
-    let start : tie.Start = search in
-    let junctions = start .args .junctions .now in
-    let a = row-fits (length junctions / 8) 8 (start .args .j) (start .pre .1) in
-    let b = rows-in (length junctions) 8 in omega arith
+add-kind-at c = let start : tie.Start = search in omega (arith, row-there start)
 
 kind-at-requires : tie.Need-kind-at-requires
-kind-at-requires c κs =
-    let start : tie.Start = search in
-    let junctions = start .args .junctions .now in
-    let a = row-fits (length junctions / 8) 8 (start .args .j) (start .pre .1) in
-    let b = rows-in (length junctions) 8 in omega arith
+kind-at-requires c κs = let start : tie.Start = search in omega (arith, row-there start)
 
 read-connections-requires : tie.Need-read-connections-requires
 read-connections-requires c κs =
-    let after-kind-at : tie.After-kind-at = search in
-    let after-word2 : tie.After-word2 = search in
-    let after-word : tie.After-word = search in
-    let start : tie.Start = search in
-    let f = after-word .word .ensures .0 in
-    let g = after-word2 .word2 .ensures .0 in
-    let d = ground (start .pre .0) (start .pre .1) (start .pre .3) f g in (
-      start .pre .0,
-      (
-        kind-word (start .args .text .now) (start .args .junctions .now) (start .args .connections .now) []
-            (start .args .j) (after-kind-at .kind-at .ensures),
-        (start .pre .1, d .part, d .start),
-      ),
+    let kind : tie.After-kind-at = search in
+    let count : tie.After-word2 = search in
+    let args = start count .args in (
+      record {
+        ready = start count .pre .0;
+        junction-there = start count .pre .1 .0;
+        kind-is = kind-word (args .text .now) (args .junctions .now) (args .connections .now) (args .links .now)
+            (args .j) (kind .kind-at .ensures);
+      },
+      (on count .part, on count .start),
     )
 
 sub-size : tie.Need-sub-size
 sub-size c =
-    let after-read-connections : tie.After-read-connections = search in
-    omega (arith, after-read-connections .read-connections .ensures .0 .rows .count)
+    let read : tie.After-read-connections = search in
+    omega (arith, read .read-connections .ensures .0 .rows .count)
 
 cast-size : tie.Need-cast-size
 cast-size c =
-    let after-read-connections : tie.After-read-connections = search in
-    let after-word2 : tie.After-word2 = search in
-    let after-word : tie.After-word = search in
-    let start : tie.Start = search in
-    let f = after-word .word .ensures .0 in
-    let g = after-word2 .word2 .ensures .0 in
-    let d = ground (start .pre .0) (start .pre .1) (start .pre .3) f g in
-    omega (arith, after-read-connections .read-connections .ensures .1 .connections-low, d .few)
+    let read : tie.After-read-connections = search in
+    let count : tie.After-word2 = search in
+    omega (arith, read .read-connections .ensures .1 .connections-low, on count .few)
 
 mul-put-if : tie.Need-mul-put-if
-mul-put-if c =
-    let after-co = c .before .before .before .before .before .before .before in
-    let after-absent-at = after-co .before .before .before .before .before .before .before in
-    let after-shared-slice-known4 = after-absent-at .before .before .before .before .before .before .before in
-    let start = after-shared-slice-known4 .before .before .before .before in
-    omega (arith, start .pre .2, start .pre .1, start .pre .0 .few-junctions)
+mul-put-if c = let count : tie.After-word2 = search in omega (arith, junctions-few count)
 
 mul-t37 : tie.Need-mul-t37
-mul-t37 c =
-    let after-co = c .before .before .before .before .before .before .before in
-    let after-absent-at = after-co .before .before .before .before .before .before .before in
-    let after-shared-slice-known4 = after-absent-at .before .before .before .before .before .before .before in
-    let start = after-shared-slice-known4 .before .before .before .before in
-    omega (arith, start .pre .0 .few-junctions, start .pre .1)
+mul-t37 c = let count : tie.After-word2 = search in omega (arith, on count .small)
 
 shared-slice-read-t39 : tie.Need-shared-slice-read-t39
-shared-slice-read-t39 c =
-    let after-slice-known6 = c .before .before .before .before .before .before .before in
-    let else1 = after-slice-known6 .before .before .before .before .before .before .before in
-    let after-slice-known = else1 .before .before .before .before .before .before .before in
-    let start = after-slice-known .before .before .before .before .before in
-    let junctions = start .args .junctions .now in
-    let a = row-fits (length junctions / 8) 8 (start .args .j) (start .pre .1) in
-    let b = rows-in (length junctions) 8 in omega arith
+shared-slice-read-t39 c = let count : tie.After-word2 = search in omega (arith, on count .row)
 
 add-t40 : tie.Need-add-t40
-add-t40 c =
-    let after-slice-known6 = c .before .before .before .before .before .before .before in
-    let else1 = after-slice-known6 .before .before .before .before .before .before .before in
-    let after-slice-known = else1 .before .before .before .before .before .before .before in
-    let start = after-slice-known .before .before .before .before .before in
-    let junctions = start .args .junctions .now in
-    let a = row-fits (length junctions / 8) 8 (start .args .j) (start .pre .1) in
-    let b = rows-in (length junctions) 8 in omega arith
+add-t40 c = let count : tie.After-word2 = search in omega (arith, on count .small)
 
 mul-t41 : tie.Need-mul-t41
-mul-t41 c =
-    let after-slice-known6 = c .before .before .before .before .before .before .before in
-    let else1 = after-slice-known6 .before .before .before .before .before .before .before in
-    let after-slice-known = else1 .before .before .before .before .before .before .before in
-    let start = after-slice-known .before .before .before .before .before in
-    omega (arith, start .pre .0 .few-junctions, start .pre .1)
+mul-t41 c = let count : tie.After-word2 = search in omega (arith, on count .small)
 
 shared-slice-read-t43 : tie.Need-shared-slice-read-t43
-shared-slice-read-t43 c =
-    let after-po = c .before .before .before .before .before .before .before in
-    let after-kind-at = after-po .before .before .before .before .before .before .before in
-    let after-slice-known2 = after-kind-at .before .before .before .before .before .before .before in
-    let start = after-slice-known2 .before .before .before .before .before .before in
-    let junctions = start .args .junctions .now in
-    let a = row-fits (length junctions / 8) 8 (start .args .j) (start .pre .1) in
-    let b = rows-in (length junctions) 8 in omega arith
+shared-slice-read-t43 c = let count : tie.After-word2 = search in omega (arith, on count .row)
 
 cast-t44 : tie.Need-cast-t44
-cast-t44 c =
-    let after-word2 : tie.After-word2 = search in
-    let after-word : tie.After-word = search in
-    let start : tie.Start = search in
-    let f = after-word .word .ensures .0 in
-    let g = after-word2 .word2 .ensures .0 in
-    let d = ground (start .pre .0) (start .pre .1) (start .pre .3) f g in omega (arith, d .kept, d .few)
+cast-t44 c = let count : tie.After-word2 = search in omega (arith, on count .kept, on count .few)
 
 slice-aggregate-put-if : tie.Need-slice-aggregate-put-if
 slice-aggregate-put-if c = search needs
 
 put-if-requires : tie.Need-put-if-requires
-put-if-requires c κs =
-    let after-slice-known7 = c .before .before .before .before .before .before .before in
-    let after-read-connections-arg = after-slice-known7 .before .before .before .before .before .before .before in
-    let after-slice-known3 = after-read-connections-arg .before .before .before .before .before .before .before in
-    let start = after-slice-known3 .before .before .before .before .before .before .before in
-    (omega (arith, start .pre .2, start .pre .1, start .pre .0 .few-junctions), omega arith)
+put-if-requires c κs = let count : tie.After-word2 = search in (omega (arith, junctions-few count), omega arith)
 
 add-t20 : tie.Need-add-t20
-add-t20 c =
-    let after-struct-known = c .before .before .before .before .before .before .before in
-    let after-read-connections = after-struct-known .before .before .before .before .before .before .before in
-    let after-word2 = after-read-connections .before .before .before .before .before .before .before in
-    let after-shared-slice-known3 = after-word2 .before .before .before .before .before .before .before in
-    let start = after-shared-slice-known3 .before .before .before in
-    omega (arith, start .pre .2, start .pre .1, start .pre .0 .few-junctions)
+add-t20 c = let count : tie.After-word2 = search in omega (arith, junctions-few count)
 
 same-length-2 : tie.Need-same-length-2
-same-length-2 c =
-    let after-put-if : tie.After-put-if = search in
-    after-put-if .put-if .kept .0
+same-length-2 c = let put : tie.After-put-if = search in put .put-if .kept .0
 
 same-length-3 : tie.Need-same-length-3
 same-length-3 c =
-    let after-read-connections : tie.After-read-connections = search in
-    after-read-connections .read-connections .kept .1 .1 .1 .1 .1 .1 .1 .1 .0
+    let read : tie.After-read-connections = search in
+    read .read-connections .ensures .0 .rows .kept
 
 same-length-4 : tie.Need-same-length-4
 same-length-4 c =
-    let after-read-connections : tie.After-read-connections = search in
-    after-read-connections .read-connections .kept .1 .1 .1 .1 .1 .1 .1 .1 .1 .1 .0
+    let read : tie.After-read-connections = search in
+    read .read-connections .ensures .0 .rest .pairs .kept
 
 same-length-5 : tie.Need-same-length-5
 same-length-5 c =
-    let after-read-connections : tie.After-read-connections = search in
-    after-read-connections .read-connections .kept .1 .1 .1 .1 .1 .1 .1 .1 .1 .1 .1 .1 .0
+    let read : tie.After-read-connections = search in
+    read .read-connections .ensures .0 .rest .warnings .kept
 
 returns-2 : tie.Need-returns-2
 returns-2 c =
-    let after-put-if : tie.After-put-if = search in
-    let after-read-connections : tie.After-read-connections = search in
-    let after-kind-at : tie.After-kind-at = search in
-    let else1 : tie.Else1 = search in
-    let after-absent-at : tie.After-absent-at = search in
-    let after-word2 : tie.After-word2 = search in
-    let after-word : tie.After-word = search in
-    let after-shared-slice-known2 = after-word .before .before .before .before .before .before .before in
-    let start = after-shared-slice-known2 .before .before in
-    let text = start .args .text .now in let junctions = start .args .junctions .now in
-    let connections = start .args .connections .now in let links = start .args .links .now in
-    let j = start .args .j in let n = start .args .n in
-    let f = after-word .word .ensures .0 in
-    let g = after-word2 .word2 .ensures .0 in
-    let d = ground (start .pre .0) (start .pre .1) (start .pre .3) f g in
-    let q = after-read-connections .read-connections .ensures in
-    let e = q .0 .rows .count in (
-      read-named text junctions connections links j (start .args .m) n (start .args .p) (start .args .w)
-          (start .args .jo .now) (start .args .co .now) (start .args .po .now) (start .args .wo .now) f g
-          (sym (after-absent-at .absent-at .ensures) ∙ else1 .if1 .left)
-          (after-read-connections .read-connections .result .connections - n)
-          (kind-word text junctions connections links j (after-kind-at .kind-at .ensures)) (q .0) (omega arith)
-          (after-put-if .put-if .ensures) (after-put-if .put-if .kept .0),
-      omega (arith, start .pre .2),
-      subst (λ (m : ℕ).
-          Low connections m (after-read-connections .read-connections .result .connections)
-          (after-read-connections .read-connections .result .pairs)
-          (after-read-connections .read-connections .result .warnings)) (d .next) (q .1),
+    let put : tie.After-put-if = search in
+    let read : tie.After-read-connections = search in
+    let kind : tie.After-kind-at = search in
+    let named : tie.Else1 = search in
+    let tested : tie.After-absent-at = search in
+    let count : tie.After-word2 = search in
+    let args = start count .args in
+    let text = args .text .now in
+    let junctions = args .junctions .now in
+    let connections = args .connections .now in
+    let links = args .links .now in
+    let there = sym (tested .absent-at .ensures) ∙ named .if1 .left in
+    let kind-is = kind-word text junctions connections links (args .j) (kind .kind-at .ensures) in
+    let connections-read = read .read-connections .ensures .0 in (
+      read-named text junctions connections links (args .j) (first count .word .ensures .0)
+          (count .word2 .ensures .0) (read .read-connections .result .connections - args .n) there kind-is
+          connections-read (omega (arith, connections-read .rows .count)) (put .put-if .ensures)
+          (put .put-if .kept .0),
+      record {
+        junctions-low = omega (arith, start count .pre .1 .1 .junctions-low);
+        low = low-at (on count .next) (read .read-connections .ensures .1);
+      },
     )
 
 pub read-junction-spec : {M : Type 1} → statement M

@@ -1,3 +1,4 @@
+-- `lane_row`: two links of a flag and a number.
 use borrow.Author.Needs.{needs}
 use Rattle.reading.proofs.LaneLaws.{lane-row}
 use Rattle.reading.proofs.lanes.lane_row.Statement.{statement}
@@ -20,10 +21,10 @@ number-at-requires-2 c κs = search needs
 
 returns : tie.Need-returns
 returns c =
-    let after-number-at : tie.After-number-at = search in
+    let before : tie.After-number-at = search in
     let start : tie.Start = search in
-    lane-row (start .args .text .now) (start .args .raw .now) (start .args .i)
-    (after-number-at .number-at .ensures) (c .number-at2 .ensures)
+    lane-row (start .args .text .now) (start .args .raw .now) (start .args .i) (before .number-at .ensures)
+    (c .number-at2 .ensures)
 
 pub lane-row-spec : {M : Type 1} → statement M
 lane-row-spec =

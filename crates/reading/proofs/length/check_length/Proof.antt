@@ -1,7 +1,8 @@
-use lib.ListN.{length}
-use lib.Ieee.{nan}
-use mathlib.Core.Path.{refl, sym, _∙_}
+-- `check_length`: uneven, nothing to check, off, or fine.
 use borrow.Author.Needs.{needs}
+use lib.Ieee.{nan}
+use lib.ListN.{length}
+use mathlib.Core.Path.{refl, sym, _∙_}
 use Rattle.reading.proofs.LengthLaws.{length-fine, length-none, length-off, length-uneven}
 use Rattle.reading.proofs.length.check_length.Statement.{statement}
 use Rattle.reading.proofs.length.check_length.Tie as tie
@@ -13,9 +14,9 @@ returns c =
 
 returns-2 : tie.Need-returns-2
 returns-2 c =
-    let else1 : tie.Else1 = search in
+    let even : tie.Else1 = search in
     let start : tie.Start = search in
-    length-none (start .args .starts .now) (start .args .lengths .now) (start .args .length) (else1 .if1 .left)
+    length-none (start .args .starts .now) (start .args .lengths .now) (start .args .length) (even .if1 .left)
     (c .if2 .taken)
 
 sub-sum : tie.Need-sub-sum
@@ -41,23 +42,23 @@ far-off-requires c κs = search needs
 
 returns-3 : tie.Need-returns-3
 returns-3 c =
-    let after-far-off : tie.After-far-off = search in
-    let else2 : tie.Else2 = search in
-    let else1 : tie.Else1 = search in
+    let tested : tie.After-far-off = search in
+    let some-there : tie.Else2 = search in
+    let even : tie.Else1 = search in
     let start : tie.Start = search in
     let starts = start .args .starts .now in
-    length-off starts (start .args .lengths .now) (start .args .length) nan (length starts) refl
-    (else1 .if1 .left) (else2 .if2 .left) (sym (after-far-off .far-off .ensures) ∙ c .if3 .taken)
+    length-off starts (start .args .lengths .now) (start .args .length) nan (length starts) refl (even .if1 .left)
+    (some-there .if2 .left) (sym (tested .far-off .ensures) ∙ c .if3 .taken)
 
 returns-4 : tie.Need-returns-4
 returns-4 c =
-    let after-far-off : tie.After-far-off = search in
-    let else2 : tie.Else2 = search in
-    let else1 : tie.Else1 = search in
+    let tested : tie.After-far-off = search in
+    let some-there : tie.Else2 = search in
+    let even : tie.Else1 = search in
     let start : tie.Start = search in
     let starts = start .args .starts .now in
-    length-fine starts (start .args .lengths .now) (start .args .length) nan (length starts) refl
-    (else1 .if1 .left) (else2 .if2 .left) (sym (after-far-off .far-off .ensures) ∙ c .if3 .left)
+    length-fine starts (start .args .lengths .now) (start .args .length) nan (length starts) refl (even .if1 .left)
+    (some-there .if2 .left) (sym (tested .far-off .ensures) ∙ c .if3 .left)
 
 pub check-length-spec : {M : Type 1} → statement M
 check-length-spec =

@@ -1,15 +1,15 @@
+-- `put_targets` writes a row for each raw row. Before turn `i` the rows below `i` are written.
+use borrow.Author.Needs.{needs}
 use lib.ListN.{length}
 use mathlib.Core.List.{List}
-use Prim.Native.Nat.{ℕ, _-_, _/_, _≤_}
 use mathlib.Core.Path.{_≡_, refl, sym, ap, _∙_}
 use native.Mathlib.Omega.{arith}
-use borrow.Author.Needs.{needs}
-use Rattle.model.specs.Rows.{written}
-use Rattle.model.specs.Reading.{partRows}
+use Prim.Native.Nat.{ℕ, _+_, _*_, _-_, _/_, _≤_, _<_}
 use Rattle.model.specs.Lists.{gather}
-use Rattle.words.proofs.Scans.{row-fits}
-use Rattle.reading.proofs.RowLaws.{rows-begin, rows-turn}
-use Rattle.reading.proofs.TargetLaws.{target-seven, targetAt, targets-content}
+use Rattle.model.specs.Reading.{partRows}
+use Rattle.model.specs.Rows.{written}
+use Rattle.reading.proofs.RowLaws.{row-room, rows-begin, rows-turn}
+use Rattle.reading.proofs.TargetLaws.{targetAt, target-seven, targets-content}
 use Rattle.reading.proofs.targets.put_targets.Statement.{statement}
 use Rattle.reading.proofs.targets.put_targets.Tie as tie
 
@@ -20,17 +20,24 @@ Inv-loop text raw out₀ n i₀ out i =
 abbrev μ-loop : tie.MeasureT-loop
 μ-loop text raw out₀ n i₀ out i = n - i
 
+-- ---- the places
+abbrev Start : Type 0
+Start = tie.Start Inv-loop μ-loop
+
+abbrev Head : Type 0
+Head = tie.At-loop Inv-loop μ-loop
+
+abbrev Turn : Type 0
+Turn = tie.In-loop Inv-loop μ-loop
+
 loop-holds : tie.Need-loop-holds Inv-loop μ-loop
 loop-holds c =
-    let start : tie.Start Inv-loop μ-loop = search in (
-      omega arith,
-      rows-begin (targetAt (start .args .text .now) (start .args .raw .now)) (start .args .out .now),
-      refl,
-    )
+    let start : Start = search in
+    (omega arith, rows-begin (targetAt (start .args .text .now) (start .args .raw .now)) _, refl)
 
 target-row-requires : tie.Need-target-row-requires Inv-loop μ-loop
 target-row-requires c κs =
-    let start : tie.Start Inv-loop μ-loop = search in
+    let start : Start = search in
     (omega arith, omega (arith, start .pre .0))
 
 mul-put : tie.Need-mul-put Inv-loop μ-loop
@@ -41,55 +48,48 @@ slice-aggregate-put c = search needs
 
 put-requires : tie.Need-put-requires Inv-loop μ-loop
 put-requires c κs =
-    let in-loop : tie.In-loop Inv-loop μ-loop = search in
-    let at-loop : tie.At-loop Inv-loop μ-loop = search in
-    let start : tie.Start Inv-loop μ-loop = search in
-    let l = at-loop .loop in
-    let a = row-fits (length (start .args .raw .now) / 9) 7 (l .i) (in-loop .loop-test .taken) in
-    omega (arith, start .pre .1, l .inv .2)
+    let turn : Turn = search in
+    let head : Head = search in
+    let start : Start = search in
+    omega (arith, row-room 7 (turn .loop-test .taken) (start .pre .1), head .loop .inv .2)
 
 add-i : tie.Need-add-i Inv-loop μ-loop
 add-i c =
-    let in-loop : tie.In-loop Inv-loop μ-loop = search in
-    let start : tie.Start Inv-loop μ-loop = search in
-    omega (arith, in-loop .loop-test .taken, start .pre .0)
+    let turn : Turn = search in
+    let start : Start = search in
+    omega (arith, turn .loop-test .taken, start .pre .0)
 
 loop-less : tie.Need-loop-less Inv-loop μ-loop
-loop-less c =
-    let in-loop : tie.In-loop Inv-loop μ-loop = search in
-    omega (arith, in-loop .loop-test .taken)
+loop-less c = let turn : Turn = search in omega (arith, turn .loop-test .taken)
 
 loop-again : tie.Need-loop-again Inv-loop μ-loop
 loop-again c =
-    let after-put : tie.After-put Inv-loop μ-loop = search in
-    let after-target-row : tie.After-target-row Inv-loop μ-loop = search in
-    let in-loop : tie.In-loop Inv-loop μ-loop = search in
-    let at-loop : tie.At-loop Inv-loop μ-loop = search in
-    let start : tie.Start Inv-loop μ-loop = search in
-    let raw = start .args .raw .now in let text = start .args .text .now in
-    let l = at-loop .loop in
-    let a = row-fits (length raw / 9) 7 (l .i) (in-loop .loop-test .taken) in (
-      omega (arith, in-loop .loop-test .taken),
-      rows-turn (targetAt text raw) 7 (l .i) (start .args .out .now) (target-seven text raw) (l .inv .1)
-          (after-target-row .target-row .ensures) (after-put .put .ensures) (omega (arith, start .pre .1)),
-      after-put .put .kept .0 ∙ l .inv .2,
+    let put : tie.After-put Inv-loop μ-loop = search in
+    let read : tie.After-target-row Inv-loop μ-loop = search in
+    let turn : Turn = search in
+    let head : Head = search in
+    let start : Start = search in
+    let text = start .args .text .now in
+    let raw = start .args .raw .now in
+    let inv = head .loop .inv in (
+      omega (arith, turn .loop-test .taken),
+      rows-turn (targetAt text raw) 7 (head .loop .i) _ (target-seven text raw) (inv .1) (read .target-row .ensures)
+          (put .put .ensures) (row-room 7 (turn .loop-test .taken) (start .pre .1)),
+      put .put .kept .0 ∙ inv .2,
     )
 
 same-length : tie.Need-same-length Inv-loop μ-loop
-same-length c =
-    let at-loop : tie.At-loop Inv-loop μ-loop = search in
-    at-loop .loop .inv .2
+same-length c = let head : Head = search in head .loop .inv .2
 
 returns : tie.Need-returns Inv-loop μ-loop
 returns c =
-    let at-loop : tie.At-loop Inv-loop μ-loop = search in
-    let start : tie.Start Inv-loop μ-loop = search in
-    let raw = start .args .raw .now in let text = start .args .text .now in let out = start .args .out .now in
-    let l = at-loop .loop in
-    let past : l .i ≡ length raw / 9 = omega (arith, l .inv .0, c .loop-test .left) in
-    l .inv .1
-    ∙ ap (λ (m : ℕ). written (gather (targetAt text raw) (partRows 0 m)) out) past
-    ∙ sym (ap (λ (w : List ℕ). written w out) (targets-content text raw))
+    let head : Head = search in
+    let start : Start = search in
+    let text = start .args .text .now in
+    let raw = start .args .raw .now in
+    let past : head .loop .i ≡ length raw / 9 = omega (arith, head .loop .inv .0, c .loop-test .left) in
+    let rows = ap (λ (n : ℕ). gather (targetAt text raw) (partRows 0 n)) past ∙ sym (targets-content text raw) in
+    head .loop .inv .1 ∙ ap (λ (content : List ℕ). written content (start .args .out .now)) rows
 
 pub put-targets-spec : {M : Type 1} → statement M
 put-targets-spec =

@@ -1,8 +1,27 @@
+-- `target_fits`: a flag and four names; without the flag all four are absent.
 use borrow.Author.Needs.{needs}
+use lib.Dec.{leb}
+use lib.ListN.{getD}
+use Prim.Native.Nat.{_+_}
+use mathlib.Core.Bool.{_&&_}
+use mathlib.Core.Path.{_≡_}
+use Rattle.model.specs.ReadingCalls.{namesWorded}
 use Rattle.rules.proofs.Leaves.{both-is}
 use Rattle.reading.proofs.TargetLaws.{target-fits-off, target-fits-on}
 use Rattle.reading.proofs.targets.target_fits.Statement.{statement}
 use Rattle.reading.proofs.targets.target_fits.Tie as tie
+
+-- ---- flag and names, whatever the flag
+module _ (tested : tie.After-both) where
+  abbrev start : tie.Start
+  start = search
+
+  known-is : tested .both .result ≡ leb (getD (start .args .raw .now) (start .args .at) 0) 1
+      && namesWorded (start .args .text .now) 4 (start .args .raw .now) (start .args .at + 1)
+  known-is =
+      let names : tie.After-names-fit = search in
+      let flag : tie.After-most = search in
+      both-is (tested .both .ensures) (flag .most .ensures) (names .names-fit .ensures)
 
 mul-most : tie.Need-mul-most
 mul-most c = search needs
@@ -30,12 +49,10 @@ shared-slice-read-if1 c = search needs
 
 returns : tie.Need-returns
 returns c =
-    let after-both : tie.After-both = search in
-    let after-names-fit : tie.After-names-fit = search in
-    let after-most : tie.After-most = search in
+    let before : tie.After-both = search in
     let start : tie.Start = search in
     target-fits-on (start .args .text .now) (start .args .raw .now) (start .args .at) (c .if1 .taken)
-    (both-is (after-both .both .ensures) (after-most .most .ensures) (after-names-fit .names-fit .ensures))
+    (known-is before)
 
 add-absent-at : tie.Need-add-absent-at
 add-absent-at c = search needs
@@ -75,26 +92,21 @@ both-requires-5 c κs = search needs
 
 returns-2 : tie.Need-returns-2
 returns-2 c =
-    let after-both4 : tie.After-both4 = search in
-    let after-absent-at4 : tie.After-absent-at4 = search in
-    let after-both3 : tie.After-both3 = search in
-    let after-absent-at3 : tie.After-absent-at3 = search in
-    let after-both2 : tie.After-both2 = search in
-    let after-absent-at2 : tie.After-absent-at2 = search in
-    let after-absent-at : tie.After-absent-at = search in
-    let else1 : tie.Else1 = search in
-    let after-both : tie.After-both = search in
-    let after-names-fit : tie.After-names-fit = search in
-    let after-most : tie.After-most = search in
-    let start : tie.Start = search in
-    target-fits-off (start .args .text .now) (start .args .raw .now) (start .args .at) (else1 .if1 .left)
-    (both-is (c .both5 .ensures)
-    (both-is (after-both .both .ensures) (after-most .most .ensures) (after-names-fit .names-fit .ensures))
-    (both-is (after-both4 .both4 .ensures)
-    (both-is (after-both3 .both3 .ensures)
-    (both-is (after-both2 .both2 .ensures) (after-absent-at .absent-at .ensures)
-    (after-absent-at2 .absent-at2 .ensures)) (after-absent-at3 .absent-at3 .ensures))
-    (after-absent-at4 .absent-at4 .ensures)))
+    let all : tie.After-both4 = search in
+    let along : tie.After-absent-at4 = search in
+    let three : tie.After-both3 = search in
+    let contact : tie.After-absent-at3 = search in
+    let two : tie.After-both2 = search in
+    let name : tie.After-absent-at2 = search in
+    let kind : tie.After-absent-at = search in
+    let unset : tie.Else1 = search in
+    let before : tie.After-both = search in
+    let args = start before .args in
+    let two-absent = both-is (two .both2 .ensures) (kind .absent-at .ensures) (name .absent-at2 .ensures) in
+    let three-absent = both-is (three .both3 .ensures) two-absent (contact .absent-at3 .ensures) in
+    let all-absent = both-is (all .both4 .ensures) three-absent (along .absent-at4 .ensures) in
+    target-fits-off (args .text .now) (args .raw .now) (args .at) (unset .if1 .left)
+    (both-is (c .both5 .ensures) (known-is before) all-absent)
 
 pub target-fits-spec : {M : Type 1} → statement M
 target-fits-spec =

@@ -1,9 +1,10 @@
+-- `target_row`: no target, or its seven words.
+use borrow.Author.Needs.{needs}
 use Prim.Native.Nat.{_+_, _*_}
 use mathlib.Core.Path.{refl, sym, ap, _∙_}
-use borrow.Author.Needs.{needs}
 use Rattle.model.specs.Tables.{bit}
-use Rattle.reading.proofs.TargetLaws.{target-named, target-off, target-unnamed}
 use Rattle.reading.proofs.NameLaws.{name-absent, name-there}
+use Rattle.reading.proofs.TargetLaws.{target-named, target-off, target-unnamed}
 use Rattle.reading.proofs.targets.target_row.Statement.{statement}
 use Rattle.reading.proofs.targets.target_row.Tie as tie
 
@@ -29,12 +30,13 @@ absent-at-requires c κs = search needs
 
 returns-2 : tie.Need-returns-2
 returns-2 c =
-    let after-absent-at : tie.After-absent-at = search in
-    let else1 : tie.Else1 = search in
+    let tested : tie.After-absent-at = search in
+    let flagged : tie.Else1 = search in
     let start : tie.Start = search in
-    let raw = start .args .raw .now in let i = start .args .i in
-    target-unnamed (start .args .text .now) raw i (else1 .if1 .left)
-    (name-absent raw (i * 9 + 3) (sym (after-absent-at .absent-at .ensures) ∙ c .if2 .taken))
+    let raw = start .args .raw .now in
+    let i = start .args .i in
+    let absent = name-absent raw (i * 9 + 3) (sym (tested .absent-at .ensures) ∙ c .if2 .taken) in
+    target-unnamed (start .args .text .now) raw i (flagged .if1 .left) absent
 
 add-reads-at : tie.Need-add-reads-at
 add-reads-at c = search needs
@@ -89,21 +91,21 @@ shared-slice-read-t23 c = search needs
 
 returns-3 : tie.Need-returns-3
 returns-3 c =
-    let after-there-at2 : tie.After-there-at2 = search in
-    let after-there-at : tie.After-there-at = search in
-    let after-contact-at : tie.After-contact-at = search in
-    let after-bit : tie.After-bit = search in
-    let after-reads-at : tie.After-reads-at = search in
-    let else2 : tie.Else2 = search in
-    let after-absent-at : tie.After-absent-at = search in
-    let else1 : tie.Else1 = search in
+    let along : tie.After-there-at2 = search in
+    let given : tie.After-there-at = search in
+    let contact : tie.After-contact-at = search in
+    let kind : tie.After-bit = search in
+    let read : tie.After-reads-at = search in
+    let named : tie.Else2 = search in
+    let tested : tie.After-absent-at = search in
+    let flagged : tie.Else1 = search in
     let start : tie.Start = search in
-    let raw = start .args .raw .now in let i = start .args .i in
-    target-named (start .args .text .now) raw i (else1 .if1 .left)
-    (name-there raw (i * 9 + 3) (sym (after-absent-at .absent-at .ensures) ∙ else2 .if2 .left) refl refl)
-    (after-bit .bit .ensures ∙ ap bit (after-reads-at .reads-at .ensures))
-    (after-contact-at .contact-at .ensures) (after-there-at .there-at .ensures)
-    (after-there-at2 .there-at2 .ensures)
+    let raw = start .args .raw .now in
+    let i = start .args .i in
+    let there = name-there raw (i * 9 + 3) (sym (tested .absent-at .ensures) ∙ named .if2 .left) refl refl in
+    target-named (start .args .text .now) raw i (flagged .if1 .left) there
+    (kind .bit .ensures ∙ ap bit (read .reads-at .ensures)) (contact .contact-at .ensures) (given .there-at .ensures)
+    (along .there-at2 .ensures)
 
 pub target-row-spec : {M : Type 1} → statement M
 target-row-spec =

@@ -1,10 +1,11 @@
+-- `targets_fit`: before turn `i` the rows below `i` fit.
+use borrow.Author.Needs.{needs}
 use borrow.Author.Tests.{not-true, not-false}
 use lib.ListN.{length, drop}
-use mathlib.Core.Bool.{true}
 use Prim.Native.Nat.{ℕ, _*_, _/_, _-_, _≤_}
+use mathlib.Core.Bool.{true}
 use mathlib.Core.Path.{_≡_, sym, ap, _∙_}
 use native.Mathlib.Omega.{arith}
-use borrow.Author.Needs.{needs}
 use Rattle.model.specs.ReadingCalls.{rawTargetWorded}
 use Rattle.words.proofs.Scans.{all-miss, all-none, all-step, every-rows}
 use Rattle.words.specs.Rows.{all}
@@ -18,6 +19,13 @@ Inv-loop text raw n i₀ i = (i ≤ n) × (all i (λ k. rawTargetWorded text (dr
 abbrev μ-loop : tie.MeasureT-loop
 μ-loop text raw n i₀ i = n - i
 
+-- ---- the places
+abbrev Start : Type 0
+Start = tie.Start Inv-loop μ-loop
+
+abbrev Head : Type 0
+Head = tie.At-loop Inv-loop μ-loop
+
 loop-holds : tie.Need-loop-holds Inv-loop μ-loop
 loop-holds c = (omega arith, all-none _)
 
@@ -29,14 +37,14 @@ target-fits-requires c κs = omega arith
 
 returns : tie.Need-returns Inv-loop μ-loop
 returns c =
-    let after-target-fits : tie.After-target-fits Inv-loop μ-loop = search in
-    let at-loop : tie.At-loop Inv-loop μ-loop = search in
-    let start : tie.Start Inv-loop μ-loop = search in
-    let raw = start .args .raw .now in let text = start .args .text .now in
-    let l = at-loop .loop in
+    let tested : tie.After-target-fits Inv-loop μ-loop = search in
+    let head : Head = search in
+    let start : Start = search in
+    let text = start .args .text .now in
+    let raw = start .args .raw .now in
+    let unfit = sym (tested .target-fits .ensures) ∙ not-true _ (c .if1 .taken) in
     sym (every-rows 9 raw (rawTargetWorded text) (target-local text)
-    ∙ all-miss (length raw / 9) (l .i) (λ k. rawTargetWorded text (drop (k * 9) raw)) (omega arith)
-    (sym (after-target-fits .target-fits .ensures) ∙ not-true _ (c .if1 .taken)))
+    ∙ all-miss (length raw / 9) (head .loop .i) (λ k. rawTargetWorded text (drop (k * 9) raw)) (omega arith) unfit)
 
 add-i : tie.Need-add-i Inv-loop μ-loop
 add-i c = omega arith
@@ -46,23 +54,21 @@ loop-less c = omega arith
 
 loop-again : tie.Need-loop-again Inv-loop μ-loop
 loop-again c =
-    let after-target-fits : tie.After-target-fits Inv-loop μ-loop = search in
-    let at-loop : tie.At-loop Inv-loop μ-loop = search in (
-      omega arith,
-      all-step _ _ (at-loop .loop .inv .1)
-          (sym (after-target-fits .target-fits .ensures) ∙ not-false _ (c .if1 .left)),
-    )
+    let tested : tie.After-target-fits Inv-loop μ-loop = search in
+    let head : Head = search in
+    let fits = sym (tested .target-fits .ensures) ∙ not-false _ (c .if1 .left) in
+    (omega arith, all-step _ _ (head .loop .inv .1) fits)
 
 returns-2 : tie.Need-returns-2 Inv-loop μ-loop
 returns-2 c =
-    let at-loop : tie.At-loop Inv-loop μ-loop = search in
-    let start : tie.Start Inv-loop μ-loop = search in
-    let raw = start .args .raw .now in let text = start .args .text .now in
-    let l = at-loop .loop in
-    let past : length raw / 9 ≡ l .i = omega arith in
+    let head : Head = search in
+    let start : Start = search in
+    let text = start .args .text .now in
+    let raw = start .args .raw .now in
+    let past : length raw / 9 ≡ head .loop .i = omega arith in
     sym (every-rows 9 raw (rawTargetWorded text) (target-local text)
     ∙ ap (λ (m : ℕ). all m (λ k. rawTargetWorded text (drop (k * 9) raw))) past
-    ∙ l .inv .1)
+    ∙ head .loop .inv .1)
 
 pub targets-fit-spec : {M : Type 1} → statement M
 targets-fit-spec =

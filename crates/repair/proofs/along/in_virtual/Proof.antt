@@ -9,6 +9,9 @@ use borrow.Author.Needs.{needs}
 use Rattle.repair.proofs.along.in_virtual.Statement.{statement}
 use Rattle.repair.proofs.along.in_virtual.Tie as tie
 
+cast-r : tie.Need-cast-r
+cast-r c = search needs
+
 mul-index-at : tie.Need-mul-index-at
 mul-index-at c = search needs
 
@@ -36,26 +39,29 @@ any-virtual-requires c κs = search needs
 both-requires-2 : tie.Need-both-requires-2
 both-requires-2 c κs = search needs
 
+module _ (read : tie.After-index-at) where
+  abbrev start : tie.Start
+  start = search
+
 returns : tie.Need-returns
 unfolding virtualRow
 returns c =
-    let after-any-virtual : tie.After-any-virtual = search in
-    let after-both : tie.After-both = search in
-    let after-index-at2 : tie.After-index-at2 = search in
-    let after-index-at : tie.After-index-at = search in
-    let start : tie.Start = search in
-    let junctions = start .args .junctions .now in
+    let found : tie.After-any-virtual = search in
+    let absent : tie.After-both = search in
+    let size : tie.After-index-at2 = search in
+    let first : tie.After-index-at = search in
+    let text = start first .args .text .now in
+    let junctions = start first .args .junctions .now in
     c .both2 .ensures
-    ∙ ap₂ (λ a b. not a && b) (after-both .both .ensures) (after-any-virtual .any-virtual .ensures)
-    ∙ ap₂ (λ (a b : ℕ).
-    not (isAbsent a b) && any (length junctions / 5)
-    (isVirtualOf (start .args .text .now) junctions (span a b))) (after-index-at .index-at .ensures .0)
-    (after-index-at2 .index-at2 .ensures .0)
+    ∙ ap₂ (λ a b. not a && b) (absent .both .ensures) (found .any-virtual .ensures)
+    ∙ ap₂ (λ (a b : ℕ). not (isAbsent a b) && any (length junctions / 5) (isVirtualOf text junctions (span a b)))
+    (first .index-at .ensures .0) (size .index-at2 .ensures .0)
 
 pub in-virtual-spec : {M : Type 1} → statement M
 in-virtual-spec =
     tie.close
     (tie.spec
+    cast-r
     mul-index-at
     add-index-at
     index-at-requires

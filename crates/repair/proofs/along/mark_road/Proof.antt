@@ -1,13 +1,22 @@
+-- `mark_road` writes a word for each end: is the road in a virtual junction, and has the end the along flag?
 use Rattle.rules.proofs.Leaves.{both-is}
 use Rattle.model.specs.Tables.{bit}
 use lib.ListN.{set, length-set}
 use lib.Dec.{eqb}
+use mathlib.Core.Bool.{Bool}
 use Prim.Native.Nat.{ℕ, _+_, _*_, _-_}
 use native.Mathlib.Omega.{arith}
 use mathlib.Core.Path.{ap, ap₂, _∙_}
 use borrow.Author.Needs.{needs}
 use Rattle.repair.proofs.along.mark_road.Statement.{statement}
 use Rattle.repair.proofs.along.mark_road.Tie as tie
+
+module _ (found : tie.After-in-virtual) where
+  abbrev start : tie.Start
+  start = search
+
+cast-r : tie.Need-cast-r
+cast-r c = search needs
 
 in-virtual-requires : tie.Need-in-virtual-requires
 in-virtual-requires c κs = search needs
@@ -71,39 +80,40 @@ mul-ends-4 c = search needs
 
 slice-write-ends-2 : tie.Need-slice-write-ends-2
 slice-write-ends-2 c =
-    let after-bit : tie.After-bit = search in
-    let after-in-virtual = after-bit .before .before .before .before .before .before .before in
-    let start = after-in-virtual .before .before .before .before .before .before .before in
-    let z = length-set (start .args .ends .now) (start .args .r * 2 + 0) (after-bit .bit .result) in
-    omega (arith, z, start .pre .0, start .pre .1)
+    let bit : tie.After-bit = search in
+    let found : tie.After-in-virtual = search in
+    let pre = start found .pre in
+    let kept = length-set (start found .args .ends .now) (start found .args .road .0 * 2 + 0) (bit .bit .result) in
+    omega (arith, kept, pre .0, pre .1)
 
 same-length : tie.Need-same-length
 same-length c = search needs
 
 returns : tie.Need-returns
 returns c =
-    let after-bit : tie.After-bit = search in
-    let after-both2 : tie.After-both2 = search in
-    let after-is2 : tie.After-is2 = search in
-    let after-at2 : tie.After-at2 = search in
-    let after-both : tie.After-both = search in
-    let after-is : tie.After-is = search in
-    let after-at : tie.After-at = search in
-    let after-in-virtual : tie.After-in-virtual = search in
-    let start = after-in-virtual .before .before .before .before .before .before .before in
-    let r = start .args .r in
-    ap₂ (λ (a b : ℕ). set (set (start .args .ends .now) (r * 2 + 0) a) (r * 2 + 1) b)
-    (after-bit .bit .ensures
-    ∙ ap bit (both-is (after-both .both .ensures) (after-in-virtual .in-virtual .ensures)
-    (after-is .is .ensures ∙ ap (λ (k : ℕ). eqb k 1) (after-at .at .ensures))))
-    (c .bit2 .ensures
-    ∙ ap bit (both-is (after-both2 .both2 .ensures) (after-in-virtual .in-virtual .ensures)
-    (after-is2 .is2 .ensures ∙ ap (λ (k : ℕ). eqb k 1) (after-at2 .at2 .ensures))))
+    let bit-start : tie.After-bit = search in
+    let along-end : tie.After-both2 = search in
+    let flag-end : tie.After-is2 = search in
+    let word-end : tie.After-at2 = search in
+    let along-start : tie.After-both = search in
+    let flag-start : tie.After-is = search in
+    let word-start : tie.After-at = search in
+    let found : tie.After-in-virtual = search in
+    let r = start found .args .road .0 in
+    let virtual = found .in-virtual .ensures in
+    let flag : ℕ → Bool = λ k. eqb k 1 in
+    let at-start =
+    both-is (along-start .both .ensures) virtual (flag-start .is .ensures ∙ ap flag (word-start .at .ensures)) in
+    let at-end =
+    both-is (along-end .both2 .ensures) virtual (flag-end .is2 .ensures ∙ ap flag (word-end .at2 .ensures)) in
+    ap₂ (λ (a b : ℕ). set (set (start found .args .ends .now) (r * 2 + 0) a) (r * 2 + 1) b)
+    (bit-start .bit .ensures ∙ ap bit at-start) (c .bit2 .ensures ∙ ap bit at-end)
 
 pub mark-road-spec : {M : Type 1} → statement M
 mark-road-spec =
     tie.close
     (tie.spec
+    cast-r
     in-virtual-requires
     mul-at
     add-at

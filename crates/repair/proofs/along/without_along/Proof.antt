@@ -55,7 +55,7 @@ returns : tie.Need-returns
 returns c =
     let after-mark-roads : tie.After-mark-roads = search in
     let start : tie.Start = search in
-    λ ss ps cs.
+    λ ss cs ps.
     roads-start (start .args .text .now) (start .args .roads .now) (start .args .junctions .now) _
     (after-mark-roads .mark-roads .ensures) ss ps cs
 

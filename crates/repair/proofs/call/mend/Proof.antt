@@ -2,6 +2,7 @@
 use Rattle.repair.proofs.Outcomes.{content-is}
 use Rattle.repair.specs.Answers.{outputs}
 use Rattle.model.specs.Calls.{RepairOutputs, repairWriting, writtenOr9}
+use Rattle.model.specs.Tables.{mapTables}
 use Rattle.words.proofs.Chains.{fresh}
 use Rattle.words.proofs.KeyLaws.{rows-in}
 use lib.ListN.{length-replicate}
@@ -54,21 +55,30 @@ junctions-requires : tie.Need-junctions-requires
 junctions-requires c κs =
     let linked : tie.After-link-names = search in
     let start : tie.Start = search in
-    let kept = linked .link-names .kept in (
-      start .pre .0,
-      start .pre .1 .0,
-      start .pre .1 .1 .1 .1,
-      length-replicate {A = ℕ} 32768 0,
-      length-replicate {A = ℕ} 81920 0,
-      length-replicate {A = ℕ} 114688 0,
-      length-replicate {A = ℕ} 32768 0,
-      start .pre .1 .1 .0,
+    let pre = start .pre in
+    let kept = linked .link-names .kept .1 .1 .1 .1 .1 in (
       record {
-        few = start .pre .0 .few;
-        heads-long = kept .1 .1 .1 .1 .1 .0 ∙ length-replicate {A = ℕ} 16384 0;
-        next-long = kept .1 .1 .1 .1 .1 .1 .0 ∙ length-replicate {A = ℕ} 16384 0;
-        chained = linked .link-names .ensures .1;
+        small = pre .0;
+        joined = pre .1 .0;
+        known = pre .1 .1 .0;
+        chain = record {
+          few = pre .0 .few;
+          heads-long = kept .0 ∙ length-replicate {A = ℕ} 16384 0;
+          next-long = kept .1 .0 ∙ length-replicate {A = ℕ} 16384 0;
+          chained = linked .link-names .ensures .1;
+        };
       },
+      (
+        pre .1 .1 .1 .1,
+        record {
+          junctions-long = length-replicate {A = ℕ} 81920 0;
+          long = record {
+            connections-long = length-replicate {A = ℕ} 114688 0;
+            pairs-long = length-replicate {A = ℕ} 32768 0;
+          };
+          warnings-long = length-replicate {A = ℕ} 32768 0;
+        },
+      ),
     )
 
 slice-aggregate-write : tie.Need-slice-aggregate-write
@@ -93,8 +103,10 @@ write-requires c κs =
         repaired .junctions .ensures .0,
         record {
           junctions-long = kept .1 .0 ∙ length-replicate {A = ℕ} 81920 0;
-          connections-long = kept .1 .1 .0 ∙ length-replicate {A = ℕ} 114688 0;
-          pairs-long = kept .1 .1 .1 .0 ∙ length-replicate {A = ℕ} 32768 0;
+          long = record {
+            connections-long = kept .1 .1 .0 ∙ length-replicate {A = ℕ} 114688 0;
+            pairs-long = kept .1 .1 .1 .0 ∙ length-replicate {A = ℕ} 32768 0;
+          };
           warnings-long = kept .0 ∙ length-replicate {A = ℕ} 32768 0;
         },
       ),
@@ -128,8 +140,11 @@ returns c =
     outputs (args .roads-out .now) (args .junctions-out .now) (args .connections-out .now)
     (args .pairs-out .now) (args .warnings-out .now) in
     λ sections begun.
-    let content-is = content-is _ _ sections _ _ _ (start .pre .1 .0) (start .pre .1 .1 .1 .0) (begun .fit)
-    (args .ends .now) _ _ _ _ _ _ _ _ _ _ (begun .roads) (repaired .junctions .ensures .1 sections) in
+    let tables =
+    mapTables (args .text .now) (args .roads .now) sections (args .junctions .now) (args .connections .now)
+    (args .pairs .now) in
+    let content-is =
+    content-is tables (start .pre .1 .0) (start .pre .1 .1 .1 .0) begun (repaired .junctions .ensures .1 sections) in
     written .write .ensures ∙ ap (λ (content : RepairOutputs). writtenOr9 repairWriting content lent) content-is
 
 pub mend-spec : {M : Type 1} → statement M

@@ -126,7 +126,7 @@ returns-2 c =
     let past : tie.Else1 = search in
     let judged = judged past in
     let sections = tables judged .sections in
-    let started = start-is _ _ sections _ _ _ (ready-for past .joined) _ (begun .without-along .ensures sections _ _) in
+    let started = start-is (tables judged) (ready-for past .joined) (begun .without-along .ensures sections _ _) in
     mended .mend .ensures sections (record { fit = ready-for past .fit; roads = started })
     ∙ call-admitted repairWriting (repairRules (tables judged)) (repairContent (tables judged)) (lent judged)
     (judged .repair-verdict .result) (free past) (judged .repair-verdict .ensures .0)

@@ -44,8 +44,8 @@ module _ (tried : tie.After-fit) where
       record {
         road-words = roads-width _ _ _ _;
         junction-words = length-take-le _ _ (omega (arith, start .pre .0 .1, arrays .junctions-long));
-        connection-words = length-take-le _ _ (omega (arith, few .connections-few, arrays .connections-long));
-        pair-words = length-take-le _ _ (omega (arith, few .pairs-few, arrays .pairs-long));
+        connection-words = length-take-le _ _ (omega (arith, few .connections-few, arrays .long .connections-long));
+        pair-words = length-take-le _ _ (omega (arith, few .pairs-few, arrays .long .pairs-long));
         warning-words = length-take-le _ _ (omega (arith, few .warnings-few, arrays .warnings-long));
       }
 
@@ -111,7 +111,7 @@ copy-part-requires-2 : tie.Need-copy-part-requires-2
 copy-part-requires-2 c κs =
     let past : tie.Else1 = search in
     let pre = given past .pre .1 in
-    (omega (arith, pre .0 .connections-few, pre .1 .connections-long), fitting past .2)
+    (omega (arith, pre .0 .connections-few, pre .1 .long .connections-long), fitting past .2)
 
 mul-copy-part-3 : tie.Need-mul-copy-part-3
 mul-copy-part-3 c =
@@ -122,7 +122,7 @@ copy-part-requires-3 : tie.Need-copy-part-requires-3
 copy-part-requires-3 c κs =
     let past : tie.Else1 = search in
     let pre = given past .pre .1 in
-    (omega (arith, pre .0 .pairs-few, pre .1 .pairs-long), fitting past .3)
+    (omega (arith, pre .0 .pairs-few, pre .1 .long .pairs-long), fitting past .3)
 
 mul-copy-part-4 : tie.Need-mul-copy-part-4
 mul-copy-part-4 c =

@@ -1,7 +1,8 @@
+-- `put_junction` puts the row after those of the junctions before it.
 use Rattle.repair.proofs.Missing.{put-on}
-use lib.ListN.{take}
+use lib.ListN.{length, take}
 use mathlib.Core.List.{List, [], _∷_, _++_}
-use Prim.Native.Nat.{ℕ, _+_, _*_, _-_}
+use Prim.Native.Nat.{ℕ, _+_, _*_, _-_, _≤_}
 use native.Mathlib.Omega.{arith}
 use mathlib.Core.Path.{_≡_, ap, _∙_}
 use borrow.Author.Needs.{needs}
@@ -58,18 +59,18 @@ same-length c = search needs
 
 returns : tie.Need-returns
 returns c =
-    let after-put : tie.After-put = search in
-    let after-at3 : tie.After-at3 = search in
-    let after-at2 : tie.After-at2 = search in
-    let after-at : tie.After-at = search in
+    let put : tie.After-put = search in
+    let kind : tie.After-at3 = search in
+    let size : tie.After-at2 = search in
+    let first : tie.After-at = search in
     let start : tie.Start = search in
-    let k = start .args .k in let js = start .args .js .now in
-    let z : (k + 1) * 5 ≡ k * 5 + 5 = omega arith in
-    put-on _ js (after-put .put .ensures) (omega (arith, start .pre .0, start .pre .3)) z
-    ∙ ap (λ (l : List ℕ). take (k * 5) js ++ l)
-    (λ i.
-    (after-at .at .ensures i) ∷ (after-at2 .at2 .ensures i) ∷ (after-at3 .at3 .ensures i) ∷ start .args .n
-    ∷ start .args .count ∷ [])
+    let args = start .args in
+    let js = args .js .now in
+    let row-end : (args .k + 1) * 5 ≡ args .k * 5 + 5 = omega arith in
+    let fits : args .k * 5 ≤ length js = omega (arith, start .pre .0, start .pre .3) in
+    put-on _ js (put .put .ensures) fits row-end
+    ∙ ap (λ (l : List ℕ). take (args .k * 5) js ++ l)
+    (λ i. (first .at .ensures i) ∷ (size .at2 .ensures i) ∷ (kind .at3 .ensures i) ∷ args .n ∷ args .count ∷ [])
 
 pub put-junction-spec : {M : Type 1} → statement M
 put-junction-spec =

@@ -1,22 +1,50 @@
-use Rattle.repair.proofs.Steps.{junction-roads, junction-words, junction-warned}
-use Rattle.rules.proofs.Fits.{fit-in, fit-next}
-use Rattle.model.specs.Repair.{Warning}
-use Rattle.model.specs.Tables.{mapTables}
+-- `repair_junction` lays the junction's connections, puts its row, and gives the links that a common junction lacks.
+use Rattle.repair.proofs.Steps.{Part, Read, junction-roads, junction-row, junction-warned, part-of}
 use Rattle.model.specs.Calls.{warningRow}
 use Rattle.model.specs.Lists.{gather}
-use Rattle.rules.specs.Parts.{counts}
-use Rattle.repair.specs.Now.{roadsNow}
-use Rattle.words.proofs.Laws.{total-le}
-use Rattle.words.specs.Rows.{total}
-use Rattle.model.specs.Text.{sameIn}
-use lib.ListN.{length, take}
+use Rattle.model.specs.Repair.{Warning}
+use Rattle.model.specs.Tables.{Tables, mapTables}
+use lib.ListN.{take}
 use mathlib.Core.List.{List, [], _++_}
-use Prim.Native.Nat.{ℕ, _+_, _*_, _-_, _/_, _≤_}
+use Prim.Native.Nat.{ℕ, _*_, _-_, _≤_}
 use native.Mathlib.Omega.{arith}
-use mathlib.Core.Path.{_≡_, ap, _∙_}
+use mathlib.Core.Path.{ap, _∙_}
 use borrow.Author.Needs.{needs}
 use Rattle.repair.proofs.junctions.repair_junction.Statement.{statement}
 use Rattle.repair.proofs.junctions.repair_junction.Tie as tie
+
+-- ---- the junction's words, and what they say of its part
+module _ (kind : tie.After-index-at) where
+  abbrev start : tie.Start
+  start = search
+
+module _ (counted : tie.After-index-at3) where
+  abbrev first : tie.After-index-at2
+  first = search
+
+  abbrev kind : tie.After-index-at
+  kind = search
+
+  abbrev given : tie.Start
+  given = start kind
+
+  abbrev tables : (ss : List ℕ) → Tables
+  tables ss =
+      let args = given .args in
+      mapTables (args .text .now) (args .roads .now) ss (args .junctions .now) (args .connections .now)
+      (args .pairs .now)
+
+  read : Read (given .args .junctions .now) (given .args .k) (kind .index-at .result) (first .index-at2 .result)
+      (counted .index-at3 .result)
+  read = record {
+    kind-is = kind .index-at .ensures .0;
+    first-is = first .index-at2 .ensures .0;
+    count-is = counted .index-at3 .ensures .0;
+  }
+
+  part : Part (given .args .junctions .now) (given .args .connections .now) (given .args .pairs .now)
+      (given .args .k) (first .index-at2 .result) (counted .index-at3 .result)
+  part = part-of (given .pre .0 .small) (given .pre .0 .joined) (given .pre .1 .0) read
 
 mul-index-at : tie.Need-mul-index-at
 mul-index-at c = search needs
@@ -46,48 +74,26 @@ index-at-requires-3 : tie.Need-index-at-requires-3
 index-at-requires-3 c κs = search needs
 
 lay-junction-requires : tie.Need-lay-junction-requires
-lay-junction-requires c κs = search needs
+lay-junction-requires c κs =
+    let counted : tie.After-index-at3 = search in
+    let pre = given counted .pre in (pre .0, (pre .1 .0, pre .1 .1 .0 .0, pre .1 .1 .1 .1 .long))
 
 sub-put-junction : tie.Need-sub-put-junction
 sub-put-junction c =
-    let after-lay-junction : tie.After-lay-junction = search in
-    omega (arith, after-lay-junction .lay-junction .ensures .2 [] .rows)
+    let laid : tie.After-lay-junction = search in omega (arith, laid .lay-junction .ensures .1 [] .rows)
 
 put-junction-requires : tie.Need-put-junction-requires
 put-junction-requires c κs =
-    let after-lay-junction : tie.After-lay-junction = search in
-    let after-index-at3 : tie.After-index-at3 = search in
-    let after-index-at2 : tie.After-index-at2 = search in
-    let after-shared-slice-known9 = after-index-at2 .before .before .before .before .before .before .before in
-    let after-shared-slice-known2 = after-shared-slice-known9 .before .before .before .before .before .before .before in
-    let start = after-shared-slice-known2 .before .before in
-    let junctions = start .args .junctions .now in let connections = start .args .connections .now in
-    let b1 = start .pre .0 .1 .fit .begins (start .args .k) (start .pre .0 .2) in
-    let b2 = fit-in 5 3 4 junctions (length connections / 7) (start .pre .0 .1 .fit) (start .args .k)
-    (start .pre .0 .2) in
-    let b3 : after-index-at2 .index-at2 .result ≡ total (start .args .k) (counts 5 4 junctions) =
-    after-index-at2 .index-at2 .ensures .0 ∙ b1 in
-    let b4 : after-index-at2 .index-at2 .result + after-index-at3 .index-at3 .result ≤ length connections / 7 =
-    omega (arith, b2, after-index-at2 .index-at2 .ensures .0, after-index-at3 .index-at3 .ensures .0) in
-    let b5 = fit-next 5 4 junctions (start .args .k) in
-    let b6 : after-index-at2 .index-at2 .result + after-index-at3 .index-at3 .result
-    ≡ total (start .args .k + 1) (counts 5 4 junctions) =
-    omega (arith, b5, b3, after-index-at3 .index-at3 .ensures .0) in
-    let t1 = ap (λ (k : ℕ). total k (counts 7 6 connections)) b3 in
-    let t2 = ap (λ (k : ℕ). total k (counts 7 6 connections)) b6 in
-    let t3 = total-le (after-index-at2 .index-at2 .result)
-    (after-index-at2 .index-at2 .result + after-index-at3 .index-at3 .result) (counts 7 6 connections)
-    (omega arith) in
-    let t4 = total-le (after-index-at2 .index-at2 .result + after-index-at3 .index-at3 .result)
-    (length connections / 7) (counts 7 6 connections) b4 in
-    let t5 = start .pre .0 .0 .fit .whole in
-    let t6 = start .pre .0 .0 .few in
-    let t7 = start .pre .0 .0 .few-pairs in
-    let t8 = start .pre .0 .1 .few in (
-      omega (arith, start .pre .0 .2, t8),
-      omega (arith, b3, b4, b6, t6, t8, start .pre .0 .3, after-lay-junction .lay-junction .ensures .0),
-      omega (arith, b3, b4, b6, t6, t8, start .pre .0 .3, after-lay-junction .lay-junction .ensures .0),
-      start .pre .1 .2,
+    let laid : tie.After-lay-junction = search in
+    let counted : tie.After-index-at3 = search in
+    let pre = given counted .pre in
+    let part = part counted in
+    let few = pre .0 .small .few in
+    let twice = laid .lay-junction .ensures .0 in (
+      omega (arith, pre .1 .0, pre .0 .joined .few),
+      omega (arith, pre .1 .1 .0 .0 .rows, part .begins, part .inside, few),
+      omega (arith, twice .rows, part .finish, part .inside, few),
+      pre .1 .1 .1 .1 .junctions-long,
     )
 
 only-requires : tie.Need-only-requires
@@ -95,41 +101,16 @@ only-requires c κs = search needs
 
 missing-links-requires : tie.Need-missing-links-requires
 missing-links-requires c κs =
-    let after-only : tie.After-only = search in
-    let after-index-at3 : tie.After-index-at3 = search in
-    let after-index-at2 : tie.After-index-at2 = search in
-    let after-shared-slice-known9 = after-index-at2 .before .before .before .before .before .before .before in
-    let after-shared-slice-known2 = after-shared-slice-known9 .before .before .before .before .before .before .before in
-    let start = after-shared-slice-known2 .before .before in
-    let junctions = start .args .junctions .now in let connections = start .args .connections .now in
-    let b1 = start .pre .0 .1 .fit .begins (start .args .k) (start .pre .0 .2) in
-    let b2 = fit-in 5 3 4 junctions (length connections / 7) (start .pre .0 .1 .fit) (start .args .k)
-    (start .pre .0 .2) in
-    let b3 : after-index-at2 .index-at2 .result ≡ total (start .args .k) (counts 5 4 junctions) =
-    after-index-at2 .index-at2 .ensures .0 ∙ b1 in
-    let b4 : after-index-at2 .index-at2 .result + after-index-at3 .index-at3 .result ≤ length connections / 7 =
-    omega (arith, b2, after-index-at2 .index-at2 .ensures .0, after-index-at3 .index-at3 .ensures .0) in
-    let b5 = fit-next 5 4 junctions (start .args .k) in
-    let b6 : after-index-at2 .index-at2 .result + after-index-at3 .index-at3 .result
-    ≡ total (start .args .k + 1) (counts 5 4 junctions) =
-    omega (arith, b5, b3, after-index-at3 .index-at3 .ensures .0) in
-    let t1 = ap (λ (k : ℕ). total k (counts 7 6 connections)) b3 in
-    let t2 = ap (λ (k : ℕ). total k (counts 7 6 connections)) b6 in
-    let t3 = total-le (after-index-at2 .index-at2 .result)
-    (after-index-at2 .index-at2 .result + after-index-at3 .index-at3 .result) (counts 7 6 connections)
-    (omega arith) in
-    let t4 = total-le (after-index-at2 .index-at2 .result + after-index-at3 .index-at3 .result)
-    (length connections / 7) (counts 7 6 connections) b4 in
-    let t5 = start .pre .0 .0 .fit .whole in
-    let t6 = start .pre .0 .0 .few in
-    let t7 = start .pre .0 .0 .few-pairs in
-    let t8 = start .pre .0 .1 .few in (
-      omega (arith, start .pre .0 .2, t8),
-      omega (arith, b4, t6, after-only .only .ensures .1),
-      omega (arith, b3, start .pre .0 .5),
-      start .pre .1 .1,
-      start .pre .1 .0,
-      start .pre .1 .5,
+    let common : tie.After-only = search in
+    let counted : tie.After-index-at3 = search in
+    let pre = given counted .pre in
+    let part = part counted in (
+      (
+        omega (arith, pre .1 .0, pre .0 .joined .few),
+        omega (arith, part .inside, pre .0 .small .few, common .only .ensures .1),
+        omega (arith, part .begins, pre .1 .1 .0 .1),
+      ),
+      ((pre .1 .1 .1 .0, pre .1 .1 .1 .1 .warnings-long), pre .0 .known),
     )
 
 same-length : tie.Need-same-length
@@ -149,81 +130,42 @@ same-length-5 c = search needs
 
 returns : tie.Need-returns
 returns c =
-    let after-missing-links : tie.After-missing-links = search in
-    let after-only : tie.After-only = search in
-    let after-put-junction : tie.After-put-junction = search in
-    let after-lay-junction : tie.After-lay-junction = search in
-    let after-index-at3 : tie.After-index-at3 = search in
-    let after-index-at2 : tie.After-index-at2 = search in
-    let after-index-at : tie.After-index-at = search in
-    let after-shared-slice-known8 = after-index-at .before .before .before .before .before .before .before in
-    let after-shared-slice-known = after-shared-slice-known8 .before .before .before .before .before .before .before in
-    let start = after-shared-slice-known .before in
-    let junctions = start .args .junctions .now in let connections = start .args .connections .now in
-    let pairs = start .args .pairs .now in let text = start .args .text .now in
-    let ends = start .args .ends .now in let n = start .args .n in
-    let b1 = start .pre .0 .1 .fit .begins (start .args .k) (start .pre .0 .2) in
-    let b2 = fit-in 5 3 4 junctions (length connections / 7) (start .pre .0 .1 .fit) (start .args .k)
-    (start .pre .0 .2) in
-    let b3 : after-index-at2 .index-at2 .result ≡ total (start .args .k) (counts 5 4 junctions) =
-    after-index-at2 .index-at2 .ensures .0 ∙ b1 in
-    let b4 : after-index-at2 .index-at2 .result + after-index-at3 .index-at3 .result ≤ length connections / 7 =
-    omega (arith, b2, after-index-at2 .index-at2 .ensures .0, after-index-at3 .index-at3 .ensures .0) in
-    let b5 = fit-next 5 4 junctions (start .args .k) in
-    let b6 : after-index-at2 .index-at2 .result + after-index-at3 .index-at3 .result
-    ≡ total (start .args .k + 1) (counts 5 4 junctions) =
-    omega (arith, b5, b3, after-index-at3 .index-at3 .ensures .0) in
-    let t1 = ap (λ (k : ℕ). total k (counts 7 6 connections)) b3 in
-    let t2 = ap (λ (k : ℕ). total k (counts 7 6 connections)) b6 in
-    let t3 = total-le (after-index-at2 .index-at2 .result)
-    (after-index-at2 .index-at2 .result + after-index-at3 .index-at3 .result) (counts 7 6 connections)
-    (omega arith) in
-    let t4 = total-le (after-index-at2 .index-at2 .result + after-index-at3 .index-at3 .result)
-    (length connections / 7) (counts 7 6 connections) b4 in
-    let t5 = start .pre .0 .0 .fit .whole in
-    let t6 = start .pre .0 .0 .few in
-    let t7 = start .pre .0 .0 .few-pairs in
-    let t8 = start .pre .0 .1 .few in (
+    let linked : tie.After-missing-links = search in
+    let common : tie.After-only = search in
+    let put : tie.After-put-junction = search in
+    let laid : tie.After-lay-junction = search in
+    let counted : tie.After-index-at3 = search in
+    let args = given counted .args in
+    let pre = given counted .pre in
+    let part = part counted in
+    let read = read counted in
+    let only = common .only .ensures .0 in (
+      laid .lay-junction .ensures .0,
       (
-        after-lay-junction .lay-junction .ensures .0,
-        after-lay-junction .lay-junction .ensures .1,
         omega (
           arith,
-          after-missing-links .missing-links .ensures .0,
-          after-only .only .ensures .1,
-          b3,
-          b6,
-          start .pre .0 .5,
+          linked .missing-links .ensures .0,
+          common .only .ensures .1,
+          part .begins,
+          part .finish,
+          pre .1 .1 .0 .1,
         ),
+        λ ss.
+            let t = tables counted ss in
+            let step = linked .missing-links .ensures .1 ss (args .pairs .now) in
+            let own = laid .lay-junction .ensures .1 ss in
+            record {
+              roads = step .roads ∙ junction-roads t _ read only;
+              row = put .put-junction .ensures
+                  ∙ ap (λ (l : List ℕ). take (args .k * 5) (args .js .now) ++ l)
+                  (junction-row t _ (args .k) (args .n) (pre .0 .joined .kinds (args .k) (pre .1 .0))
+                  (omega (arith, own .rows)));
+              laid = own;
+              warned = step .warned
+                  ∙ ap (λ (l : List Warning). take (args .w * 4) (args .warn .now) ++ gather (warningRow t) l)
+                  (junction-warned t _ read only);
+            },
       ),
-      λ ss.
-          record {
-            roads = after-missing-links .missing-links .ensures .1 ss pairs .0
-                ∙ junction-roads (sameIn text) (roadsNow ss (start .args .roads .now) junctions ends) pairs
-                connections junctions (start .args .k) (after-index-at2 .index-at2 .result)
-                (after-index-at3 .index-at3 .result) (after-index-at2 .index-at2 .ensures .0)
-                (after-index-at3 .index-at3 .ensures .0) (after-index-at .index-at .result)
-                (after-only .only .result) (after-index-at .index-at .ensures .0) (after-only .only .ensures .0);
-            row = after-put-junction .put-junction .ensures
-                ∙ ap (λ (l : List ℕ). take (start .args .k * 5) (start .args .js .now) ++ l)
-                (junction-words (sameIn text) (roadsNow ss (start .args .roads .now) junctions ends) pairs
-                connections junctions (start .args .k) n
-                (after-lay-junction .lay-junction .result .connections - n)
-                (start .pre .0 .1 .kinds (start .args .k) (start .pre .0 .2))
-                (omega (arith, after-lay-junction .lay-junction .ensures .2 ss .rows)));
-            laid = after-lay-junction .lay-junction .ensures .2 ss;
-            warned = after-missing-links .missing-links .ensures .1 ss pairs .1
-                ∙ ap (λ (l : List Warning).
-                take (start .args .w * 4) (start .args .warn .now)
-                ++ gather
-                (warningRow (mapTables text (start .args .roads .now) ss junctions connections pairs)) l)
-                (junction-warned (sameIn text) (roadsNow ss (start .args .roads .now) junctions ends) pairs
-                connections junctions (start .args .k) (after-index-at2 .index-at2 .result)
-                (after-index-at3 .index-at3 .result) (after-index-at2 .index-at2 .ensures .0)
-                (after-index-at3 .index-at3 .ensures .0) (after-index-at .index-at .result)
-                (after-only .only .result) (after-index-at .index-at .ensures .0)
-                (after-only .only .ensures .0));
-          },
     )
 
 pub repair-junction-spec : {M : Type 1} → statement M

@@ -1,3 +1,4 @@
+-- `connection_row` is the row as read with its contact a flag, or the row the other way.
 use Rattle.repair.proofs.Lays.{row-turned}
 use Rattle.repair.specs.Laying.{rowWords}
 use Rattle.model.specs.Tables.{bit}
@@ -56,20 +57,20 @@ cast-t16 c = search needs
 
 returns : tie.Need-returns
 returns c =
-    let after-at6 : tie.After-at6 = search in
-    let after-one : tie.After-one = search in
-    let after-at5 : tie.After-at5 = search in
-    let after-at4 : tie.After-at4 = search in
-    let after-at3 : tie.After-at3 = search in
-    let after-at2 : tie.After-at2 = search in
-    let after-at : tie.After-at = search in
+    let w6 : tie.After-at6 = search in
+    let flag : tie.After-one = search in
+    let w4 : tie.After-at5 = search in
+    let w3 : tie.After-at4 = search in
+    let w2 : tie.After-at3 = search in
+    let w1 : tie.After-at2 = search in
+    let w0 : tie.After-at = search in
     let start : tie.Start = search in
-    let p = start .args .p in
-    let w4 = after-one .one .ensures .0 ∙ ap (λ (x : ℕ). bit (eqb x 1)) (after-at5 .at5 .ensures) in
+    let args = start .args in
+    let contact = flag .one .ensures .0 ∙ ap (λ (x : ℕ). bit (eqb x 1)) (w4 .at5 .ensures) in
     (λ i.
-    (after-at .at .ensures i) ∷ (after-at2 .at2 .ensures i) ∷ (after-at3 .at3 .ensures i)
-    ∷ (after-at4 .at4 .ensures i) ∷ w4 i ∷ p ∷ (after-at6 .at6 .ensures i) ∷ [])
-    ∙ ap (λ (b : ℕ). rowWords b (start .args .connections .now) (start .args .c) p) (sym (c .if1 .taken))
+    (w0 .at .ensures i) ∷ (w1 .at2 .ensures i) ∷ (w2 .at3 .ensures i) ∷ (w3 .at4 .ensures i) ∷ contact i
+    ∷ args .p ∷ (w6 .at6 .ensures i) ∷ [])
+    ∙ ap (λ (b : ℕ). rowWords b (args .connections .now) (args .c) (args .p)) (sym (c .if1 .taken))
 
 sub-t12 : tie.Need-sub-t12
 sub-t12 c = search needs
@@ -82,17 +83,17 @@ cast-t17 c = search needs
 
 returns-2 : tie.Need-returns-2
 returns-2 c =
-    let after-at6 : tie.After-at6 = search in
-    let after-at4 : tie.After-at4 = search in
-    let after-at3 : tie.After-at3 = search in
-    let after-at2 : tie.After-at2 = search in
-    let after-at : tie.After-at = search in
+    let w6 : tie.After-at6 = search in
+    let w3 : tie.After-at4 = search in
+    let w2 : tie.After-at3 = search in
+    let w1 : tie.After-at2 = search in
+    let w0 : tie.After-at = search in
     let start : tie.Start = search in
-    let b = start .args .b in let p = start .args .p in
+    let args = start .args in
     (λ i.
-    (after-at3 .at3 .ensures i) ∷ (after-at4 .at4 .ensures i) ∷ (after-at .at .ensures i)
-    ∷ (after-at2 .at2 .ensures i) ∷ (b - 1) ∷ p ∷ (after-at6 .at6 .ensures i) ∷ [])
-    ∙ row-turned (b - 1) (start .args .connections .now) (start .args .c) p b (c .if1 .left) refl
+    (w2 .at3 .ensures i) ∷ (w3 .at4 .ensures i) ∷ (w0 .at .ensures i) ∷ (w1 .at2 .ensures i) ∷ (args .b - 1)
+    ∷ args .p ∷ (w6 .at6 .ensures i) ∷ [])
+    ∙ row-turned (args .b - 1) (args .connections .now) (args .c) (args .p) (args .b) (c .if1 .left) refl
 
 pub connection-row-spec : {M : Type 1} → statement M
 connection-row-spec =

@@ -1,3 +1,4 @@
+-- `put_connection` puts the connection's row, and its pairs after it.
 use Rattle.repair.proofs.Missing.{put-on}
 use Rattle.repair.proofs.Lays.{lay-one, row-width}
 use Rattle.rules.proofs.Fits.{fit-in}
@@ -5,7 +6,7 @@ use Rattle.repair.specs.Laying.{rowWords}
 use Rattle.words.specs.Rows.{spliced}
 use lib.ListN.{length}
 use mathlib.Core.List.{List}
-use Prim.Native.Nat.{ℕ, _+_, _*_, _-_, _/_}
+use Prim.Native.Nat.{ℕ, _+_, _*_, _-_, _≤_}
 use native.Mathlib.Omega.{arith}
 use mathlib.Core.Path.{_≡_, ap, _∙_}
 use borrow.Author.Needs.{needs}
@@ -44,20 +45,16 @@ index-at-requires-2 c κs = search needs
 
 put-pairs-requires : tie.Need-put-pairs-requires
 put-pairs-requires c κs =
-    let after-index-at2 : tie.After-index-at2 = search in
-    let after-index-at : tie.After-index-at = search in
+    let counted : tie.After-index-at2 = search in
+    let first : tie.After-index-at = search in
     let start : tie.Start = search in
-    let f = fit-in 7 5 6 (start .args .connections .now) (length (start .args .pairs .now) / 2)
-    (start .pre .0 .fit) (start .args .c) (start .pre .1) in (
-      omega (
-        arith,
-        f,
-        after-index-at .index-at .ensures .0,
-        after-index-at2 .index-at2 .ensures .0,
-        start .pre .0 .few-pairs,
-      ),
-      omega (arith, after-index-at2 .index-at2 .ensures .0, start .pre .4),
-      start .pre .6,
+    let small = start .pre .0 in
+    let room = start .pre .1 in
+    let count-is = counted .index-at2 .ensures .0 in
+    let fits = fit-in 7 5 6 _ _ (small .fit) _ (room .inside) in (
+      omega (arith, fits, first .index-at .ensures .0, count-is, small .few-pairs),
+      omega (arith, count-is, room .pair-rows),
+      start .pre .2 .pairs-long,
     )
 
 add-result : tie.Need-add-result
@@ -71,24 +68,25 @@ same-length-2 c = search needs
 
 returns : tie.Need-returns
 returns c =
-    let after-put-pairs : tie.After-put-pairs = search in
-    let after-index-at2 : tie.After-index-at2 = search in
-    let after-index-at : tie.After-index-at = search in
-    let after-put : tie.After-put = search in
-    let after-connection-row : tie.After-connection-row = search in
+    let paired : tie.After-put-pairs = search in
+    let counted : tie.After-index-at2 = search in
+    let first : tie.After-index-at = search in
+    let put : tie.After-put = search in
+    let made : tie.After-connection-row = search in
     let start : tie.Start = search in
-    let n = start .args .n in let b = start .args .b in let connections = start .args .connections .now in
-    let p = start .args .p in let cs = start .args .cs .now in
-    let z : (n + 1) * 7 ≡ n * 7 + length (rowWords b connections (start .args .c) p) =
-    omega (arith, row-width b connections (start .args .c) p) in (
-      ap (λ (k : ℕ). p + k) (after-index-at2 .index-at2 .ensures .0),
-      lay-one (start .args .pairs .now) connections (start .pre .0) (start .args .c) (start .pre .1) b n p
-          (after-index-at .index-at .result) (after-index-at2 .index-at2 .result) cs (start .args .ps .now)
-          (start .pre .2) (after-index-at .index-at .ensures .0) (after-index-at2 .index-at2 .ensures .0)
-          (put-on (rowWords b connections (start .args .c) p) cs
-          (after-put .put .ensures
-          ∙ ap (λ (r : List ℕ). spliced (n * 7) r cs) (after-connection-row .connection-row .ensures))
-          (omega (arith, start .pre .3, start .pre .5)) z) (after-put-pairs .put-pairs .ensures),
+    let args = start .args in
+    let room = start .pre .1 in
+    let cs = args .cs .now in
+    let words = rowWords (args .b) (args .connections .now) (args .c) (args .p) in
+    let row-end : (args .n + 1) * 7 ≡ args .n * 7 + length words =
+    omega (arith, row-width (args .b) (args .connections .now) (args .c) (args .p)) in
+    let fits : args .n * 7 ≤ length cs = omega (arith, room .rows, start .pre .2 .connections-long) in
+    let row-put =
+    put .put .ensures ∙ ap (λ (r : List ℕ). spliced (args .n * 7) r cs) (made .connection-row .ensures) in (
+      ap (λ (k : ℕ). args .p + k) (counted .index-at2 .ensures .0),
+      lay-one (args .pairs .now) _ (start .pre .0) _ (room .inside) _ _ _ _ _ cs _ (room .contact)
+          (first .index-at .ensures .0) (counted .index-at2 .ensures .0)
+          (put-on words cs row-put fits row-end) (paired .put-pairs .ensures),
     )
 
 pub put-connection-spec : {M : Type 1} → statement M

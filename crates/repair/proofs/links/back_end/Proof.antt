@@ -1,15 +1,44 @@
-use Rattle.repair.proofs.Ends.{end-one, back-some, back-none}
+-- `back_end` tests the target's words one by one: present, of kind road, of that name, its contact given.
+use Rattle.repair.proofs.Ends.{back-nowhere, back-there, end-one, namesBack}
 use Rattle.repair.specs.Now.{endOpt}
 use Rattle.rules.proofs.Leaves.{both-is}
 use Rattle.words.specs.Rows.{nameAt, span}
+use Rattle.model.specs.Records.{Span}
 use Rattle.model.specs.Text.{sameIn}
 use lib.ListN.{getD}
 use Prim.Native.Nat.{ℕ, _+_, _-_}
 use native.Mathlib.Omega.{arith}
-use mathlib.Core.Path.{sym, ap, ap₂, _∙_}
+use mathlib.Core.Path.{_≡_, sym, ap, ap₂, _∙_}
 use borrow.Author.Needs.{needs}
 use Rattle.repair.proofs.links.back_end.Statement.{statement}
 use Rattle.repair.proofs.links.back_end.Tie as tie
+
+-- ---- the test is the model's
+module _ (tested : tie.After-both3) where
+  abbrev start : tie.Start
+  start = search
+
+  abbrev incoming : Span
+  incoming = nameAt 7 0 (start .args .connections .now) (start .args .c)
+
+  test-is : tested .both3 .result ≡ namesBack (sameIn (start .args .text .now)) incoming (start .args .t2)
+  test-is =
+      let given : tie.After-is2 = search in
+      let named : tie.After-both2 = search in
+      let compared : tie.After-alike = search in
+      let link : tie.After-both = search in
+      let to-road : tie.After-differs = search in
+      let present : tie.After-is = search in
+      let size : tie.After-at2 = search in
+      let first : tie.After-at = search in
+      let text = start .args .text .now in
+      let words = start .args .t2 in
+      let name-is =
+      compared .alike .ensures
+      ∙ ap₂ (λ (a b : ℕ). sameIn text (span (getD words 2 0) (getD words 3 0)) (span a b)) (first .at .ensures)
+      (size .at2 .ensures) in
+      let link-is = both-is (link .both .ensures) (present .is .ensures) (to-road .differs .ensures) in
+      both-is (tested .both3 .ensures) (both-is (named .both2 .ensures) link-is name-is) (given .is2 .ensures)
 
 mul-at : tie.Need-mul-at
 mul-at c = search needs
@@ -79,56 +108,18 @@ add-result c = search needs
 
 returns : tie.Need-returns
 returns c =
-    let then1 : tie.Then1 = search in
-    let after-both3 : tie.After-both3 = search in
-    let after-is2 : tie.After-is2 = search in
-    let after-both2 : tie.After-both2 = search in
-    let after-alike : tie.After-alike = search in
-    let after-both : tie.After-both = search in
-    let after-differs : tie.After-differs = search in
-    let after-is : tie.After-is = search in
-    let after-at2 : tie.After-at2 = search in
-    let after-at : tie.After-at = search in
-    let start : tie.Start = search in
-    let t2 = start .args .t2 in let text = start .args .text .now in (
+    let there : tie.Then1 = search in
+    let tested : tie.After-both3 = search in (
       omega (arith, c .one .ensures .1),
       ap (λ (k : ℕ). endOpt (1 + k)) (c .one .ensures .0)
-          ∙ end-one (getD t2 4 0)
-          ∙ back-some (sameIn text) (nameAt 7 0 (start .args .connections .now) (start .args .c)) (getD t2 0 0)
-          (getD t2 1 0) (getD t2 2 0) (getD t2 3 0) (getD t2 4 0) (getD t2 5 0) (getD t2 6 0)
-          (sym (both-is (after-both3 .both3 .ensures)
-          (both-is (after-both2 .both2 .ensures)
-          (both-is (after-both .both .ensures) (after-is .is .ensures) (after-differs .differs .ensures))
-          (after-alike .alike .ensures
-          ∙ ap₂ (λ (a b : ℕ). sameIn text (span (getD t2 2 0) (getD t2 3 0)) (span a b))
-          (after-at .at .ensures) (after-at2 .at2 .ensures))) (after-is2 .is2 .ensures))
-          ∙ then1 .if1 .taken),
+          ∙ end-one (getD (start tested .args .t2) 4 0)
+          ∙ back-there _ _ (start tested .args .t2) (sym (test-is tested) ∙ there .if1 .taken),
     )
 
 returns-2 : tie.Need-returns-2
 returns-2 c =
-    let after-both3 : tie.After-both3 = search in
-    let after-is2 : tie.After-is2 = search in
-    let after-both2 : tie.After-both2 = search in
-    let after-alike : tie.After-alike = search in
-    let after-both : tie.After-both = search in
-    let after-differs : tie.After-differs = search in
-    let after-is : tie.After-is = search in
-    let after-at2 : tie.After-at2 = search in
-    let after-at : tie.After-at = search in
-    let start : tie.Start = search in
-    let text = start .args .text .now in let t2 = start .args .t2 in (
-      omega arith,
-      back-none (sameIn text) (nameAt 7 0 (start .args .connections .now) (start .args .c)) (getD t2 0 0)
-          (getD t2 1 0) (getD t2 2 0) (getD t2 3 0) (getD t2 4 0) (getD t2 5 0) (getD t2 6 0)
-          (sym (both-is (after-both3 .both3 .ensures)
-          (both-is (after-both2 .both2 .ensures)
-          (both-is (after-both .both .ensures) (after-is .is .ensures) (after-differs .differs .ensures))
-          (after-alike .alike .ensures
-          ∙ ap₂ (λ (a b : ℕ). sameIn text (span (getD t2 2 0) (getD t2 3 0)) (span a b))
-          (after-at .at .ensures) (after-at2 .at2 .ensures))) (after-is2 .is2 .ensures))
-          ∙ c .if1 .left),
-    )
+    let tested : tie.After-both3 = search in
+    (omega arith, back-nowhere _ _ (start tested .args .t2) (sym (test-is tested) ∙ c .if1 .left))
 
 pub back-end-spec : {M : Type 1} → statement M
 back-end-spec =

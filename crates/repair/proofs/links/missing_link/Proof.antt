@@ -1,444 +1,178 @@
-use Rattle.repair.proofs.Missing.{put-on, end-unknown, end-known, still-roads, still-warned}
-use Rattle.repair.proofs.Missing.{linked-roads, linked-warned}
+-- `missing_link` finds the incoming road and the end that the connection shows; where there is one, it writes the end's
+-- word and a warning.
+use Rattle.repair.proofs.Missing.{end-known, end-unknown, linked-none, linked-one}
 use Rattle.repair.proofs.Ends.{end-some}
-use Rattle.repair.specs.Now.{endOpt}
-use lib.ListN.{take}
-use mathlib.Core.List.{List, _++_}
-use Prim.Native.Nat.{ℕ, suc, _+_, _*_, _-_}
+use Rattle.repair.specs.Now.{endOpt, roadsWith, junctionName, rowConnection}
+use Rattle.rules.specs.ByRow.{roadRowOf}
+use Rattle.words.specs.Rows.{nameAt}
+use Rattle.model.specs.Repair.{missingEnd}
+use Rattle.model.specs.Rules.{same}
+use Rattle.model.specs.Tables.{Tables, mapTables}
+use mathlib.Core.List.{List}
+use Prim.Native.Nat.{ℕ, suc, _*_, _-_, _≤_, _<_}
 use native.Mathlib.Omega.{arith}
 use mathlib.Core.Path.{_≡_, sym, ap, _∙_}
 use borrow.Author.Needs.{needs}
 use Rattle.repair.proofs.links.missing_link.Statement.{statement}
 use Rattle.repair.proofs.links.missing_link.Tie as tie
 
+-- ---- the tables
+module _ (found : tie.After-road-of) where
+  abbrev start : tie.Start
+  start = search
+
+  abbrev tables : (ss ps : List ℕ) → Tables
+  tables ss ps =
+      let args = start .args in
+      mapTables (args .text .now) (args .roads .now) ss (args .junctions .now) (args .connections .now) ps
+
+-- ---- the incoming road is known
+module _ (known : tie.Else1) where
+  abbrev found : tie.After-road-of
+  found = search
+
+  abbrev row : ℕ
+  row = found .road-of .result - 1
+
+  row-found : suc row
+      ≡ roadRowOf (start found .args .text .now) (start found .args .roads .now)
+      (nameAt 7 0 (start found .args .connections .now) (start found .args .c))
+  row-found =
+      let up : suc row ≡ found .road-of .result = omega (arith, known .if1 .left) in
+      up ∙ found .road-of .ensures .0
+
+  row-few : row < 16384
+  row-few = omega (arith, found .road-of .ensures .1, start found .pre .1 .1 .few, known .if1 .left)
+
+-- ---- and `missing_end` says what the connection shows
+module _ (asked : tie.After-missing-end) where
+  abbrev known : tie.Else1
+  known = search
+
+  shown : (ss ps : List ℕ)
+      → missingEnd (same (tables (found known) ss ps))
+      (roadsWith (tables (found known) ss ps) (start (found known) .args .ends .now))
+      (junctionName (tables (found known) ss ps) (start (found known) .args .k))
+      (rowConnection (tables (found known) ss ps) (start (found known) .args .c))
+      ≡ endOpt (asked .missing-end .result)
+  shown ss ps =
+      end-known (tables (found known) ss ps) _ (start (found known) .pre .1 .1 .once) _ _ _ (row-found known)
+      (asked .missing-end .ensures .1 ss ps)
+
+-- ---- there is such an end
+module _ (there : tie.Else2) where
+  abbrev asked : tie.After-missing-end
+  asked = search
+
+  abbrev end : ℕ
+  end = asked .missing-end .result - 1
+
+  abbrev given : tie.Start
+  given = start (found (known asked))
+
+  end-small : end ≤ 1
+  end-small = omega (arith, asked .missing-end .ensures .0, there .if2 .left)
+
 mul-road-of : tie.Need-mul-road-of
-mul-road-of c =
-    let start : tie.Start = search in
-    omega (arith, start .pre .1)
+mul-road-of c = let start : tie.Start = search in omega (arith, start .pre .0 .1)
 
 add-road-of : tie.Need-add-road-of
-add-road-of c =
-    let start : tie.Start = search in
-    omega (arith, start .pre .1)
+add-road-of c = let start : tie.Start = search in omega (arith, start .pre .0 .1)
 
 road-of-requires : tie.Need-road-of-requires
-road-of-requires c κs =
-    let start : tie.Start = search in
-    (omega (arith, start .pre .1), start .pre .5)
+road-of-requires c κs = let start : tie.Start = search in (omega (arith, start .pre .0 .1), start .pre .1 .1)
 
 returns : tie.Need-returns
 returns c =
-    let after-road-of : tie.After-road-of = search in
-    let start : tie.Start = search in
-    let text = start .args .text .now in let roads = start .args .roads .now in
-    let junctions = start .args .junctions .now in let connections = start .args .connections .now in
-    let ends = start .args .ends .now in let k = start .args .k in (
-      omega arith,
-      λ ss ps.
-          let h = end-unknown text roads ss junctions connections ps ends k (start .args .c)
-          (start .pre .5 .once) (sym (c .if1 .taken) ∙ after-road-of .road-of .ensures .0) in (
-            still-roads text roads ss junctions connections ps ends k (start .args .c) (start .pre .5 .once) h,
-            still-warned text roads ss junctions connections ps ends k (start .args .c) (start .pre .5 .once) h
-                (take (start .args .w * 4) (start .args .warn .now)),
-          ),
-    )
+    let found : tie.After-road-of = search in
+    let unknown = sym (c .if1 .taken) ∙ found .road-of .ensures .0 in
+    let once = start found .pre .1 .1 .once in
+    (omega arith, λ ss ps. linked-none _ _ once _ _ _ _ (end-unknown (tables found ss ps) _ once _ _ unknown))
 
-sub-missing-end : tie.Need-sub-missing-end
-sub-missing-end c =
-    let else1 : tie.Else1 = search in
-    omega (arith, else1 .if1 .left)
+sub-r : tie.Need-sub-r
+sub-r c = omega (arith, c .if1 .left)
+
+cast-ends : tie.Need-cast-ends
+cast-ends c = let known : tie.Else1 = search in omega (arith, row-few known)
 
 missing-end-requires : tie.Need-missing-end-requires
 missing-end-requires c κs =
-    let else1 : tie.Else1 = search in
-    let after-road-of : tie.After-road-of = search in
-    let start : tie.Start = search in (
-      (omega (arith, after-road-of .road-of .ensures .1, start .pre .5 .few, else1 .if1 .left)),
-      start .pre .0,
-      start .pre .1,
-      start .pre .5,
-    )
+    let known : tie.Else1 = search in
+    let pre = start (found known) .pre in (row-few known, pre .0 .0, pre .0 .1, pre .1 .1)
 
 same-length : tie.Need-same-length
 same-length c = omega arith
 
 returns-2 : tie.Need-returns-2
 returns-2 c =
-    let after-missing-end : tie.After-missing-end = search in
-    let else1 : tie.Else1 = search in
-    let after-road-of : tie.After-road-of = search in
-    let after-shared-slice-known2 = after-road-of .before .before .before .before .before .before .before in
-    let start = after-shared-slice-known2 .before .before in
-    let text = start .args .text .now in let roads = start .args .roads .now in
-    let junctions = start .args .junctions .now in let connections = start .args .connections .now in
-    let ends = start .args .ends .now in let k = start .args .k in
-    let z : suc (after-road-of .road-of .result - 1) ≡ after-road-of .road-of .result =
-    omega (arith, else1 .if1 .left) in (
+    let asked : tie.After-missing-end = search in
+    let once = start (found (known asked)) .pre .1 .1 .once in (
       omega arith,
-      λ ss ps.
-          let h = end-known text roads ss junctions connections ps ends k (start .args .c)
-          (start .pre .5 .once) (after-road-of .road-of .result - 1) (z ∙ after-road-of .road-of .ensures .0)
-          (after-missing-end .missing-end .ensures .1 ss ps)
-          ∙ ap endOpt (c .if2 .taken) in (
-            still-roads text roads ss junctions connections ps ends k (start .args .c) (start .pre .5 .once) h,
-            still-warned text roads ss junctions connections ps ends k (start .args .c) (start .pre .5 .once) h
-                (take (start .args .w * 4) (start .args .warn .now)),
-          ),
+      λ ss ps. linked-none _ _ once _ _ _ _ (shown asked ss ps ∙ ap endOpt (c .if2 .taken)),
     )
+
+sub-end : tie.Need-sub-end
+sub-end c = omega (arith, c .if2 .left)
 
 add-ends : tie.Need-add-ends
-add-ends c =
-    let after-missing-end : tie.After-missing-end = search in
-    let else1 : tie.Else1 = search in
-    let after-road-of : tie.After-road-of = search in
-    let after-shared-slice-known2 = after-road-of .before .before .before .before .before .before .before in
-    let start = after-shared-slice-known2 .before .before in
-    omega (
-      arith,
-      after-road-of .road-of .ensures .1,
-      start .pre .5 .few,
-      else1 .if1 .left,
-      after-missing-end .missing-end .ensures .0,
-      c .if2 .left,
-      start .pre .4,
-      start .pre .0,
-      start .pre .3,
-      start .pre .2,
-    )
+add-ends c = let there : tie.Else2 = search in omega (arith, given there .pre .0 .0)
 
-cast-ends : tie.Need-cast-ends
-cast-ends c =
-    let after-missing-end : tie.After-missing-end = search in
-    let else1 : tie.Else1 = search in
-    let after-road-of : tie.After-road-of = search in
-    let after-shared-slice-known2 = after-road-of .before .before .before .before .before .before .before in
-    let start = after-shared-slice-known2 .before .before in
-    omega (
-      arith,
-      after-road-of .road-of .ensures .1,
-      start .pre .5 .few,
-      else1 .if1 .left,
-      after-missing-end .missing-end .ensures .0,
-      c .if2 .left,
-      start .pre .4,
-      start .pre .0,
-      start .pre .3,
-      start .pre .2,
-    )
-
-sub-ends : tie.Need-sub-ends
-sub-ends c =
-    let after-missing-end : tie.After-missing-end = search in
-    let else1 : tie.Else1 = search in
-    let after-road-of : tie.After-road-of = search in
-    let after-shared-slice-known2 = after-road-of .before .before .before .before .before .before .before in
-    let start = after-shared-slice-known2 .before .before in
-    omega (
-      arith,
-      after-road-of .road-of .ensures .1,
-      start .pre .5 .few,
-      else1 .if1 .left,
-      after-missing-end .missing-end .ensures .0,
-      c .if2 .left,
-      start .pre .4,
-      start .pre .0,
-      start .pre .3,
-      start .pre .2,
-    )
+cast-ends-2 : tie.Need-cast-ends-2
+cast-ends-2 c = let there : tie.Else2 = search in omega (arith, given there .pre .0 .0)
 
 mul-ends : tie.Need-mul-ends
-mul-ends c =
-    let after-missing-end : tie.After-missing-end = search in
-    let else1 : tie.Else1 = search in
-    let after-road-of : tie.After-road-of = search in
-    let after-shared-slice-known2 = after-road-of .before .before .before .before .before .before .before in
-    let start = after-shared-slice-known2 .before .before in
-    omega (
-      arith,
-      after-road-of .road-of .ensures .1,
-      start .pre .5 .few,
-      else1 .if1 .left,
-      after-missing-end .missing-end .ensures .0,
-      c .if2 .left,
-      start .pre .4,
-      start .pre .0,
-      start .pre .3,
-      start .pre .2,
-    )
-
-sub-ends-2 : tie.Need-sub-ends-2
-sub-ends-2 c =
-    let after-missing-end : tie.After-missing-end = search in
-    let else1 : tie.Else1 = search in
-    let after-road-of : tie.After-road-of = search in
-    let after-shared-slice-known2 = after-road-of .before .before .before .before .before .before .before in
-    let start = after-shared-slice-known2 .before .before in
-    omega (
-      arith,
-      after-road-of .road-of .ensures .1,
-      start .pre .5 .few,
-      else1 .if1 .left,
-      after-missing-end .missing-end .ensures .0,
-      c .if2 .left,
-      start .pre .4,
-      start .pre .0,
-      start .pre .3,
-      start .pre .2,
-    )
+mul-ends c = let there : tie.Else2 = search in omega (arith, row-few (known (asked there)))
 
 add-ends-2 : tie.Need-add-ends-2
-add-ends-2 c =
-    let after-missing-end : tie.After-missing-end = search in
-    let else1 : tie.Else1 = search in
-    let after-road-of : tie.After-road-of = search in
-    let after-shared-slice-known2 = after-road-of .before .before .before .before .before .before .before in
-    let start = after-shared-slice-known2 .before .before in
-    omega (
-      arith,
-      after-road-of .road-of .ensures .1,
-      start .pre .5 .few,
-      else1 .if1 .left,
-      after-missing-end .missing-end .ensures .0,
-      c .if2 .left,
-      start .pre .4,
-      start .pre .0,
-      start .pre .3,
-      start .pre .2,
-    )
+add-ends-2 c = let there : tie.Else2 = search in omega (arith, row-few (known (asked there)), end-small there)
 
 mul-ends-2 : tie.Need-mul-ends-2
-mul-ends-2 c =
-    let after-missing-end : tie.After-missing-end = search in
-    let else1 : tie.Else1 = search in
-    let after-road-of : tie.After-road-of = search in
-    let after-shared-slice-known2 = after-road-of .before .before .before .before .before .before .before in
-    let start = after-shared-slice-known2 .before .before in
-    omega (
-      arith,
-      after-road-of .road-of .ensures .1,
-      start .pre .5 .few,
-      else1 .if1 .left,
-      after-missing-end .missing-end .ensures .0,
-      c .if2 .left,
-      start .pre .4,
-      start .pre .0,
-      start .pre .3,
-      start .pre .2,
-    )
+mul-ends-2 c = let there : tie.Else2 = search in omega (arith, row-few (known (asked there)))
 
 slice-write-ends : tie.Need-slice-write-ends
 slice-write-ends c =
-    let after-missing-end : tie.After-missing-end = search in
-    let else1 : tie.Else1 = search in
-    let after-road-of : tie.After-road-of = search in
-    let after-shared-slice-known2 = after-road-of .before .before .before .before .before .before .before in
-    let start = after-shared-slice-known2 .before .before in
-    omega (
-      arith,
-      after-road-of .road-of .ensures .1,
-      start .pre .5 .few,
-      else1 .if1 .left,
-      after-missing-end .missing-end .ensures .0,
-      c .if2 .left,
-      start .pre .4,
-      start .pre .0,
-      start .pre .3,
-      start .pre .2,
-    )
+    let there : tie.Else2 = search in
+    omega (arith, row-few (known (asked there)), end-small there, given there .pre .1 .0)
 
-cast-t20 : tie.Need-cast-t20
-cast-t20 c =
-    let after-missing-end : tie.After-missing-end = search in
-    let else1 : tie.Else1 = search in
-    let after-road-of : tie.After-road-of = search in
-    let after-shared-slice-known2 = after-road-of .before .before .before .before .before .before .before in
-    let start = after-shared-slice-known2 .before .before in
-    omega (
-      arith,
-      after-road-of .road-of .ensures .1,
-      start .pre .5 .few,
-      else1 .if1 .left,
-      after-missing-end .missing-end .ensures .0,
-      c .if2 .left,
-      start .pre .4,
-      start .pre .0,
-      start .pre .3,
-      start .pre .2,
-    )
-
-sub-t15 : tie.Need-sub-t15
-sub-t15 c =
-    let after-missing-end : tie.After-missing-end = search in
-    let else1 : tie.Else1 = search in
-    let after-road-of : tie.After-road-of = search in
-    let after-shared-slice-known2 = after-road-of .before .before .before .before .before .before .before in
-    let start = after-shared-slice-known2 .before .before in
-    omega (
-      arith,
-      after-road-of .road-of .ensures .1,
-      start .pre .5 .few,
-      else1 .if1 .left,
-      after-missing-end .missing-end .ensures .0,
-      c .if2 .left,
-      start .pre .4,
-      start .pre .0,
-      start .pre .3,
-      start .pre .2,
-    )
-
-cast-t26 : tie.Need-cast-t26
-cast-t26 c =
-    let after-missing-end : tie.After-missing-end = search in
-    let else1 : tie.Else1 = search in
-    let after-road-of : tie.After-road-of = search in
-    let after-shared-slice-known2 = after-road-of .before .before .before .before .before .before .before in
-    let start = after-shared-slice-known2 .before .before in
-    omega (
-      arith,
-      after-road-of .road-of .ensures .1,
-      start .pre .5 .few,
-      else1 .if1 .left,
-      after-missing-end .missing-end .ensures .0,
-      c .if2 .left,
-      start .pre .4,
-      start .pre .0,
-      start .pre .3,
-      start .pre .2,
-    )
-
-sub-t23 : tie.Need-sub-t23
-sub-t23 c =
-    let after-missing-end : tie.After-missing-end = search in
-    let else1 : tie.Else1 = search in
-    let after-road-of : tie.After-road-of = search in
-    let after-shared-slice-known2 = after-road-of .before .before .before .before .before .before .before in
-    let start = after-shared-slice-known2 .before .before in
-    omega (
-      arith,
-      after-road-of .road-of .ensures .1,
-      start .pre .5 .few,
-      else1 .if1 .left,
-      after-missing-end .missing-end .ensures .0,
-      c .if2 .left,
-      start .pre .4,
-      start .pre .0,
-      start .pre .3,
-      start .pre .2,
-    )
+cast-t22 : tie.Need-cast-t22
+cast-t22 c = let there : tie.Else2 = search in omega (arith, given there .pre .0 .0)
 
 cast-t27 : tie.Need-cast-t27
-cast-t27 c =
-    let after-missing-end : tie.After-missing-end = search in
-    let else1 : tie.Else1 = search in
-    let after-road-of : tie.After-road-of = search in
-    let after-shared-slice-known2 = after-road-of .before .before .before .before .before .before .before in
-    let start = after-shared-slice-known2 .before .before in
-    omega (
-      arith,
-      after-road-of .road-of .ensures .1,
-      start .pre .5 .few,
-      else1 .if1 .left,
-      after-missing-end .missing-end .ensures .0,
-      c .if2 .left,
-      start .pre .4,
-      start .pre .0,
-      start .pre .3,
-      start .pre .2,
-    )
+cast-t27 c = let there : tie.Else2 = search in omega (arith, row-few (known (asked there)))
+
+cast-t28 : tie.Need-cast-t28
+cast-t28 c = let there : tie.Else2 = search in omega (arith, end-small there)
 
 mul-put : tie.Need-mul-put
-mul-put c =
-    let else2 : tie.Else2 = search in
-    let after-missing-end : tie.After-missing-end = search in
-    let else1 : tie.Else1 = search in
-    let after-road-of : tie.After-road-of = search in
-    let after-shared-slice-known2 = after-road-of .before .before .before .before .before .before .before in
-    let start = after-shared-slice-known2 .before .before in
-    omega (
-      arith,
-      after-road-of .road-of .ensures .1,
-      start .pre .5 .few,
-      else1 .if1 .left,
-      after-missing-end .missing-end .ensures .0,
-      else2 .if2 .left,
-      start .pre .4,
-      start .pre .0,
-      start .pre .3,
-      start .pre .2,
-    )
+mul-put c = let there : tie.Else2 = search in omega (arith, given there .pre .0 .2)
 
 slice-aggregate-put : tie.Need-slice-aggregate-put
 slice-aggregate-put c = search needs
 
 put-requires : tie.Need-put-requires
-put-requires c κs =
-    let start : tie.Start = search in
-    omega (arith, start .pre .2)
+put-requires c κs = let there : tie.Else2 = search in omega (arith, given there .pre .0 .3)
 
 add-result : tie.Need-add-result
-add-result c =
-    let else2 : tie.Else2 = search in
-    let after-missing-end : tie.After-missing-end = search in
-    let else1 : tie.Else1 = search in
-    let after-road-of : tie.After-road-of = search in
-    let after-shared-slice-known2 = after-road-of .before .before .before .before .before .before .before in
-    let start = after-shared-slice-known2 .before .before in
-    omega (
-      arith,
-      after-road-of .road-of .ensures .1,
-      start .pre .5 .few,
-      else1 .if1 .left,
-      after-missing-end .missing-end .ensures .0,
-      else2 .if2 .left,
-      start .pre .4,
-      start .pre .0,
-      start .pre .3,
-      start .pre .2,
-    )
+add-result c = let there : tie.Else2 = search in omega (arith, given there .pre .0 .2)
 
 same-length-2 : tie.Need-same-length-2
 same-length-2 c = search needs
 
 same-length-3 : tie.Need-same-length-3
-same-length-3 c =
-    let after-put : tie.After-put = search in
-    after-put .put .kept .0
+same-length-3 c = let put : tie.After-put = search in put .put .kept .0
 
 returns-3 : tie.Need-returns-3
 returns-3 c =
-    let after-put : tie.After-put = search in
-    let else2 : tie.Else2 = search in
-    let after-missing-end : tie.After-missing-end = search in
-    let else1 : tie.Else1 = search in
-    let after-road-of : tie.After-road-of = search in
-    let after-shared-slice-known2 = after-road-of .before .before .before .before .before .before .before in
-    let start = after-shared-slice-known2 .before .before in
-    let w = start .args .w in let text = start .args .text .now in let roads = start .args .roads .now in
-    let junctions = start .args .junctions .now in let connections = start .args .connections .now in
-    let ends = start .args .ends .now in let k = start .args .k in let warn = start .args .warn .now in
-    let z : suc (after-road-of .road-of .result - 1) ≡ after-road-of .road-of .result =
-    omega (arith, else1 .if1 .left) in
-    let w4 : (w + 1) * 4 ≡ w * 4 + 4 = omega arith in (
+    let put : tie.After-put = search in
+    let there : tie.Else2 = search in
+    let asked = asked there in
+    let known = known asked in
+    let pre = given there .pre in (
       omega arith,
       λ ss ps.
-          let h = end-known text roads ss junctions connections ps ends k (start .args .c)
-          (start .pre .5 .once) (after-road-of .road-of .result - 1) (z ∙ after-road-of .road-of .ensures .0)
-          (after-missing-end .missing-end .ensures .1 ss ps)
-          ∙ end-some (after-missing-end .missing-end .result) (else2 .if2 .left) in (
-            linked-roads text roads ss junctions connections ps ends k (start .args .c) (start .pre .5 .once)
-                (after-road-of .road-of .result - 1) (after-missing-end .missing-end .result - 1)
-                (omega (arith, after-missing-end .missing-end .ensures .0, else2 .if2 .left)) (start .pre .4)
-                (omega (arith, after-road-of .road-of .ensures .1, start .pre .5 .few, else1 .if1 .left))
-                (z ∙ after-road-of .road-of .ensures .0) h,
-            put-on _ warn (after-put .put .ensures) (omega (arith, start .pre .2)) w4
-                ∙ ap (λ (l : List ℕ). take (w * 4) warn ++ l)
-                (sym (linked-warned text roads ss junctions connections ps ends k (start .args .c)
-                (start .pre .5 .once) (after-road-of .road-of .result - 1)
-                (after-missing-end .missing-end .result - 1)
-                (omega (arith, after-missing-end .missing-end .ensures .0, else2 .if2 .left)) (start .pre .4)
-                (omega (arith, after-road-of .road-of .ensures .1, start .pre .5 .few, else1 .if1 .left))
-                (z ∙ after-road-of .road-of .ensures .0) h)),
-          ),
+          linked-one (tables (found known) ss ps) _ (pre .1 .1 .once) _ _ (row known) (end there)
+          (end-small there) (pre .1 .0) (row-few known) (row-found known)
+          (shown asked ss ps ∙ end-some _ (there .if2 .left)) _ _ (pre .0 .3) (put .put .ensures),
     )
 
 pub missing-link-spec : {M : Type 1} → statement M
@@ -449,23 +183,21 @@ missing-link-spec =
     add-road-of
     road-of-requires
     returns
-    sub-missing-end
+    sub-r
+    cast-ends
     missing-end-requires
     same-length
     returns-2
+    sub-end
     add-ends
-    cast-ends
-    sub-ends
+    cast-ends-2
     mul-ends
-    sub-ends-2
     add-ends-2
     mul-ends-2
     slice-write-ends
-    cast-t20
-    sub-t15
-    cast-t26
-    sub-t23
+    cast-t22
     cast-t27
+    cast-t28
     mul-put
     slice-aggregate-put
     put-requires

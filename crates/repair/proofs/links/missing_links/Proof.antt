@@ -1,187 +1,118 @@
-use Rattle.repair.proofs.Missing.{links-more, warned-more}
-use Rattle.repair.specs.Now.{roadsNow, connectionAt}
-use Rattle.words.specs.Rows.{tab, nameAt}
-use Rattle.model.specs.Repair.{missingLinks, warnAll}
-use Rattle.model.specs.Calls.{warningRow}
-use Rattle.model.specs.Tables.{mapTables}
-use Rattle.model.specs.Text.{sameIn}
-use Rattle.model.specs.Lists.{gather}
-use lib.ListN.{length, take}
-use mathlib.Core.List.{List, _++_, append-nil}
-use Prim.Native.Nat.{ℕ, _+_, _*_, _-_, _≤_}
+-- `missing_links` goes through one connection a turn.
+use Rattle.repair.proofs.Missing.{linked-more, linked-start}
+use Rattle.repair.specs.Laying.{Linked}
+use Rattle.repair.specs.Now.{rowConnection}
+use Rattle.words.specs.Rows.{tab}
+use Rattle.model.specs.Tables.{Tables, mapTables}
+use lib.ListN.{length}
+use mathlib.Core.List.{List}
+use Prim.Native.Nat.{ℕ, _+_, _-_, _≤_}
 use native.Mathlib.Omega.{arith}
-use mathlib.Core.Path.{_≡_, refl, sym, _∙_, subst}
+use mathlib.Core.Path.{_≡_, _∙_}
 use Rattle.repair.proofs.links.missing_links.Statement.{statement}
 use Rattle.repair.proofs.links.missing_links.Tie as tie
 
+-- before turn i the first i connections are gone through, and there are `at` warnings
+record Held (t : (ss ps : List ℕ) → Tables) (k first m w : ℕ) (ends₀ ends warn₀ warn : List ℕ) (at i : ℕ) : Type 0
+  where
+    turns : i ≤ m
+    warnings : at ≤ w + i
+    ends-long : length ends ≡ 32768
+    warnings-long : length warn ≡ 32768
+    linked : (ss ps : List ℕ)
+        → Linked (t ss ps) k (tab i (λ j. rowConnection (t ss ps) (first + j))) ends₀ ends w at warn₀ warn
+
 abbrev Inv-loop : tie.InvT-loop
 Inv-loop text roads junctions connections heads next ends₀ warn₀ k first m w at₀ i₀ ends warn at i =
-    (i ≤ m)
-    × (at ≤ w + i)
-    × (length ends ≡ 32768)
-    × (length warn ≡ 32768)
-    × ((ss ps : List ℕ)
-    → (roadsNow ss roads junctions ends
-    ≡ missingLinks (sameIn text) (nameAt 5 0 junctions k)
-    (tab i (λ j. connectionAt ps connections (first + j))) (roadsNow ss roads junctions ends₀))
-    × (take (at * 4) warn
-    ≡ take (w * 4) warn₀
-    ++ gather (warningRow (mapTables text roads ss junctions connections ps))
-    (warnAll (sameIn text) k (nameAt 5 0 junctions k) (tab i (λ j. connectionAt ps connections (first + j)))
-    (roadsNow ss roads junctions ends₀))))
+    Held (λ ss ps. mapTables text roads ss junctions connections ps) k first m w ends₀ ends warn₀ warn at i
 
 abbrev μ-loop : tie.MeasureT-loop
 μ-loop text roads junctions connections heads next ends₀ warn₀ k first m w at₀ i₀ ends warn at i = m - i
 
+-- ---- the places
+abbrev Start : Type 0
+Start = tie.Start Inv-loop μ-loop
+
+abbrev Head : Type 0
+Head = tie.At-loop Inv-loop μ-loop
+
+abbrev Turn : Type 0
+Turn = tie.In-loop Inv-loop μ-loop
+
 loop-holds : tie.Need-loop-holds Inv-loop μ-loop
 unfolding tab
 loop-holds c =
-    let start : tie.Start Inv-loop μ-loop = search in
-    (omega arith, omega arith, start .pre .4, start .pre .3, λ ss ps. (refl, sym (append-nil _)))
+    let start : Start = search in
+    record {
+      turns = omega arith;
+      warnings = omega arith;
+      ends-long = start .pre .1 .0 .0;
+      warnings-long = start .pre .1 .0 .1;
+      linked = λ ss ps. linked-start _ _ _ _ _;
+    }
 
 add-missing-link : tie.Need-add-missing-link Inv-loop μ-loop
 add-missing-link c =
-    let in-loop : tie.In-loop Inv-loop μ-loop = search in
-    let at-loop : tie.At-loop Inv-loop μ-loop = search in
-    let start : tie.Start Inv-loop μ-loop = search in
-    omega (
-      arith,
-      in-loop .loop-test .taken,
-      at-loop .loop .inv .0,
-      at-loop .loop .inv .1,
-      start .pre .1,
-      start .pre .2,
-      at-loop .loop .inv .3,
-    )
+    let turn : Turn = search in
+    let start : Start = search in
+    omega (arith, turn .loop-test .taken, start .pre .0 .1)
 
 missing-link-requires : tie.Need-missing-link-requires Inv-loop μ-loop
 missing-link-requires c κs =
-    let in-loop : tie.In-loop Inv-loop μ-loop = search in
-    let at-loop : tie.At-loop Inv-loop μ-loop = search in
-    let start : tie.Start Inv-loop μ-loop = search in (
-      start .pre .0,
-      omega (
-        arith,
-        in-loop .loop-test .taken,
-        at-loop .loop .inv .0,
-        at-loop .loop .inv .1,
-        start .pre .1,
-        start .pre .2,
-        at-loop .loop .inv .3,
-      ),
-      omega (
-        arith,
-        in-loop .loop-test .taken,
-        at-loop .loop .inv .0,
-        at-loop .loop .inv .1,
-        start .pre .1,
-        start .pre .2,
-        at-loop .loop .inv .3,
-      ),
-      omega (
-        arith,
-        in-loop .loop-test .taken,
-        at-loop .loop .inv .0,
-        at-loop .loop .inv .1,
-        start .pre .1,
-        start .pre .2,
-        at-loop .loop .inv .3,
-      ),
-      at-loop .loop .inv .2,
-      start .pre .5,
+    let turn : Turn = search in
+    let head : Head = search in
+    let start : Start = search in
+    let held = head .loop .inv in
+    let pre = start .pre .0 in
+    let row-few : start .args .first + head .loop .i ≤ 8191 = omega (arith, turn .loop-test .taken, pre .1) in
+    let few : head .loop .at ≤ 8191 = omega (arith, held .warnings, pre .2, row-few) in (
+      (pre .0, omega (arith, row-few), omega (arith, few), omega (arith, few, held .warnings-long)),
+      (held .ends-long, start .pre .1 .1),
     )
 
 add-i : tie.Need-add-i Inv-loop μ-loop
 add-i c =
-    let in-loop : tie.In-loop Inv-loop μ-loop = search in
-    let at-loop : tie.At-loop Inv-loop μ-loop = search in
-    let start : tie.Start Inv-loop μ-loop = search in
-    omega (
-      arith,
-      in-loop .loop-test .taken,
-      at-loop .loop .inv .0,
-      at-loop .loop .inv .1,
-      start .pre .1,
-      start .pre .2,
-      at-loop .loop .inv .3,
-    )
+    let turn : Turn = search in
+    let start : Start = search in
+    omega (arith, turn .loop-test .taken, start .pre .0 .1)
 
 loop-less : tie.Need-loop-less Inv-loop μ-loop
-loop-less c =
-    let in-loop : tie.In-loop Inv-loop μ-loop = search in
-    let at-loop : tie.At-loop Inv-loop μ-loop = search in
-    let start : tie.Start Inv-loop μ-loop = search in
-    omega (
-      arith,
-      in-loop .loop-test .taken,
-      at-loop .loop .inv .0,
-      at-loop .loop .inv .1,
-      start .pre .1,
-      start .pre .2,
-      at-loop .loop .inv .3,
-    )
+loop-less c = let turn : Turn = search in omega (arith, turn .loop-test .taken)
 
 loop-again : tie.Need-loop-again Inv-loop μ-loop
 loop-again c =
-    let after-missing-link : tie.After-missing-link Inv-loop μ-loop = search in
-    let in-loop : tie.In-loop Inv-loop μ-loop = search in
-    let at-loop : tie.At-loop Inv-loop μ-loop = search in
-    let start : tie.Start Inv-loop μ-loop = search in
-    let text = start .args .text .now in let junctions = start .args .junctions .now in
-    let k = start .args .k in let connections = start .args .connections .now in
-    let first = start .args .first in let roads = start .args .roads .now in
-    let ends = start .args .ends .now in (
-      omega (arith, in-loop .loop-test .taken),
-      omega (arith, after-missing-link .missing-link .ensures .0, at-loop .loop .inv .1),
-      after-missing-link .missing-link .kept .1 .1 .1 .1 .1 .1 .0 ∙ at-loop .loop .inv .2,
-      after-missing-link .missing-link .kept .1 .1 .1 .1 .1 .1 .1 .0 ∙ at-loop .loop .inv .3,
-      λ ss ps. (
-        links-more (sameIn text) (nameAt 5 0 junctions k) (λ j. connectionAt ps connections (first + j))
-            (at-loop .loop .i) (roadsNow ss roads junctions ends) (at-loop .loop .inv .4 ss ps .0)
-            (after-missing-link .missing-link .ensures .1 ss ps .0),
-        warned-more (sameIn text) (nameAt 5 0 junctions k) (λ j. connectionAt ps connections (first + j))
-            (at-loop .loop .i) (roadsNow ss roads junctions ends) k
-            (warningRow (mapTables text roads ss junctions connections ps))
-            (take (start .args .w * 4) (start .args .warn .now)) (at-loop .loop .inv .4 ss ps .0)
-            (at-loop .loop .inv .4 ss ps .1) (after-missing-link .missing-link .ensures .1 ss ps .1),
-      ),
-    )
+    let linked : tie.After-missing-link Inv-loop μ-loop = search in
+    let turn : Turn = search in
+    let head : Head = search in
+    let held = head .loop .inv in
+    let kept = linked .missing-link .kept .1 .1 .1 .1 .1 .1 in
+    record {
+      turns = omega (arith, turn .loop-test .taken);
+      warnings = omega (arith, linked .missing-link .ensures .0, held .warnings);
+      ends-long = kept .0 ∙ held .ends-long;
+      warnings-long = kept .1 .0 ∙ held .warnings-long;
+      linked = λ ss ps. linked-more _ _ _ _ (held .linked ss ps) (linked .missing-link .ensures .1 ss ps);
+    }
 
 same-length : tie.Need-same-length Inv-loop μ-loop
 same-length c =
-    let at-loop : tie.At-loop Inv-loop μ-loop = search in
-    let start : tie.Start Inv-loop μ-loop = search in
-    omega (arith, at-loop .loop .inv .2, start .pre .4)
+    let head : Head = search in
+    let start : Start = search in
+    omega (arith, head .loop .inv .ends-long, start .pre .1 .0 .0)
 
 same-length-2 : tie.Need-same-length-2 Inv-loop μ-loop
 same-length-2 c =
-    let at-loop : tie.At-loop Inv-loop μ-loop = search in
-    let start : tie.Start Inv-loop μ-loop = search in
-    omega (arith, at-loop .loop .inv .3, start .pre .3)
+    let head : Head = search in
+    let start : Start = search in
+    omega (arith, head .loop .inv .warnings-long, start .pre .1 .0 .1)
 
 returns : tie.Need-returns Inv-loop μ-loop
 returns c =
-    let at-loop : tie.At-loop Inv-loop μ-loop = search in
-    let start : tie.Start Inv-loop μ-loop = search in
-    let roads = start .args .roads .now in let junctions = start .args .junctions .now in
-    let text = start .args .text .now in let k = start .args .k in
-    let connections = start .args .connections .now in let first = start .args .first in
-    let ends = start .args .ends .now in
-    let l = at-loop .loop in
-    let past : l .i ≡ start .args .m = omega (arith, l .inv .0, c .loop-test .left) in (
-      omega (arith, l .inv .1, past),
-      λ ss ps.
-          subst (λ (i : ℕ).
-          (roadsNow ss roads junctions (l .ends)
-          ≡ missingLinks (sameIn text) (nameAt 5 0 junctions k)
-          (tab i (λ j. connectionAt ps connections (first + j))) (roadsNow ss roads junctions ends))
-          × (take (l .at * 4) (l .warn)
-          ≡ take (start .args .w * 4) (start .args .warn .now)
-          ++ gather (warningRow (mapTables text roads ss junctions connections ps))
-          (warnAll (sameIn text) k (nameAt 5 0 junctions k)
-          (tab i (λ j. connectionAt ps connections (first + j))) (roadsNow ss roads junctions ends)))) past
-          (l .inv .4 ss ps),
-    )
+    let head : Head = search in
+    let start : Start = search in
+    let held = head .loop .inv in
+    let past : head .loop .i ≡ start .args .m = omega (arith, held .turns, c .loop-test .left) in
+    (rw past at (held .warnings), λ ss ps. rw past at (held .linked ss ps))
 
 pub missing-links-spec : {M : Type 1} → statement M
 missing-links-spec =

@@ -1,16 +1,65 @@
+-- `back_contact` asks in the model's order: does a connection run the other way already, is the incoming road
+-- known, and at which end does it name the junction?
 use Rattle.repair.proofs.Turns.{runs-is, runs-already, back-unknown, back-known}
 use Rattle.repair.proofs.Missing.{road-is}
-use Rattle.repair.specs.Now.{run, endOpt, roadNow, roadsNow, connectionAt}
-use Rattle.words.specs.Rows.{nameAt}
-use Rattle.model.specs.Repair.{runsBack}
-use Rattle.model.specs.Text.{sameIn}
+use Rattle.repair.proofs.Found.{foundRoad}
+use Rattle.repair.proofs.Ends.{incoming-is}
+use Rattle.repair.specs.Now.{roadWith, roadsWith, rowConnection, run}
 use Rattle.model.specs.Lists.{some?}
-use Prim.Native.Nat.{suc, _-_}
+use Rattle.model.specs.Repair.{roadOf, runsBack}
+use Rattle.model.specs.Rules.{same}
+use Rattle.model.specs.Tables.{Tables, mapTables}
+use mathlib.Core.Bool.{Bool}
+use mathlib.Core.List.{List}
+use Prim.Native.Nat.{ℕ, suc, _-_, _<_}
 use native.Mathlib.Omega.{arith}
-use mathlib.Core.Path.{_≡_, sym, _∙_}
+use mathlib.Core.Path.{_≡_, sym, ap, _∙_}
 use borrow.Author.Needs.{needs}
 use Rattle.repair.proofs.reversed.back_contact.Statement.{statement}
 use Rattle.repair.proofs.reversed.back_contact.Tie as tie
+
+-- ---- the tables, and whether a connection runs the other way
+module _ (ran : tie.After-runs-back) where
+  abbrev start : tie.Start
+  start = search
+
+  abbrev tables : (ss ps : List ℕ) → Tables
+  tables ss ps =
+      let args = start .args in
+      mapTables (args .text .now) (args .roads .now) ss (args .junctions .now) (args .connections .now) ps
+
+  runs : (ss ps : List ℕ)
+      → some? (runsBack (same (tables ss ps)) (rowConnection (tables ss ps) (start .args .c)))
+      (run (rowConnection (tables ss ps)) (start .args .first) (start .args .m)) ≡ ran .runs-back .result
+  runs ss ps =
+      runs-is (start .args .text .now) (start .args .connections .now) ps (start .args .c) _ _ (start .pre .0 .2)
+      ∙ sym (ran .runs-back .ensures)
+
+-- ---- the incoming road, by its name's row plus 1
+module _ (found : tie.After-road-of) where
+  abbrev ran : tie.After-runs-back
+  ran = search
+
+  incoming : (ss ps : List ℕ)
+      → roadOf (same (tables ran ss ps)) (roadsWith (tables ran ss ps) (start ran .args .ends .now))
+      (rowConnection (tables ran ss ps) (start ran .args .c) .incoming)
+      ≡ foundRoad (roadWith (tables ran ss ps) (start ran .args .ends .now)) (found .road-of .result)
+  incoming ss ps =
+      let t = tables ran ss ps in
+      let roads = roadsWith t (start ran .args .ends .now) in
+      ap (roadOf (same t) roads) (incoming-is ps (t .connections) (start ran .args .c))
+      ∙ road-is t _ (start ran .pre .1 .0 .once) _ _ (found .road-of .ensures .0)
+
+-- ---- it is known
+module _ (known : tie.Else2) where
+  abbrev found : tie.After-road-of
+  found = search
+
+  abbrev row : ℕ
+  row = found .road-of .result - 1
+
+  row-few : row < 16384
+  row-few = omega (arith, found .road-of .ensures .1, start (ran found) .pre .1 .0 .few, known .if2 .left)
 
 add-runs-back : tie.Need-add-runs-back
 add-runs-back c = search needs
@@ -20,21 +69,8 @@ runs-back-requires c κs = search needs
 
 returns : tie.Need-returns
 returns c =
-    let after-runs-back : tie.After-runs-back = search in
-    let start : tie.Start = search in
-    let text = start .args .text .now in let junctions = start .args .junctions .now in
-    let connections = start .args .connections .now in let first = start .args .first in
-    let m = start .args .m in (
-      omega arith,
-      λ ss ps.
-          runs-already (sameIn text) (roadsNow ss (start .args .roads .now) junctions (start .args .ends .now))
-          (nameAt 5 0 junctions (start .args .k)) (connectionAt ps connections (start .args .c))
-          (some? (runsBack (sameIn text) (connectionAt ps connections (start .args .c)))
-          (run (connectionAt ps connections) first m))
-          (runs-is text connections ps (start .args .c) first m (start .pre .2)
-          ∙ sym (after-runs-back .runs-back .ensures)
-          ∙ c .if1 .taken),
-    )
+    let ran : tie.After-runs-back = search in
+    (omega arith, λ ss ps. runs-already _ _ _ _ _ (runs ran ss ps ∙ c .if1 .taken))
 
 mul-road-of : tie.Need-mul-road-of
 mul-road-of c = search needs
@@ -47,63 +83,38 @@ road-of-requires c κs = search needs
 
 returns-2 : tie.Need-returns-2
 returns-2 c =
-    let after-road-of : tie.After-road-of = search in
-    let else1 : tie.Else1 = search in
-    let after-runs-back : tie.After-runs-back = search in
-    let after-shared-slice-known3 = after-runs-back .before .before .before .before .before .before .before in
-    let start = after-shared-slice-known3 .before .before .before in
-    let text = start .args .text .now in let roads = start .args .roads .now in
-    let junctions = start .args .junctions .now in let ends = start .args .ends .now in
-    let k = start .args .k in let connections = start .args .connections .now in
-    let first = start .args .first in let m = start .args .m in (
+    let found : tie.After-road-of = search in
+    let past : tie.Else1 = search in
+    let ran = ran found in (
       omega arith,
       λ ss ps.
-          back-unknown (sameIn text) (roadsNow ss roads junctions ends) (nameAt 5 0 junctions k)
-          (connectionAt ps connections (start .args .c))
-          (some? (runsBack (sameIn text) (connectionAt ps connections (start .args .c)))
-          (run (connectionAt ps connections) first m))
-          (runs-is text connections ps (start .args .c) first m (start .pre .2)
-          ∙ sym (after-runs-back .runs-back .ensures)
-          ∙ else1 .if1 .left) (road-is text roads ss junctions connections ps ends k (start .args .c)
-          (start .pre .3 .once) 0 (sym (c .if2 .taken) ∙ after-road-of .road-of .ensures .0)),
+          let road = roadWith (tables ran ss ps) (start ran .args .ends .now) in
+          back-unknown _ _ _ _ _ (runs ran ss ps ∙ past .if1 .left)
+          (incoming found ss ps ∙ ap (foundRoad road) (c .if2 .taken)),
     )
 
-sub-meeting-end : tie.Need-sub-meeting-end
-sub-meeting-end c = search needs
+sub-r : tie.Need-sub-r
+sub-r c = search needs
+
+cast-t20 : tie.Need-cast-t20
+cast-t20 c = let known : tie.Else2 = search in omega (arith, row-few known)
 
 meeting-end-requires : tie.Need-meeting-end-requires
 meeting-end-requires c κs =
-    let after-road-of : tie.After-road-of = search in
-    let start : tie.Start = search in
-    (omega (arith, after-road-of .road-of .ensures .1, start .pre .3 .few, c .if2 .left), start .pre .0)
+    let known : tie.Else2 = search in (row-few known, start (ran (found known)) .pre .0 .0)
 
 returns-3 : tie.Need-returns-3
 returns-3 c =
-    let else2 : tie.Else2 = search in
-    let after-road-of : tie.After-road-of = search in
-    let else1 : tie.Else1 = search in
-    let after-runs-back : tie.After-runs-back = search in
-    let after-shared-slice-known3 = after-runs-back .before .before .before .before .before .before .before in
-    let start = after-shared-slice-known3 .before .before .before in
-    let text = start .args .text .now in let roads = start .args .roads .now in
-    let junctions = start .args .junctions .now in let ends = start .args .ends .now in
-    let k = start .args .k in let connections = start .args .connections .now in
-    let first = start .args .first in let m = start .args .m in
-    let z : suc (after-road-of .road-of .result - 1) ≡ after-road-of .road-of .result =
-    omega (arith, else2 .if2 .left) in (
+    let known : tie.Else2 = search in
+    let past : tie.Else1 = search in
+    let found = found known in
+    let ran = ran found in
+    let row-is : found .road-of .result ≡ suc (row known) = omega (arith, known .if2 .left) in (
       c .meeting-end .ensures .0,
       λ ss ps.
-          back-known (sameIn text) (roadsNow ss roads junctions ends) (nameAt 5 0 junctions k)
-          (connectionAt ps connections (start .args .c))
-          (some? (runsBack (sameIn text) (connectionAt ps connections (start .args .c)))
-          (run (connectionAt ps connections) first m))
-          (roadNow ss roads junctions ends (after-road-of .road-of .result - 1))
-          (endOpt (c .meeting-end .result))
-          (runs-is text connections ps (start .args .c) first m (start .pre .2)
-          ∙ sym (after-runs-back .runs-back .ensures)
-          ∙ else1 .if1 .left) (road-is text roads ss junctions connections ps ends k (start .args .c)
-          (start .pre .3 .once) (suc (after-road-of .road-of .result - 1))
-          (z ∙ after-road-of .road-of .ensures .0)) (c .meeting-end .ensures .1 ss),
+          let road = roadWith (tables ran ss ps) (start ran .args .ends .now) in
+          back-known _ _ _ _ _ _ _ (runs ran ss ps ∙ past .if1 .left)
+          (incoming found ss ps ∙ ap (foundRoad road) row-is) (c .meeting-end .ensures .1 ss),
     )
 
 pub back-contact-spec : {M : Type 1} → statement M
@@ -117,6 +128,7 @@ back-contact-spec =
     add-road-of
     road-of-requires
     returns-2
-    sub-meeting-end
+    sub-r
+    cast-t20
     meeting-end-requires
     returns-3)

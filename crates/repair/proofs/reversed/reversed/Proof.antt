@@ -1,213 +1,183 @@
+-- `reversed` looks at one connection a turn, and lays it the other way where the model does.
 use Rattle.repair.proofs.Turns.{reversed-is}
-use Rattle.repair.proofs.Lays.{laid-none, laid-more, laid-same}
-use Rattle.rules.proofs.Fits.{fit-next}
-use Rattle.repair.specs.Laying.{Laid}
-use Rattle.rules.specs.Parts.{counts}
-use Rattle.repair.specs.Now.{run, roadsNow, connectionAt}
-use Rattle.words.proofs.Laws.{total-le}
-use Rattle.words.specs.Rows.{tab, total, nameAt}
-use Rattle.model.specs.Repair.{runsBack, backOf}
-use Rattle.model.specs.Text.{sameIn}
-use Rattle.model.specs.Lists.{gather, some?}
+use Rattle.repair.proofs.Lays.{laid-none, laid-more, laid-same, pairs-next, room-at}
+use Rattle.repair.specs.Laying.{Laid, Long, RoomFor, backFrom, pairsBefore, pile}
+use Rattle.repair.specs.Now.{rowConnection, run}
+use Rattle.words.specs.Rows.{tab}
+use Rattle.model.specs.Lists.{gather}
+use Rattle.model.specs.Records.{Connection}
+use Rattle.model.specs.Tables.{Tables, mapTables}
 use native.Mathlib.Nat.{add-zero}
-use mathlib.Core.Bool.{not, cond}
 use lib.ListN.{length}
-use mathlib.Core.List.{List, []}
+use mathlib.Core.List.{List}
 use Prim.Native.Nat.{ℕ, _+_, _-_, _≤_}
 use native.Mathlib.Omega.{arith}
 use mathlib.Core.Path.{_≡_, sym, ap, _∙_}
 use Rattle.repair.proofs.reversed.reversed.Statement.{statement}
 use Rattle.repair.proofs.reversed.reversed.Tie as tie
 
+-- before turn i there is laid what the first i connections give: x connections, y pairs
+record Held (connections : List ℕ) (given : (ss : List ℕ) → List Connection) (first m n p : ℕ)
+    (cs₀ ps₀ cs ps : List ℕ) (x y i : ℕ) : Type 0 where
+  turns : i ≤ m
+  rows : x ≤ n + i
+  pair-rows : y + pairsBefore connections first ≤ p + pairsBefore connections (first + i)
+  long : Long cs ps
+  laid : (ss : List ℕ) → Laid (given ss) (pile n p cs₀ ps₀) (pile x y cs ps)
+
 abbrev Inv-loop : tie.InvT-loop
 Inv-loop text roads junctions connections pairs heads next cheads cnext ends k first m n p cs₀ ps₀ x₀ y₀ i₀
     cs ps x y i =
-    (i ≤ m)
-    × (x ≤ n + i)
-    × (y + total first (counts 7 6 connections) ≤ p + total (first + i) (counts 7 6 connections))
-    × (length cs ≡ 114688)
-    × (length ps ≡ 32768)
-    × ((ss : List ℕ)
-    → Laid (gather (λ z.
-    cond (not (some? (runsBack (sameIn text) z) (run (connectionAt pairs connections) first m)))
-    (backOf (sameIn text) (roadsNow ss roads junctions ends) (nameAt 5 0 junctions k) z) [])
-    (tab i (λ j. connectionAt pairs connections (first + j)))) n p x y cs₀ ps₀ cs ps)
+    Held connections
+    (λ ss.
+    let t = mapTables text roads ss junctions connections pairs in
+    gather (backFrom t ends k first m) (tab i (λ j. rowConnection t (first + j))))
+    first m n p cs₀ ps₀ cs ps x y i
 
 abbrev μ-loop : tie.MeasureT-loop
 μ-loop text roads junctions connections pairs heads next cheads cnext ends k first m n p cs₀ ps₀ x₀ y₀ i₀ cs
     ps x y i =
     m - i
 
+-- ---- the places
+abbrev Start : Type 0
+Start = tie.Start Inv-loop μ-loop
+
+abbrev Head : Type 0
+Head = tie.At-loop Inv-loop μ-loop
+
+abbrev Turn : Type 0
+Turn = tie.In-loop Inv-loop μ-loop
+
+module _ (head : Head) where
+  abbrev start : Start
+  start = search
+
+  abbrev tables : (ss : List ℕ) → Tables
+  tables ss =
+      let args = start .args in
+      mapTables (args .text .now) (args .roads .now) ss (args .junctions .now) (args .connections .now)
+      (args .pairs .now)
+
+  abbrev gives : (ss : List ℕ) → Connection → List Connection
+  gives ss =
+      backFrom (tables ss) (start .args .ends .now) (start .args .k) (start .args .first) (start .args .m)
+
+-- ---- a turn's connection has room, whatever its contact
+module _ (turn : Turn) where
+  abbrev head : Head
+  head = search
+
+  room : (b : ℕ) → b ≤ 2
+      → RoomFor (start head .args .connections .now) (start head .args .first + head .loop .i) b (head .loop .x)
+      (head .loop .y)
+  room b contact =
+      let held = head .loop .inv in
+      room-at (start head .pre .1 .0 .0) _ _ _ b (turn .loop-test .taken) (held .rows) (held .pair-rows) contact
+
 loop-holds : tie.Need-loop-holds Inv-loop μ-loop
 unfolding tab
 loop-holds c =
-    let start : tie.Start Inv-loop μ-loop = search in
-    let z = ap (λ (k : ℕ). total k (counts 7 6 (start .args .connections .now)))
-    (sym (add-zero (start .args .first))) in (
-      omega arith,
-      omega arith,
-      omega (arith, z),
-      start .pre .5,
-      start .pre .6,
-      λ ss. laid-none (start .args .n) (start .args .p) (start .args .cs .now) (start .args .ps .now),
-    )
+    let start : Start = search in
+    let at-first = ap (pairsBefore (start .args .connections .now)) (add-zero (start .args .first)) in
+    record {
+      turns = omega arith;
+      rows = omega arith;
+      pair-rows = omega (arith, at-first);
+      long = start .pre .1 .0 .1;
+      laid = λ ss. laid-none _;
+    }
 
 add-back-contact : tie.Need-add-back-contact Inv-loop μ-loop
 add-back-contact c =
-    let at-loop : tie.At-loop Inv-loop μ-loop = search in
-    let start : tie.Start Inv-loop μ-loop = search in
-    omega (
-      arith,
-      c .loop-test .taken,
-      at-loop .loop .inv .0,
-      at-loop .loop .inv .1,
-      start .pre .0 .few,
-      start .pre .2,
-      start .pre .3,
-    )
+    let turn : Turn = search in
+    let start : Start = search in
+    omega (arith, room turn 0 (omega arith) .inside, start .pre .0 .1 .few)
 
 back-contact-requires : tie.Need-back-contact-requires Inv-loop μ-loop
 back-contact-requires c κs =
-    let start : tie.Start Inv-loop μ-loop = search in (
-      start .pre .1,
-      omega (arith, c .loop-test .taken, start .pre .2, start .pre .0 .few),
-      start .pre .2,
-      start .pre .7,
-      start .pre .8,
+    let turn : Turn = search in
+    let start : Start = search in (
+      (
+        start .pre .0 .0,
+        omega (arith, room turn 0 (omega arith) .inside, start .pre .0 .1 .few),
+        start .pre .1 .0 .0 .inside,
+      ),
+      start .pre .1 .1,
     )
 
 add-put-back : tie.Need-add-put-back Inv-loop μ-loop
 add-put-back c =
-    let in-loop : tie.In-loop Inv-loop μ-loop = search in
-    let at-loop : tie.At-loop Inv-loop μ-loop = search in
-    let start : tie.Start Inv-loop μ-loop = search in
-    omega (
-      arith,
-      in-loop .loop-test .taken,
-      at-loop .loop .inv .0,
-      at-loop .loop .inv .1,
-      start .pre .0 .few,
-      start .pre .2,
-      start .pre .3,
-    )
+    let turn : Turn = search in
+    let head : Head = search in
+    omega (arith, room turn 0 (omega arith) .inside, start head .pre .0 .1 .few)
 
 put-back-requires : tie.Need-put-back-requires Inv-loop μ-loop
 put-back-requires c κs =
-    let after-back-contact : tie.After-back-contact Inv-loop μ-loop = search in
-    let in-loop : tie.In-loop Inv-loop μ-loop = search in
-    let at-loop : tie.At-loop Inv-loop μ-loop = search in
-    let after-shared-slice-known6 = at-loop .before .before .before .before .before .before .before in
-    let start = after-shared-slice-known6 .before .before .before .before .before .before in
-    let connections = start .args .connections .now in let first = start .args .first in
-    let t1 = fit-next 7 6 connections (first + at-loop .loop .i) in
-    let t2 = total-le (first + at-loop .loop .i + 1) (first + start .args .m) (counts 7 6 connections)
-    (omega (arith, in-loop .loop-test .taken)) in (
-      start .pre .0,
-      omega (arith, in-loop .loop-test .taken, start .pre .2),
-      after-back-contact .back-contact .ensures .0,
-      omega (arith, in-loop .loop-test .taken, at-loop .loop .inv .1, start .pre .3),
-      omega (arith, t1, t2, at-loop .loop .inv .2, start .pre .4),
-      at-loop .loop .inv .3,
-      at-loop .loop .inv .4,
-    )
+    let met : tie.After-back-contact Inv-loop μ-loop = search in
+    let turn : Turn = search in
+    let head : Head = search in
+    (start head .pre .0 .1, room turn _ (met .back-contact .ensures .0), head .loop .inv .long)
 
 add-i : tie.Need-add-i Inv-loop μ-loop
 add-i c =
-    let in-loop : tie.In-loop Inv-loop μ-loop = search in
-    let at-loop : tie.At-loop Inv-loop μ-loop = search in
-    let start : tie.Start Inv-loop μ-loop = search in
-    omega (
-      arith,
-      in-loop .loop-test .taken,
-      at-loop .loop .inv .0,
-      at-loop .loop .inv .1,
-      start .pre .0 .few,
-      start .pre .2,
-      start .pre .3,
-    )
+    let turn : Turn = search in
+    let head : Head = search in
+    omega (arith, turn .loop-test .taken, start head .pre .1 .0 .0 .rows)
 
 loop-less : tie.Need-loop-less Inv-loop μ-loop
-loop-less c =
-    let in-loop : tie.In-loop Inv-loop μ-loop = search in
-    let at-loop : tie.At-loop Inv-loop μ-loop = search in
-    let start : tie.Start Inv-loop μ-loop = search in
-    omega (
-      arith,
-      in-loop .loop-test .taken,
-      at-loop .loop .inv .0,
-      at-loop .loop .inv .1,
-      start .pre .0 .few,
-      start .pre .2,
-      start .pre .3,
-    )
+loop-less c = let turn : Turn = search in omega (arith, turn .loop-test .taken)
 
 loop-again : tie.Need-loop-again Inv-loop μ-loop
 loop-again c =
-    let after-put-back : tie.After-put-back Inv-loop μ-loop = search in
-    let after-back-contact : tie.After-back-contact Inv-loop μ-loop = search in
-    let in-loop : tie.In-loop Inv-loop μ-loop = search in
-    let at-loop : tie.At-loop Inv-loop μ-loop = search in
-    let after-shared-slice-known6 = at-loop .before .before .before .before .before .before .before in
-    let start = after-shared-slice-known6 .before .before .before .before .before .before in
-    let connections = start .args .connections .now in let first = start .args .first in
-    let m = start .args .m in let text = start .args .text .now in let pairs = start .args .pairs .now in
-    let junctions = start .args .junctions .now in
-    let l = at-loop .loop in
-    let t1 = fit-next 7 6 connections (first + at-loop .loop .i) in
-    let t2 = total-le (first + at-loop .loop .i + 1) (first + m) (counts 7 6 connections)
-    (omega (arith, in-loop .loop-test .taken)) in
-    let z : first + l .i + 1 ≡ first + (l .i + 1) = omega arith in
-    let y = ap (λ (k : ℕ). total k (counts 7 6 connections)) z in (
-      omega (arith, in-loop .loop-test .taken),
-      omega (arith, after-put-back .put-back .ensures .0, l .inv .1),
-      omega (arith, after-put-back .put-back .ensures .1, l .inv .2, t1, y),
-      after-put-back .put-back .kept .1 .1 .1 .1 .1 .1 .0 ∙ l .inv .3,
-      after-put-back .put-back .kept .1 .1 .1 .1 .1 .1 .1 .0 ∙ l .inv .4,
-      λ ss.
-          laid-more (λ z.
-          cond (not (some? (runsBack (sameIn text) z) (run (connectionAt pairs connections) first m)))
-          (backOf (sameIn text) (roadsNow ss (start .args .roads .now) junctions (start .args .ends .now))
-          (nameAt 5 0 junctions (start .args .k)) z) []) (λ j. connectionAt pairs connections (first + j))
-          (l .i) (start .args .n) (start .args .p) (l .x) (l .y) _ _ (start .args .cs .now)
-          (start .args .ps .now) (l .cs) (l .ps) _ _ (l .inv .5 ss) (after-put-back .put-back .ensures .2)
-          (after-back-contact .back-contact .ensures .1 ss pairs),
-    )
+    let laid : tie.After-put-back Inv-loop μ-loop = search in
+    let met : tie.After-back-contact Inv-loop μ-loop = search in
+    let turn : Turn = search in
+    let head : Head = search in
+    let args = start head .args in
+    let held = head .loop .inv in
+    let i = head .loop .i in
+    let kept = laid .put-back .kept .1 .1 .1 .1 .1 .1 in
+    let next = pairs-next (args .connections .now) (args .first) i in
+    record {
+      turns = omega (arith, turn .loop-test .taken);
+      rows = omega (arith, laid .put-back .ensures .0 .0, held .rows);
+      pair-rows = omega (arith, laid .put-back .ensures .0 .1, held .pair-rows, next);
+      long = record {
+        connections-long = kept .0 ∙ held .long .connections-long;
+        pairs-long = kept .1 .0 ∙ held .long .pairs-long;
+      };
+      laid = λ ss.
+          laid-more (gives head ss) (λ j. rowConnection (tables head ss) (args .first + j)) i (held .laid ss)
+          (laid .put-back .ensures .1) (met .back-contact .ensures .1 ss (args .pairs .now));
+    }
 
 same-length : tie.Need-same-length Inv-loop μ-loop
 same-length c =
-    let at-loop : tie.At-loop Inv-loop μ-loop = search in
-    let start : tie.Start Inv-loop μ-loop = search in
-    omega (arith, at-loop .loop .inv .3, start .pre .5)
+    let head : Head = search in
+    omega (arith, head .loop .inv .long .connections-long, start head .pre .1 .0 .1 .connections-long)
 
 same-length-2 : tie.Need-same-length-2 Inv-loop μ-loop
 same-length-2 c =
-    let at-loop : tie.At-loop Inv-loop μ-loop = search in
-    let start : tie.Start Inv-loop μ-loop = search in
-    omega (arith, at-loop .loop .inv .4, start .pre .6)
+    let head : Head = search in
+    omega (arith, head .loop .inv .long .pairs-long, start head .pre .1 .0 .1 .pairs-long)
 
 returns : tie.Need-returns Inv-loop μ-loop
 returns c =
-    let at-loop : tie.At-loop Inv-loop μ-loop = search in
-    let start : tie.Start Inv-loop μ-loop = search in
-    let m = start .args .m in let first = start .args .first in
-    let connections = start .args .connections .now in let text = start .args .text .now in
-    let pairs = start .args .pairs .now in let roads = start .args .roads .now in
-    let junctions = start .args .junctions .now in let ends = start .args .ends .now in
-    let l = at-loop .loop in
-    let past : l .i ≡ m = omega (arith, l .inv .0, c .loop-test .left) in
-    let y = ap (λ (k : ℕ). total (first + k) (counts 7 6 connections)) past in (
-      omega (arith, l .inv .1, past),
-      omega (arith, l .inv .2, y),
-      λ ss.
-          laid-same (start .args .n) (start .args .p) (l .x) (l .y) (start .args .cs .now)
-          (start .args .ps .now) (l .cs) (l .ps)
-          (ap (λ (i : ℕ).
-          gather (λ z.
-          cond (not (some? (runsBack (sameIn text) z) (run (connectionAt pairs connections) first m)))
-          (backOf (sameIn text) (roadsNow ss roads junctions ends) (nameAt 5 0 junctions (start .args .k)) z)
-          []) (tab i (λ j. connectionAt pairs connections (first + j)))) past
-          ∙ reversed-is (sameIn text) (roadsNow ss roads junctions ends)
-          (nameAt 5 0 junctions (start .args .k)) (run (connectionAt pairs connections) first m)) (l .inv .5 ss),
+    let head : Head = search in
+    let args = start head .args in
+    let held = head .loop .inv in
+    let past : head .loop .i ≡ args .m = omega (arith, held .turns, c .loop-test .left) in
+    let all : (ss : List ℕ)
+    → gather (gives head ss) (tab (head .loop .i) (λ j. rowConnection (tables head ss) (args .first + j)))
+    ≡ gather (gives head ss) (run (rowConnection (tables head ss)) (args .first) (args .m)) =
+    λ ss.
+    ap (λ (i : ℕ). gather (gives head ss) (tab i (λ j. rowConnection (tables head ss) (args .first + j)))) past in (
+      omega (arith, held .rows, past),
+      (
+        rw past at (held .pair-rows),
+        λ ss. laid-same (all ss ∙ reversed-is _ _ _ _) (held .laid ss),
+      ),
     )
 
 pub reversed-spec : {M : Type 1} → statement M

@@ -1,10 +1,6 @@
-use Rattle.repair.proofs.RoadWords.{seven}
-use Rattle.repair.specs.Along.{roadNowWords}
-use Rattle.repair.specs.Now.{nowWords}
-use lib.ListN.{getD}
-use mathlib.Core.List.{List, [], _∷_, _++_}
-use Prim.Native.Nat.{ℕ, _+_, _*_, _-_}
-use mathlib.Core.Path.{ap, _∙_}
+-- `road_row` reads the row's words, and its two targets as they are now.
+use Rattle.repair.proofs.RoadWords.{row-words}
+use Prim.Native.Nat.{_-_}
 use borrow.Author.Needs.{needs}
 use Rattle.repair.proofs.roads.road_row.Statement.{statement}
 use Rattle.repair.proofs.roads.road_row.Tie as tie
@@ -14,6 +10,9 @@ target-requires c κs = search needs
 
 target-requires-2 : tie.Need-target-requires-2
 target-requires-2 c κs = search needs
+
+cast-r : tie.Need-cast-r
+cast-r c = search needs
 
 mul-at : tie.Need-mul-at
 mul-at c = search needs
@@ -66,9 +65,6 @@ add-at-5 c = search needs
 at-requires-6 : tie.Need-at-requires-6
 at-requires-6 c κs = search needs
 
-array-read-t18 : tie.Need-array-read-t18
-array-read-t18 c = search needs
-
 array-read-t21 : tie.Need-array-read-t21
 array-read-t21 c = search needs
 
@@ -108,42 +104,23 @@ array-read-t54 c = search needs
 array-read-t57 : tie.Need-array-read-t57
 array-read-t57 c = search needs
 
+array-read-t60 : tie.Need-array-read-t60
+array-read-t60 c = search needs
+
 returns : tie.Need-returns
-unfolding roadNowWords
 returns c =
-    let after-at5 : tie.After-at5 = search in
-    let after-at4 : tie.After-at4 = search in
-    let after-at3 : tie.After-at3 = search in
-    let after-at2 : tie.After-at2 = search in
-    let after-at : tie.After-at = search in
-    let after-target2 : tie.After-target2 = search in
-    let after-target : tie.After-target = search in
+    let w18 : tie.After-at5 = search in
+    let w3 : tie.After-at4 = search in
+    let w2 : tie.After-at3 = search in
+    let w1 : tie.After-at2 = search in
+    let w0 : tie.After-at = search in
+    let successor : tie.After-target2 = search in
+    let predecessor : tie.After-target = search in
     let start : tie.Start = search in
-    let r = start .args .r in let ends = start .args .ends .now in let roads = start .args .roads .now in
-    let junctions = start .args .junctions .now in
-    let k = r in
-    let rest = after-at5 .at5 .result ∷ c .at6 .result ∷ [] in
-    let b = seven (getD ends (r * 2 + 1) 0) roads junctions (r * 20 + 4 + 1 * 7) 1
-    (after-target2 .target2 .result) (after-at5 .at5 .result ∷ c .at6 .result ∷ [])
-    (after-target2 .target2 .ensures .0) in
-    let a = seven (getD ends (r * 2 + 0) 0) roads junctions (r * 20 + 4 + 0 * 7) 0
-    (after-target .target .result)
-    (nowWords (getD ends (r * 2 + 1) 0) roads junctions (r * 20 + 4 + 1 * 7) 1
-    ++ (after-at5 .at5 .result ∷ c .at6 .result ∷ [])) (after-target .target .ensures .0) in
-    ap (λ (l : List ℕ).
-    after-at .at .result ∷ after-at2 .at2 .result ∷ after-at3 .at3 .result ∷ after-at4 .at4 .result
-    ∷ getD (after-target .target .result) 0 0 ∷ getD (after-target .target .result) 1 0
-    ∷ getD (after-target .target .result) 2 0 ∷ getD (after-target .target .result) 3 0
-    ∷ getD (after-target .target .result) 4 0 ∷ getD (after-target .target .result) 5 0
-    ∷ getD (after-target .target .result) 6 0 ∷ l) b
-    ∙ ap (λ (l : List ℕ).
-    after-at .at .result ∷ after-at2 .at2 .result ∷ after-at3 .at3 .result ∷ after-at4 .at4 .result ∷ l) a
-    ∙ (λ i.
-    (after-at .at .ensures i) ∷ (after-at2 .at2 .ensures i) ∷ (after-at3 .at3 .ensures i)
-    ∷ (after-at4 .at4 .ensures i)
-    ∷ (nowWords (getD ends (r * 2 + 0) 0) roads junctions (r * 20 + 4 + 0 * 7) 0
-    ++ (nowWords (getD ends (r * 2 + 1) 0) roads junctions (r * 20 + 4 + 1 * 7) 1
-    ++ ((after-at5 .at5 .ensures i) ∷ (c .at6 .ensures i) ∷ []))))
+    let args = start .args in
+    row-words (args .roads .now) (args .junctions .now) (args .ends .now) (args .road .0) _ _ (w0 .at .ensures)
+    (w1 .at2 .ensures) (w2 .at3 .ensures) (w3 .at4 .ensures) (predecessor .target .ensures .0)
+    (successor .target2 .ensures .0) (w18 .at5 .ensures) (c .at6 .ensures)
 
 pub road-row-spec : {M : Type 1} → statement M
 road-row-spec =
@@ -151,6 +128,7 @@ road-row-spec =
     (tie.spec
     target-requires
     target-requires-2
+    cast-r
     mul-at
     at-requires
     mul-at-2
@@ -168,7 +146,6 @@ road-row-spec =
     mul-at-6
     add-at-5
     at-requires-6
-    array-read-t18
     array-read-t21
     array-read-t24
     array-read-t27
@@ -182,4 +159,5 @@ road-row-spec =
     array-read-t51
     array-read-t54
     array-read-t57
+    array-read-t60
     returns)

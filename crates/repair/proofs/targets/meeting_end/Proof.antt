@@ -1,16 +1,60 @@
+-- `meeting_end` tests the successor end, and then the predecessor end.
 use Rattle.repair.proofs.Ends.{meeting-is}
-use Rattle.repair.specs.Now.{targetNow}
+use Rattle.repair.specs.Now.{roadNow, targetNow}
 use Rattle.words.specs.Rows.{nameAt}
-use Rattle.model.specs.Repair.{namesJunction}
+use Rattle.model.specs.Repair.{meetingEnd, namesJunction}
 use Rattle.model.specs.Text.{sameIn}
+use mathlib.Core.List.{List}
 use mathlib.Core.Option.{none, some}
-use mathlib.Core.Bool.{true, false, cond}
-use Prim.Native.Nat.{_-_}
+use mathlib.Core.Bool.{Bool, true, false, cond}
+use Prim.Native.Nat.{ℕ, _-_}
 use native.Mathlib.Omega.{arith}
-use mathlib.Core.Path.{sym, ap, ap₂, _∙_}
+use mathlib.Core.Path.{_≡_, refl, sym, ap, ap₂, _∙_}
 use borrow.Author.Needs.{needs}
 use Rattle.repair.proofs.targets.meeting_end.Statement.{statement}
 use Rattle.repair.proofs.targets.meeting_end.Tie as tie
+
+-- ---- whether the road names the junction at an end
+module _ (tested : tie.After-names-junction) where
+  abbrev start : tie.Start
+  start = search
+
+  abbrev names : Bool → Bool
+  names e =
+      let args = start .args in
+      namesJunction (sameIn (args .text .now)) (nameAt 5 0 (args .junctions .now) (args .k))
+      (targetNow (args .roads .now) (args .junctions .now) (args .ends .now) (args .road .0) e)
+
+  at-successor : tested .names-junction .result ≡ names true
+  at-successor =
+      let args = start .args in
+      let read : tie.After-target = search in
+      tested .names-junction .ensures
+      ∙ ap (namesJunction (sameIn (args .text .now)) (nameAt 5 0 (args .junctions .now) (args .k)))
+      (read .target .ensures .1)
+
+  -- so by the two answers
+  meeting : (ss : List ℕ) {a b : Bool} → names true ≡ a → names false ≡ b
+      → cond a (some true) (cond b (some false) none)
+      ≡ meetingEnd (sameIn (start .args .text .now)) (nameAt 5 0 (start .args .junctions .now) (start .args .k))
+      (roadNow ss (start .args .roads .now) (start .args .junctions .now) (start .args .ends .now)
+      (start .args .road .0))
+  meeting ss successor predecessor =
+      let args = start .args in
+      sym (meeting-is ss (args .roads .now) (args .junctions .now) (args .ends .now) (args .road .0) _ _
+      ∙ ap₂ (λ a b. cond a (some true) (cond b (some false) none)) successor predecessor)
+
+module _ (tested : tie.After-names-junction2) where
+  abbrev before : tie.After-names-junction
+  before = search
+
+  at-predecessor : tested .names-junction2 .result ≡ names before false
+  at-predecessor =
+      let args = start before .args in
+      let read : tie.After-target2 = search in
+      tested .names-junction2 .ensures
+      ∙ ap (namesJunction (sameIn (args .text .now)) (nameAt 5 0 (args .junctions .now) (args .k)))
+      (read .target2 .ensures .1)
 
 target-requires : tie.Need-target-requires
 target-requires c κs = search needs
@@ -20,23 +64,8 @@ names-junction-requires c κs = search needs
 
 returns : tie.Need-returns
 returns c =
-    let after-names-junction : tie.After-names-junction = search in
-    let after-target : tie.After-target = search in
-    let start : tie.Start = search in
-    let roads = start .args .roads .now in let junctions = start .args .junctions .now in
-    let ends = start .args .ends .now in let r = start .args .r in let text = start .args .text .now in
-    let k = start .args .k in (
-      omega arith,
-      λ ss.
-          sym (meeting-is ss roads junctions ends r (sameIn text) (nameAt 5 0 junctions k)
-          ∙ ap (λ b.
-          cond b (some true) (cond
-          (namesJunction (sameIn text) (nameAt 5 0 junctions k) (targetNow roads junctions ends r false))
-          (some false) none)) (sym
-          (ap (namesJunction (sameIn text) (nameAt 5 0 junctions k)) (after-target .target .ensures .1))
-          ∙ sym (after-names-junction .names-junction .ensures)
-          ∙ c .if1 .taken)),
-    )
+    let tested : tie.After-names-junction = search in
+    (omega arith, λ ss. meeting tested ss {b = names tested false} (sym (at-successor tested) ∙ c .if1 .taken) refl)
 
 target-requires-2 : tie.Need-target-requires-2
 target-requires-2 c κs = search needs
@@ -46,48 +75,24 @@ names-junction-requires-2 c κs = search needs
 
 returns-2 : tie.Need-returns-2
 returns-2 c =
-    let after-names-junction2 : tie.After-names-junction2 = search in
-    let after-target2 : tie.After-target2 = search in
-    let else1 : tie.Else1 = search in
-    let after-names-junction : tie.After-names-junction = search in
-    let after-target : tie.After-target = search in
-    let start : tie.Start = search in
-    let junctions = start .args .junctions .now in let text = start .args .text .now in
-    let k = start .args .k in (
+    let tested : tie.After-names-junction2 = search in
+    let past : tie.Else1 = search in
+    let first = before tested in (
       omega arith,
       λ ss.
-          sym (meeting-is ss (start .args .roads .now) junctions (start .args .ends .now) (start .args .r)
-          (sameIn text) (nameAt 5 0 junctions k)
-          ∙ ap₂ (λ a b. cond a (some true) (cond b (some false) none))
-          (sym (ap (namesJunction (sameIn text) (nameAt 5 0 junctions k)) (after-target .target .ensures .1))
-          ∙ sym (after-names-junction .names-junction .ensures)
-          ∙ else1 .if1 .left) (sym
-          (ap (namesJunction (sameIn text) (nameAt 5 0 junctions k)) (after-target2 .target2 .ensures .1))
-          ∙ sym (after-names-junction2 .names-junction2 .ensures)
-          ∙ c .if2 .taken)),
+          meeting first ss (sym (at-successor first) ∙ past .if1 .left)
+          (sym (at-predecessor tested) ∙ c .if2 .taken),
     )
 
 returns-3 : tie.Need-returns-3
 returns-3 c =
-    let after-names-junction2 : tie.After-names-junction2 = search in
-    let after-target2 : tie.After-target2 = search in
-    let else1 : tie.Else1 = search in
-    let after-names-junction : tie.After-names-junction = search in
-    let after-target : tie.After-target = search in
-    let start : tie.Start = search in
-    let junctions = start .args .junctions .now in let text = start .args .text .now in
-    let k = start .args .k in (
+    let tested : tie.After-names-junction2 = search in
+    let past : tie.Else1 = search in
+    let first = before tested in (
       omega arith,
       λ ss.
-          sym (meeting-is ss (start .args .roads .now) junctions (start .args .ends .now) (start .args .r)
-          (sameIn text) (nameAt 5 0 junctions k)
-          ∙ ap₂ (λ a b. cond a (some true) (cond b (some false) none))
-          (sym (ap (namesJunction (sameIn text) (nameAt 5 0 junctions k)) (after-target .target .ensures .1))
-          ∙ sym (after-names-junction .names-junction .ensures)
-          ∙ else1 .if1 .left) (sym
-          (ap (namesJunction (sameIn text) (nameAt 5 0 junctions k)) (after-target2 .target2 .ensures .1))
-          ∙ sym (after-names-junction2 .names-junction2 .ensures)
-          ∙ c .if2 .left)),
+          meeting first ss (sym (at-successor first) ∙ past .if1 .left)
+          (sym (at-predecessor tested) ∙ c .if2 .left),
     )
 
 pub meeting-end-spec : {M : Type 1} → statement M

@@ -1,3 +1,4 @@
+-- `meets` tests both ends of the road.
 use Rattle.repair.proofs.Ends.{meets-is}
 use Rattle.words.specs.Rows.{nameAt}
 use Rattle.model.specs.Repair.{namesJunction}
@@ -26,21 +27,19 @@ either-requires c κs = search needs
 
 returns : tie.Need-returns
 returns c =
-    let after-names-junction2 : tie.After-names-junction2 = search in
-    let after-names-junction : tie.After-names-junction = search in
-    let after-target2 : tie.After-target2 = search in
-    let after-target : tie.After-target = search in
+    let tested-end : tie.After-names-junction2 = search in
+    let tested-start : tie.After-names-junction = search in
+    let at-end : tie.After-target2 = search in
+    let at-start : tie.After-target = search in
     let start : tie.Start = search in
-    let text = start .args .text .now in let junctions = start .args .junctions .now in
-    let k = start .args .k in
+    let args = start .args in
+    let names = namesJunction (sameIn (args .text .now)) (nameAt 5 0 (args .junctions .now) (args .k)) in
+    let predecessor = tested-start .names-junction .ensures ∙ ap names (at-start .target .ensures .1) in
+    let successor = tested-end .names-junction2 .ensures ∙ ap names (at-end .target2 .ensures .1) in
     λ ss.
     c .either .ensures
-    ∙ ap₂ (λ a b. a || b) (after-names-junction .names-junction .ensures
-    ∙ ap (namesJunction (sameIn text) (nameAt 5 0 junctions k)) (after-target .target .ensures .1))
-    (after-names-junction2 .names-junction2 .ensures
-    ∙ ap (namesJunction (sameIn text) (nameAt 5 0 junctions k)) (after-target2 .target2 .ensures .1))
-    ∙ sym (meets-is ss (start .args .roads .now) junctions (start .args .ends .now) (start .args .r)
-    (sameIn text) (nameAt 5 0 junctions k))
+    ∙ ap₂ (λ a b. a || b) predecessor successor
+    ∙ sym (meets-is ss (args .roads .now) (args .junctions .now) (args .ends .now) (args .road .0) _ _)
 
 pub meets-spec : {M : Type 1} → statement M
 meets-spec =

@@ -1,4 +1,4 @@
-use Rattle.repair.proofs.Ends.{names-is}
+use Rattle.repair.proofs.Ends.{names-of}
 use Rattle.rules.proofs.Leaves.{both-is}
 use Rattle.words.specs.Rows.{nameAt, span}
 use Rattle.model.specs.Text.{sameIn}
@@ -59,21 +59,22 @@ both-requires-2 c κs = search needs
 
 returns : tie.Need-returns
 returns c =
-    let after-alike : tie.After-alike = search in
-    let after-both : tie.After-both = search in
-    let after-is2 : tie.After-is2 = search in
-    let after-is : tie.After-is = search in
-    let after-at2 : tie.After-at2 = search in
-    let after-at : tie.After-at = search in
+    let compared : tie.After-alike = search in
+    let link : tie.After-both = search in
+    let to-junction : tie.After-is2 = search in
+    let present : tie.After-is = search in
+    let size : tie.After-at2 = search in
+    let first : tie.After-at = search in
     let start : tie.Start = search in
-    let text = start .args .text .now in let t2 = start .args .t2 in
+    let text = start .args .text .now in
+    let words = start .args .t2 in
+    let name-is =
+    compared .alike .ensures
+    ∙ ap₂ (λ (a b : ℕ). sameIn text (span (getD words 2 0) (getD words 3 0)) (span a b)) (first .at .ensures)
+    (size .at2 .ensures) in
     both-is (c .both2 .ensures)
-    (both-is (after-both .both .ensures) (after-is .is .ensures) (after-is2 .is2 .ensures))
-    (after-alike .alike .ensures
-    ∙ ap₂ (λ (a b : ℕ). sameIn text (span (getD t2 2 0) (getD t2 3 0)) (span a b)) (after-at .at .ensures)
-    (after-at2 .at2 .ensures))
-    ∙ names-is (sameIn text) (nameAt 5 0 (start .args .junctions .now) (start .args .k)) (getD t2 0 0)
-    (getD t2 1 0) (getD t2 2 0) (getD t2 3 0) (getD t2 4 0) (getD t2 5 0) (getD t2 6 0)
+    (both-is (link .both .ensures) (present .is .ensures) (to-junction .is2 .ensures)) name-is
+    ∙ names-of (sameIn text) (nameAt 5 0 (start .args .junctions .now) (start .args .k)) words
 
 pub names-junction-spec : {M : Type 1} → statement M
 names-junction-spec =

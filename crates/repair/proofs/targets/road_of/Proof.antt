@@ -1,7 +1,8 @@
 use Rattle.words.proofs.KeyLaws.{rows-in}
 use Rattle.words.proofs.Chains.{last-le}
 use Rattle.words.specs.Keys.{bears}
-use Rattle.words.specs.Rows.{lastOf, nameFrom, span}
+use Rattle.words.specs.Rows.{nameFrom, span}
+use Rattle.rules.specs.ByRow.{roadRowOf}
 use lib.ListN.{length}
 use Prim.Native.Nat.{ℕ, _-_, _/_}
 use native.Mathlib.Omega.{arith}
@@ -37,6 +38,7 @@ find-name-requires c κs =
     )
 
 returns : tie.Need-returns
+unfolding roadRowOf
 returns c =
     let after-index-at2 : tie.After-index-at2 = search in
     let after-index-at : tie.After-index-at = search in
@@ -44,7 +46,7 @@ returns c =
     let roads = start .args .roads .now in let text = start .args .text .now in
     let n = length roads / 20 in
     let e = c .find-name .ensures
-    ∙ ap₂ (λ (a b : ℕ). lastOf (length roads / 20) (bears text 20 0 roads (span a b)))
+    ∙ ap₂ (λ (a b : ℕ). roadRowOf text roads (span a b))
     (after-index-at .index-at .ensures .0) (after-index-at2 .index-at2 .ensures .0) in (
       e,
       let le = last-le n (bears text 20 0 roads (nameFrom (start .args .ws .now) (start .args .k))) in

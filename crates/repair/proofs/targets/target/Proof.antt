@@ -1,13 +1,15 @@
-use Rattle.repair.proofs.Ends.{now-means, words-linked}
+-- `target` reads the end's word: the target as read, absent, or a junction's row.
+use Rattle.repair.proofs.Ends.{by-word, words-linked}
 use Rattle.repair.specs.Now.{nowWords}
-use Rattle.model.specs.Tables.{targetIn}
-use lib.ListN.{getD}
-use mathlib.Core.List.{List, [], _∷_}
+use mathlib.Core.List.{[], _∷_}
 use Prim.Native.Nat.{ℕ, _+_, _*_, _-_}
-use mathlib.Core.Path.{_≡_, sym, ap, _∙_}
+use mathlib.Core.Path.{sym, ap, _∙_}
 use borrow.Author.Needs.{needs}
 use Rattle.repair.proofs.targets.target.Statement.{statement}
 use Rattle.repair.proofs.targets.target.Tie as tie
+
+cast-r : tie.Need-cast-r
+cast-r c = search needs
 
 mul-index-at : tie.Need-mul-index-at
 mul-index-at c = search needs
@@ -71,39 +73,34 @@ at-requires-7 c κs = search needs
 
 returns : tie.Need-returns
 returns c =
-    let after-at6 : tie.After-at6 = search in
-    let after-at5 : tie.After-at5 = search in
-    let after-at4 : tie.After-at4 = search in
-    let after-at3 : tie.After-at3 = search in
-    let after-at2 : tie.After-at2 = search in
-    let after-at : tie.After-at = search in
-    let then1 : tie.Then1 = search in
-    let after-index-at : tie.After-index-at = search in
+    let w5 : tie.After-at6 = search in
+    let w4 : tie.After-at5 = search in
+    let w3 : tie.After-at4 = search in
+    let w2 : tie.After-at3 = search in
+    let w1 : tie.After-at2 = search in
+    let w0 : tie.After-at = search in
+    let as-read : tie.Then1 = search in
+    let read : tie.After-index-at = search in
     let start : tie.Start = search in
-    let ends = start .args .ends .now in let r = start .args .r in let e = start .args .e in
-    let roads = start .args .roads .now in let junctions = start .args .junctions .now in
-    let words : (after-at .at .result ∷ after-at2 .at2 .result ∷ after-at3 .at3 .result
-    ∷ after-at4 .at4 .result ∷ after-at5 .at5 .result ∷ after-at6 .at6 .result ∷ c .at7 .result ∷ [])
-    ≡ nowWords (getD ends (r * 2 + e) 0) roads junctions (r * 20 + 4 + e * 7) e =
-    (λ i.
-    (after-at .at .ensures i) ∷ (after-at2 .at2 .ensures i) ∷ (after-at3 .at3 .ensures i)
-    ∷ (after-at4 .at4 .ensures i) ∷ (after-at5 .at5 .ensures i) ∷ (after-at6 .at6 .ensures i)
-    ∷ (c .at7 .ensures i) ∷ [])
-    ∙ ap (λ (w : ℕ). nowWords w roads junctions (r * 20 + 4 + e * 7) e)
-    (sym (sym (after-index-at .index-at .ensures .0) ∙ then1 .if1 .taken)) in
-    (words, ap (λ (t : List ℕ). targetIn t 0) words ∙ now-means roads junctions ends r e (start .pre .1))
+    let args = start .args in
+    let begin = args .road .0 * 20 + 4 + args .e * 7 in
+    by-word (args .roads .now) (args .junctions .now) (args .ends .now) _ _ _ (start .pre .1)
+    (read .index-at .ensures .0)
+    ((λ i.
+    (w0 .at .ensures i) ∷ (w1 .at2 .ensures i) ∷ (w2 .at3 .ensures i) ∷ (w3 .at4 .ensures i)
+    ∷ (w4 .at5 .ensures i) ∷ (w5 .at6 .ensures i) ∷ (c .at7 .ensures i) ∷ [])
+    ∙ ap (λ (w : ℕ). nowWords w (args .roads .now) (args .junctions .now) begin (args .e))
+    (sym (as-read .if1 .taken)))
 
 returns-2 : tie.Need-returns-2
 returns-2 c =
-    let after-index-at : tie.After-index-at = search in
+    let read : tie.After-index-at = search in
     let start : tie.Start = search in
-    let ends = start .args .ends .now in let r = start .args .r in let e = start .args .e in
-    let roads = start .args .roads .now in let junctions = start .args .junctions .now in
-    let words : (0 ∷ 0 ∷ 0 ∷ 0 ∷ 0 ∷ 0 ∷ 0 ∷ [])
-    ≡ nowWords (getD ends (r * 2 + e) 0) roads junctions (r * 20 + 4 + e * 7) e =
-    ap (λ (w : ℕ). nowWords w roads junctions (r * 20 + 4 + e * 7) e)
-    (sym (sym (after-index-at .index-at .ensures .0) ∙ c .if2 .taken)) in
-    (words, ap (λ (t : List ℕ). targetIn t 0) words ∙ now-means roads junctions ends r e (start .pre .1))
+    let args = start .args in
+    let begin = args .road .0 * 20 + 4 + args .e * 7 in
+    by-word (args .roads .now) (args .junctions .now) (args .ends .now) _ _ _ (start .pre .1)
+    (read .index-at .ensures .0)
+    (ap (λ (w : ℕ). nowWords w (args .roads .now) (args .junctions .now) begin (args .e)) (sym (c .if2 .taken)))
 
 sub-j : tie.Need-sub-j
 sub-j c = search needs
@@ -120,31 +117,29 @@ add-at-7 c = search needs
 at-requires-9 : tie.Need-at-requires-9
 at-requires-9 c κs = search needs
 
-cast-t24 : tie.Need-cast-t24
-cast-t24 c = search needs
+cast-t25 : tie.Need-cast-t25
+cast-t25 c = search needs
 
 returns-3 : tie.Need-returns-3
 returns-3 c =
-    let after-at8 : tie.After-at8 = search in
-    let else2 : tie.Else2 = search in
-    let else1 : tie.Else1 = search in
-    let after-index-at : tie.After-index-at = search in
+    let first : tie.After-at8 = search in
+    let given : tie.Else2 = search in
+    let changed : tie.Else1 = search in
+    let read : tie.After-index-at = search in
     let start : tie.Start = search in
-    let e = start .args .e in let ends = start .args .ends .now in let r = start .args .r in
-    let roads = start .args .roads .now in let junctions = start .args .junctions .now in
-    let words : (1 ∷ 1 ∷ after-at8 .at8 .result ∷ c .at9 .result ∷ e ∷ 1 ∷ 0 ∷ [])
-    ≡ nowWords (getD ends (r * 2 + e) 0) roads junctions (r * 20 + 4 + e * 7) e =
-    (λ i. 1 ∷ 1 ∷ (after-at8 .at8 .ensures i) ∷ (c .at9 .ensures i) ∷ e ∷ 1 ∷ 0 ∷ [])
-    ∙ words-linked (after-index-at .index-at .result) roads junctions (r * 20 + 4 + e * 7) e
-    (else1 .if1 .left) (else2 .if2 .left)
-    ∙ ap (λ (w : ℕ). nowWords w roads junctions (r * 20 + 4 + e * 7) e)
-    (after-index-at .index-at .ensures .0) in
-    (words, ap (λ (t : List ℕ). targetIn t 0) words ∙ now-means roads junctions ends r e (start .pre .1))
+    let args = start .args in
+    let e = args .e in
+    by-word (args .roads .now) (args .junctions .now) (args .ends .now) _ _ _ (start .pre .1)
+    (read .index-at .ensures .0)
+    ((λ i. 1 ∷ 1 ∷ (first .at8 .ensures i) ∷ (c .at9 .ensures i) ∷ e ∷ 1 ∷ 0 ∷ [])
+    ∙ words-linked (read .index-at .result) (args .roads .now) (args .junctions .now) _ e (changed .if1 .left)
+    (given .if2 .left))
 
 pub target-spec : {M : Type 1} → statement M
 target-spec =
     tie.close
     (tie.spec
+    cast-r
     mul-index-at
     add-index-at
     index-at-requires
@@ -172,5 +167,5 @@ target-spec =
     at-requires-8
     add-at-7
     at-requires-9
-    cast-t24
+    cast-t25
     returns-3)

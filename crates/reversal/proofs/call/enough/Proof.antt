@@ -1,4 +1,6 @@
-use mathlib.Core.Bool.{_&&_}
+-- Output by output, from the last to the first.
+use Prim.Native.Nat.{ℕ}
+use mathlib.Core.Bool.{Bool, _&&_}
 use mathlib.Core.Path.{ap, _∙_}
 use lib.Dec.{leb}
 use borrow.Author.Needs.{needs}
@@ -23,22 +25,20 @@ both-requires-5 c κs = search needs
 
 returns : tie.Need-returns
 returns c =
-    let after-both4 : tie.After-both4 = search in
-    let after-both3 : tie.After-both3 = search in
-    let after-both2 : tie.After-both2 = search in
-    let after-both : tie.After-both = search in
+    let from-sections : tie.After-both4 = search in
+    let from-connections : tie.After-both3 = search in
+    let from-pairs : tie.After-both2 = search in
+    let from-lanes : tie.After-both = search in
     let start : tie.Start = search in
-    let a = start .args in
+    let tables = start .args .tables in
+    let outs = start .args .outs in
+    let room : ℕ → ℕ → Bool → Bool = λ k n rest. leb k n && rest in
     c .both5 .ensures
-    ∙ ap (λ b. leb (a .roads) (a .outroads) && b)
-    (after-both4 .both4 .ensures
-    ∙ ap (λ b. leb (a .sections) (a .outsections) && b)
-    (after-both3 .both3 .ensures
-    ∙ ap (λ b. leb (a .connections) (a .outconnections) && b)
-    (after-both2 .both2 .ensures
-    ∙ ap (λ b. leb (a .pairs) (a .outpairs) && b)
-    (after-both .both .ensures
-    ∙ ap (λ b. leb (a .lanes) (a .outlanes) && b) (and-true (leb (a .edges) (a .outedges)))))))
+    ∙ ap (room (tables .roads) (outs .roads)) (from-sections .both4 .ensures
+    ∙ ap (room (tables .sections) (outs .sections)) (from-connections .both3 .ensures
+    ∙ ap (room (tables .connections) (outs .connections)) (from-pairs .both2 .ensures
+    ∙ ap (room (tables .pairs) (outs .pairs)) (from-lanes .both .ensures
+    ∙ ap (room (tables .lanes) (outs .lanes)) (and-true (leb (tables .edges) (outs .edges)))))))
 
 pub enough-spec : {M : Type 1} → statement M
 enough-spec =

@@ -1,3 +1,4 @@
+-- Each writer gets what it asks, and what the six write is the content.
 use native.Mathlib.Omega.{arith}
 use borrow.Author.Needs.{needs}
 use Rattle.model.specs.Calls.{putReversed}
@@ -19,7 +20,13 @@ put-sections-requires : tie.Need-put-sections-requires
 put-sections-requires c κs =
     let start : tie.Start = search in
     let tables = start .pre .0 in
-    ((tables .ready .few, tables .ready .even, start .pre .1 .sections, tables .parts), tables .up)
+    record {
+      few = tables .ready .few;
+      even = tables .ready .even;
+      parts = tables .parts;
+      up = tables .up;
+      room = start .pre .1 .sections;
+    }
 
 put-connections-requires : tie.Need-put-connections-requires
 put-connections-requires c κs =
@@ -30,7 +37,7 @@ put-pairs-requires : tie.Need-put-pairs-requires
 put-pairs-requires c κs =
     let start : tie.Start = search in
     let tables = start .pre .0 in
-    (tables .ready, (start .pre .1 .pairs, tables .links, tables .few-connections))
+    (tables .ready, record { few = tables .few-connections; parts = tables .links; room = start .pre .1 .pairs })
 
 put-lanes-requires : tie.Need-put-lanes-requires
 put-lanes-requires c κs =
@@ -38,10 +45,13 @@ put-lanes-requires c κs =
     let start = begun of-connections in
     let tables = start .pre .0 in (
       tables .ready,
-      (
-        (omega (arith, tables .few-lanes, tables .owners), start .pre .1 .lanes, tables .parts, tables .few-lanes),
-        tables .kept,
-      ),
+      record {
+        few = tables .few-lanes;
+        owned = omega (arith, tables .few-lanes, tables .owners);
+        parts = tables .parts;
+        kept = tables .kept;
+        room = start .pre .1 .lanes;
+      },
     )
 
 put-edges-requires : tie.Need-put-edges-requires
@@ -49,7 +59,11 @@ put-edges-requires c κs =
     let of-connections : tie.After-put-connections = search in
     let start = begun of-connections in
     let tables = start .pre .0 in
-    ((omega (arith, tables .few-edges, tables .owners), start .pre .1 .edges), tables .low)
+    record {
+      owned = omega (arith, tables .few-edges, tables .owners);
+      low = tables .low;
+      room = start .pre .1 .edges;
+    }
 
 same-length : tie.Need-same-length
 same-length c = let of-roads : tie.After-put-roads = search in omega (arith, of-roads .put-roads .kept)

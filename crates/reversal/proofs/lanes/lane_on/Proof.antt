@@ -1,9 +1,13 @@
+-- Which road's mark changes the sign of each link, and the row with these signs.
 use Prim.Native.Nat.{_+_, _*_}
 use native.Mathlib.Omega.{arith}
 use borrow.Author.Needs.{needs}
 use Rattle.reversal.proofs.Leaves.{lane-is}
 use Rattle.reversal.proofs.lanes.lane_on.Statement.{statement}
 use Rattle.reversal.proofs.lanes.lane_on.Tie as tie
+
+cast-r : tie.Need-cast-r
+cast-r c = search needs
 
 mul-s : tie.Need-mul-s
 mul-s c = search needs
@@ -60,22 +64,19 @@ lane-with-requires c κs = search needs
 
 returns : tie.Need-returns
 returns c =
-    let after-turned-section : tie.After-turned-section = search in
-    let after-sign2 : tie.After-sign2 = search in
-    let after-sign : tie.After-sign = search in
-    let after-first-of : tie.After-first-of = search in
-    let after-last-of : tie.After-last-of = search in
-    let after-shared-slice-known2 = after-last-of .before .before .before .before .before .before .before in
-    let start = after-shared-slice-known2 .before .before in
-    lane-is (start .args .text .now) (start .args .roads .now) (start .args .marks .now)
-    (start .args .lanes .now) (start .args .i) (start .args .road) (start .args .mark) (start .args .part .now)
-    (c .lane-with .ensures) (after-turned-section .turned-section .ensures) (after-last-of .last-of .ensures .0)
-    (after-first-of .first-of .ensures .0) (after-sign .sign .ensures) (after-sign2 .sign2 .ensures)
+    let section : tie.After-turned-section = search in
+    let back : tie.After-sign2 = search in
+    let onward : tie.After-sign = search in
+    let first : tie.After-first-of = search in
+    let last : tie.After-last-of = search in
+    lane-is _ _ _ _ _ _ _ _ (c .lane-with .ensures) (section .turned-section .ensures) (last .last-of .ensures .0)
+    (first .first-of .ensures .0) (onward .sign .ensures) (back .sign2 .ensures)
 
 pub lane-on-spec : {M : Type 1} → statement M
 lane-on-spec =
     tie.close
     (tie.spec
+    cast-r
     mul-s
     add-s
     mul-s-2

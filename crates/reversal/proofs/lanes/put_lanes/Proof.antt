@@ -1,164 +1,127 @@
-use Prim.Native.Nat.{ℕ, _-_, _/_, _≤_}
-use mathlib.Core.Path.{_≡_, refl, ap, _∙_}
+-- Before turn `i` the lanes below `i` are written, reversed.
+use Prim.Native.Nat.{_-_}
 use native.Mathlib.Omega.{arith}
-use lib.ListN.{length}
 use borrow.Author.Needs.{needs}
-use Rattle.model.specs.Rows.{written}
-use Rattle.words.specs.Rows.{joined}
-use Rattle.reversal.specs.Turned.{turnedLane}
-use Rattle.words.proofs.Joins.{row-room, rows-begin, rows-turn}
+use Rattle.reversal.specs.Turned.{Kept, turnedLane}
 use Rattle.reversal.proofs.Leaves.{lane-10}
-use Rattle.reversal.proofs.Places.{lane-turned, road-known, section-within}
+use Rattle.reversal.proofs.Places.{lane-turned, section-within}
+use Rattle.reversal.proofs.Writers.{Wrote, row-fits, wrote-all, wrote-none, wrote-row}
 use Rattle.reversal.proofs.lanes.put_lanes.Statement.{statement}
 use Rattle.reversal.proofs.lanes.put_lanes.Tie as tie
 
 abbrev Inv-loop : tie.InvT-loop
 Inv-loop text roads sections heads next marks lanes owner out₀ n i₀ out i =
-    (i ≤ n)
-    × (out ≡ written (joined i (turnedLane text roads sections marks lanes owner)) out₀)
-    × (length out ≡ length out₀)
+    Wrote n (turnedLane text roads sections marks lanes owner) out₀ i out
 
 abbrev μ-loop : tie.MeasureT-loop
 μ-loop text roads sections heads next marks lanes owner out₀ n i₀ out i = n - i
 
+-- ---- the places
+abbrev Start : Type 0
+Start = tie.Start Inv-loop μ-loop
+
+abbrev Head : Type 0
+Head = tie.At-loop Inv-loop μ-loop
+
+abbrev Turn : Type 0
+Turn = tie.In-loop Inv-loop μ-loop
+
+-- ---- in a turn: lane i, whose road is known
+module _ (turn : Turn) where
+  abbrev head : Head
+  head = search
+
+  abbrev start : Start
+  start = search
+
+  known : let a = start .args in Kept (a .roads .now) (a .sections .now) (a .lanes .now) (a .owner .now) (head .loop .i)
+  known = start .pre .1 .kept _ (turn .loop-test .taken)
+
 loop-holds : tie.Need-loop-holds Inv-loop μ-loop
-loop-holds c =
-    let start : tie.Start Inv-loop μ-loop = search in (
-      omega arith,
-      rows-begin (turnedLane (start .args .text .now) (start .args .roads .now) (start .args .sections .now)
-          (start .args .marks .now) (start .args .lanes .now) (start .args .owner .now)) (start .args .out .now),
-      refl,
-    )
+loop-holds c = wrote-none
 
 word-requires : tie.Need-word-requires Inv-loop μ-loop
-word-requires c κs =
-    let start : tie.Start Inv-loop μ-loop = search in
-    omega (arith, c .loop-test .taken, start .pre .1 .0 .0)
+word-requires c κs = let start : Start = search in omega (arith, c .loop-test .taken, start .pre .1 .owned)
 
-sub-road : tie.Need-sub-road Inv-loop μ-loop
-sub-road c =
-    let in-loop : tie.In-loop Inv-loop μ-loop = search in
-    let at-loop : tie.At-loop Inv-loop μ-loop = search in
-    let start : tie.Start Inv-loop μ-loop = search in
-    let l = at-loop .loop in
-    let k = start .pre .1 .1 (l .i) (in-loop .loop-test .taken) in
-    let rk = road-known (start .args .roads .now) (start .args .sections .now) (start .args .lanes .now)
-    (start .args .owner .now) (l .i) k (c .word .ensures .0) in
-    let r0 = rk .0 in let r1 = rk .1 in omega arith
+sub-r : tie.Need-sub-r Inv-loop μ-loop
+sub-r c = let turn : Turn = search in omega (arith, c .word .ensures .0, known turn .known)
 
 mark-at-requires : tie.Need-mark-at-requires Inv-loop μ-loop
 mark-at-requires c κs =
-    let in-loop : tie.In-loop Inv-loop μ-loop = search in
-    let at-loop : tie.At-loop Inv-loop μ-loop = search in
-    let start : tie.Start Inv-loop μ-loop = search in
-    let l = at-loop .loop in
-    let k = start .pre .1 .1 (l .i) (in-loop .loop-test .taken) in
-    let rk = road-known (start .args .roads .now) (start .args .sections .now) (start .args .lanes .now)
-    (start .args .owner .now) (l .i) k (c .word .ensures .0) in
-    let r0 = rk .0 in let r1 = rk .1 in omega (arith, start .pre .0 .even)
+    let turn : Turn = search in
+    let owner : tie.After-word Inv-loop μ-loop = search in
+    omega (arith, owner .word .ensures .0, known turn .below, start turn .pre .0 .even)
 
 numbers-requires : tie.Need-numbers-requires Inv-loop μ-loop
 numbers-requires c κs =
-    let after-word : tie.After-word Inv-loop μ-loop = search in
-    let in-loop : tie.In-loop Inv-loop μ-loop = search in
-    let at-loop : tie.At-loop Inv-loop μ-loop = search in
-    let start : tie.Start Inv-loop μ-loop = search in
-    let l = at-loop .loop in
-    let k = start .pre .1 .1 (l .i) (in-loop .loop-test .taken) in
-    let rk = road-known (start .args .roads .now) (start .args .sections .now) (start .args .lanes .now)
-    (start .args .owner .now) (l .i) k (after-word .word .ensures .0) in
-    let r0 = rk .0 in let r1 = rk .1 in (start .pre .1 .0 .2, omega arith)
+    let owner : tie.After-word Inv-loop μ-loop = search in
+    let turn : Turn = search in
+    let road = known turn in
+    (start turn .pre .1 .parts, omega (arith, owner .word .ensures .0, road .known, road .below))
+
+cast-id : tie.Need-cast-id Inv-loop μ-loop
+cast-id c =
+    let owner : tie.After-word Inv-loop μ-loop = search in
+    let turn : Turn = search in
+    omega (arith, owner .word .ensures .0, known turn .below, start turn .pre .0 .few)
 
 lane-on-requires : tie.Need-lane-on-requires Inv-loop μ-loop
 lane-on-requires c κs =
-    let after-word : tie.After-word Inv-loop μ-loop = search in
-    let in-loop : tie.In-loop Inv-loop μ-loop = search in
-    let at-loop : tie.At-loop Inv-loop μ-loop = search in
-    let start : tie.Start Inv-loop μ-loop = search in
-    let roads = start .args .roads .now in let sections = start .args .sections .now in
-    let lanes = start .args .lanes .now in let owner = start .args .owner .now in
-    let l = at-loop .loop in
-    let k = start .pre .1 .1 (l .i) (in-loop .loop-test .taken) in
-    let rk = road-known roads sections lanes owner (l .i) k (after-word .word .ensures .0) in
-    let r0 = rk .0 in
-    let r1 = rk .1 in
-    let w = section-within roads sections lanes owner (l .i) k (after-word .word .ensures .0)
-    (c .numbers .ensures) in
-    (start .pre .0, (in-loop .loop-test .taken, omega arith, w .0, w .1))
+    let part : tie.After-numbers Inv-loop μ-loop = search in
+    let owner : tie.After-word Inv-loop μ-loop = search in
+    let turn : Turn = search in
+    let road = known turn in (
+      start turn .pre .0,
+      (
+        turn .loop-test .taken,
+        (
+          omega (arith, owner .word .ensures .0, road .known, road .below),
+          section-within _ _ _ _ _ road (owner .word .ensures .0) (part .numbers .ensures),
+        ),
+      ),
+    )
 
 mul-put : tie.Need-mul-put Inv-loop μ-loop
-mul-put c =
-    let in-loop : tie.In-loop Inv-loop μ-loop = search in
-    let start : tie.Start Inv-loop μ-loop = search in
-    omega (arith, in-loop .loop-test .taken, start .pre .1 .0 .3)
+mul-put c = let turn : Turn = search in omega (arith, turn .loop-test .taken, start turn .pre .1 .few)
 
 slice-aggregate-put : tie.Need-slice-aggregate-put Inv-loop μ-loop
 slice-aggregate-put c = search needs
 
 put-requires : tie.Need-put-requires Inv-loop μ-loop
 put-requires c κs =
-    let in-loop : tie.In-loop Inv-loop μ-loop = search in
-    let at-loop : tie.At-loop Inv-loop μ-loop = search in
-    let start : tie.Start Inv-loop μ-loop = search in
-    let l = at-loop .loop in
-    let r = row-room (length (start .args .lanes .now)) 10 (l .i) (length (start .args .out .now))
-    (in-loop .loop-test .taken) (start .pre .1 .0 .1) in
-    omega (arith, l .inv .2)
+    let lane : tie.After-lane-on Inv-loop μ-loop = search in
+    let part : tie.After-numbers Inv-loop μ-loop = search in
+    let mark : tie.After-mark-at Inv-loop μ-loop = search in
+    let owner : tie.After-word Inv-loop μ-loop = search in
+    let turn : Turn = search in
+    let row = lane-turned _ _ _ _ _ _ _ (lane .lane-on .ensures) (mark .mark-at .ensures) (part .numbers .ensures)
+    (owner .word .ensures .0) in
+    row-fits 10 (lane-10 _ _ _ _ _ _) (start turn .pre .1 .room) (head turn .loop .inv) (turn .loop-test .taken) row
 
 add-i : tie.Need-add-i Inv-loop μ-loop
-add-i c =
-    let in-loop : tie.In-loop Inv-loop μ-loop = search in
-    let start : tie.Start Inv-loop μ-loop = search in
-    omega (arith, in-loop .loop-test .taken, start .pre .1 .0 .3)
+add-i c = let turn : Turn = search in omega (arith, turn .loop-test .taken, start turn .pre .1 .few)
 
 loop-less : tie.Need-loop-less Inv-loop μ-loop
-loop-less c =
-    let in-loop : tie.In-loop Inv-loop μ-loop = search in
-    omega (arith, in-loop .loop-test .taken)
+loop-less c = let turn : Turn = search in omega (arith, turn .loop-test .taken)
 
 loop-again : tie.Need-loop-again Inv-loop μ-loop
 loop-again c =
-    let after-put : tie.After-put Inv-loop μ-loop = search in
-    let after-lane-on : tie.After-lane-on Inv-loop μ-loop = search in
-    let after-numbers : tie.After-numbers Inv-loop μ-loop = search in
-    let after-mark-at : tie.After-mark-at Inv-loop μ-loop = search in
-    let after-word : tie.After-word Inv-loop μ-loop = search in
-    let in-loop : tie.In-loop Inv-loop μ-loop = search in
-    let at-loop : tie.At-loop Inv-loop μ-loop = search in
-    let after-shared-slice-known3 = at-loop .before .before .before .before .before .before .before in
-    let start = after-shared-slice-known3 .before .before .before in
-    let text = start .args .text .now in let roads = start .args .roads .now in
-    let sections = start .args .sections .now in let marks = start .args .marks .now in
-    let lanes = start .args .lanes .now in let owner = start .args .owner .now in
-    let out = start .args .out .now in
-    let l = at-loop .loop in (
-      omega (arith, in-loop .loop-test .taken),
-      rows-turn 10 (l .i) (turnedLane text roads sections marks lanes owner) out
-          (lane-10 text roads sections marks lanes owner) (l .inv .1)
-          (lane-turned text roads sections marks lanes owner (l .i) (after-lane-on .lane-on .ensures)
-          (after-mark-at .mark-at .ensures) (after-numbers .numbers .ensures) (after-word .word .ensures .0))
-          (after-put .put .ensures)
-          (row-room (length lanes) 10 (l .i) (length out) (in-loop .loop-test .taken) (start .pre .1 .0 .1)),
-      after-put .put .kept .0 ∙ l .inv .2,
-    )
+    let written : tie.After-put Inv-loop μ-loop = search in
+    let lane : tie.After-lane-on Inv-loop μ-loop = search in
+    let part : tie.After-numbers Inv-loop μ-loop = search in
+    let mark : tie.After-mark-at Inv-loop μ-loop = search in
+    let owner : tie.After-word Inv-loop μ-loop = search in
+    let turn : Turn = search in
+    let row = lane-turned _ _ _ _ _ _ _ (lane .lane-on .ensures) (mark .mark-at .ensures) (part .numbers .ensures)
+    (owner .word .ensures .0) in
+    wrote-row 10 (lane-10 _ _ _ _ _ _) (start turn .pre .1 .room) (head turn .loop .inv) (turn .loop-test .taken) row
+    (written .put .ensures) (written .put .kept .0)
 
 same-length : tie.Need-same-length Inv-loop μ-loop
-same-length c =
-    let at-loop : tie.At-loop Inv-loop μ-loop = search in
-    at-loop .loop .inv .2
+same-length c = let head : Head = search in head .loop .inv .as-long
 
 returns : tie.Need-returns Inv-loop μ-loop
-returns c =
-    let at-loop : tie.At-loop Inv-loop μ-loop = search in
-    let start : tie.Start Inv-loop μ-loop = search in
-    let lanes = start .args .lanes .now in
-    let l = at-loop .loop in
-    let past : l .i ≡ length lanes / 10 = omega (arith, l .inv .0, c .loop-test .left) in
-    l .inv .1
-    ∙ ap (λ (m : ℕ).
-    written (joined m (turnedLane (start .args .text .now) (start .args .roads .now)
-    (start .args .sections .now) (start .args .marks .now) lanes (start .args .owner .now)))
-    (start .args .out .now)) past
+returns c = let head : Head = search in wrote-all (head .loop .inv) (c .loop-test .left)
 
 pub put-lanes-spec : {M : Type 1} → statement M
 put-lanes-spec =
@@ -168,9 +131,10 @@ put-lanes-spec =
     μ-loop
     loop-holds
     word-requires
-    sub-road
+    sub-r
     mark-at-requires
     numbers-requires
+    cast-id
     lane-on-requires
     mul-put
     slice-aggregate-put

@@ -8,8 +8,8 @@ to-marked-requires c κs = search needs
 
 returns : tie.Need-returns
 returns c =
-    let then1 : tie.Then1 = search in
-    if-on _ _ _ (then1 .if1 .taken) (c .to-marked .ensures)
+    let last : tie.Then1 = search in
+    if-on _ _ _ (last .if1 .taken) (c .to-marked .ensures)
 
 returns-2 : tie.Need-returns-2
 returns-2 c = search needs

@@ -14,20 +14,20 @@ turned-requires c κs = search needs
 
 returns : tie.Need-returns
 returns c =
-    let then1 : tie.Then1 = search in
-    let after-ends-at : tie.After-ends-at = search in
+    let marked : tie.Then1 = search in
+    let read : tie.After-ends-at = search in
     let start : tie.Start = search in
     let edges = start .args .edges .now in let i = start .args .i in
-    if-on (start .args .mark) (swapped (endsAt edges i)) (endsAt edges i) (then1 .if1 .taken)
-    (c .turned .ensures ∙ ap swapped (after-ends-at .ends-at .ensures))
+    if-on (start .args .mark) (swapped (endsAt edges i)) (endsAt edges i) (marked .if1 .taken)
+    (c .turned .ensures ∙ ap swapped (read .ends-at .ensures))
 
 returns-2 : tie.Need-returns-2
 returns-2 c =
-    let after-ends-at : tie.After-ends-at = search in
+    let read : tie.After-ends-at = search in
     let start : tie.Start = search in
     let edges = start .args .edges .now in let i = start .args .i in
     if-off (start .args .mark) (swapped (endsAt edges i)) (endsAt edges i) (c .if1 .left)
-    (after-ends-at .ends-at .ensures)
+    (read .ends-at .ensures)
 
 pub turned-ends-spec : {M : Type 1} → statement M
 turned-ends-spec = tie.close (tie.spec ends-at-requires turned-requires returns returns-2)

@@ -8,8 +8,8 @@ mirror-of-requires c κs = search needs
 
 returns : tie.Need-returns
 returns c =
-    let then1 : tie.Then1 = search in
-    if-on _ _ _ (then1 .if1 .taken) (c .mirror-of .ensures)
+    let marked : tie.Then1 = search in
+    if-on _ _ _ (marked .if1 .taken) (c .mirror-of .ensures)
 
 returns-2 : tie.Need-returns-2
 returns-2 c = search needs

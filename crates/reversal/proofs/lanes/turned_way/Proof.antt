@@ -10,21 +10,21 @@ returns c =
 
 returns-2 : tie.Need-returns-2
 returns-2 c =
-    let else1 : tie.Else1 = search in
+    let marked : tie.Else1 = search in
     let start : tie.Start = search in
-    way-forward (start .args .mark) (start .args .way) (not-false _ (else1 .if1 .left)) (c .match .keys1)
+    way-forward (start .args .mark) (start .args .way) (not-false _ (marked .if1 .left)) (c .match .keys1)
 
 returns-3 : tie.Need-returns-3
 returns-3 c =
-    let else1 : tie.Else1 = search in
+    let marked : tie.Else1 = search in
     let start : tie.Start = search in
-    way-backward (start .args .mark) (start .args .way) (not-false _ (else1 .if1 .left)) (c .match .keys2)
+    way-backward (start .args .mark) (start .args .way) (not-false _ (marked .if1 .left)) (c .match .keys2)
 
 returns-4 : tie.Need-returns-4
 returns-4 c =
-    let else1 : tie.Else1 = search in
+    let marked : tie.Else1 = search in
     let start : tie.Start = search in
-    way-both (start .args .mark) (start .args .way) (not-false _ (else1 .if1 .left)) (c .match .rest .0 .1)
+    way-both (start .args .mark) (start .args .way) (not-false _ (marked .if1 .left)) (c .match .rest .0 .1)
     (c .match .rest .1)
 
 pub turned-way-spec : {M : Type 1} → statement M

@@ -1,87 +1,68 @@
-use Prim.Native.Nat.{ℕ, _+_, _*_, _-_, _≤_}
-use mathlib.Core.Path.{_≡_, refl, ap, _∙_}
+-- Before turn `k` the first `k` pairs of the part are written, with their signs changed.
+use Prim.Native.Nat.{ℕ, _+_, _*_, _-_, _<_, _≤_}
 use native.Mathlib.Omega.{arith}
 use lib.ListN.{length}
 use borrow.Author.Needs.{needs}
-use Rattle.words.specs.Rows.{joined, spliced}
 use Rattle.reversal.specs.Turned.{pairsFrom, turnedPair}
-use Rattle.words.proofs.Joins.{within-turn}
 use Rattle.reversal.proofs.Leaves.{pair-2, pair-is}
-use Rattle.reversal.proofs.Places.{div-mul-le, spliced-none}
+use Rattle.reversal.proofs.Places.{div-mul-le}
+use Rattle.reversal.proofs.Writers.{WroteAt, wrote-at-all, wrote-at-none, wrote-at-row}
 use Rattle.reversal.proofs.links.put_part.Statement.{statement}
 use Rattle.reversal.proofs.links.put_part.Tie as tie
 
 abbrev Inv-loop : tie.InvT-loop
 Inv-loop pairs first count incoming connecting out₀ k₀ out k =
-    (k ≤ count)
-    × (out ≡ spliced (first * 2) (joined k (λ j. turnedPair incoming connecting pairs (first + j))) out₀)
-    × (length out ≡ length out₀)
+    WroteAt (first * 2) count (λ j. turnedPair incoming connecting pairs (first + j)) out₀ k out
 
 abbrev μ-loop : tie.MeasureT-loop
 μ-loop pairs first count incoming connecting out₀ k₀ out k = count - k
 
+-- ---- the places
+abbrev Start : Type 0
+Start = tie.Start Inv-loop μ-loop
+
+abbrev Head : Type 0
+Head = tie.At-loop Inv-loop μ-loop
+
+abbrev Turn : Type 0
+Turn = tie.In-loop Inv-loop μ-loop
+
+-- pair k of the part, in words
+module _ (start : Start) (k : ℕ) (turn : k < start .args .count) where
+  in-table : (start .args .first + k) * 2 + 2 ≤ length (start .args .pairs .now)
+  in-table = omega (arith, start .pre .0, div-mul-le (length (start .args .pairs .now)))
+
+  in-out : start .args .first * 2 + k * 2 + 2 ≤ length (start .args .out .now)
+  in-out = omega (arith, in-table, start .pre .1)
+
 loop-holds : tie.Need-loop-holds Inv-loop μ-loop
-loop-holds c =
-    let start : tie.Start Inv-loop μ-loop = search in
-    let first = start .args .first in (
-      omega arith,
-      spliced-none (first * 2) (λ j.
-          turnedPair (start .args .incoming) (start .args .connecting) (start .args .pairs .now) (first + j))
-          (start .args .out .now),
-      refl,
-    )
+loop-holds c = wrote-at-none
 
 add-at : tie.Need-add-at Inv-loop μ-loop
-add-at c =
-    let at-loop : tie.At-loop Inv-loop μ-loop = search in
-    let start : tie.Start Inv-loop μ-loop = search in
-    let l = at-loop .loop in
-    let hd = div-mul-le (length (start .args .pairs .now)) in
-    let t = c .loop-test .taken in let p0 = start .pre .0 in let p1 = start .pre .1 in omega arith
+add-at c = omega (arith, in-table (search) _ (c .loop-test .taken))
 
 mul-at : tie.Need-mul-at Inv-loop μ-loop
-mul-at c =
-    let at-loop : tie.At-loop Inv-loop μ-loop = search in
-    let start : tie.Start Inv-loop μ-loop = search in
-    let l = at-loop .loop in
-    let hd = div-mul-le (length (start .args .pairs .now)) in
-    let t = c .loop-test .taken in let p0 = start .pre .0 in let p1 = start .pre .1 in omega arith
+mul-at c = let turn : Turn = search in omega (arith, in-table (search) _ (turn .loop-test .taken))
 
 mul-signed-by : tie.Need-mul-signed-by Inv-loop μ-loop
 mul-signed-by c = search needs
 
 shared-slice-read-signed-by : tie.Need-shared-slice-read-signed-by Inv-loop μ-loop
 shared-slice-read-signed-by c =
-    let in-loop : tie.In-loop Inv-loop μ-loop = search in
-    let at-loop : tie.At-loop Inv-loop μ-loop = search in
-    let start : tie.Start Inv-loop μ-loop = search in
-    let l = at-loop .loop in
-    let hd = div-mul-le (length (start .args .pairs .now)) in
-    let t = in-loop .loop-test .taken in let p0 = start .pre .0 in let p1 = start .pre .1 in omega arith
+    let turn : Turn = search in omega (arith, in-table (search) _ (turn .loop-test .taken))
 
 signed-by-requires : tie.Need-signed-by-requires Inv-loop μ-loop
 signed-by-requires c κs = search needs
 
 add-signed-by : tie.Need-add-signed-by Inv-loop μ-loop
-add-signed-by c =
-    let in-loop : tie.In-loop Inv-loop μ-loop = search in
-    let at-loop : tie.At-loop Inv-loop μ-loop = search in
-    let start : tie.Start Inv-loop μ-loop = search in
-    let l = at-loop .loop in
-    let hd = div-mul-le (length (start .args .pairs .now)) in
-    let t = in-loop .loop-test .taken in let p0 = start .pre .0 in let p1 = start .pre .1 in omega arith
+add-signed-by c = let turn : Turn = search in omega (arith, in-table (search) _ (turn .loop-test .taken))
 
 mul-signed-by-2 : tie.Need-mul-signed-by-2 Inv-loop μ-loop
 mul-signed-by-2 c = search needs
 
 shared-slice-read-signed-by-2 : tie.Need-shared-slice-read-signed-by-2 Inv-loop μ-loop
 shared-slice-read-signed-by-2 c =
-    let in-loop : tie.In-loop Inv-loop μ-loop = search in
-    let at-loop : tie.At-loop Inv-loop μ-loop = search in
-    let start : tie.Start Inv-loop μ-loop = search in
-    let l = at-loop .loop in
-    let hd = div-mul-le (length (start .args .pairs .now)) in
-    let t = in-loop .loop-test .taken in let p0 = start .pre .0 in let p1 = start .pre .1 in omega arith
+    let turn : Turn = search in omega (arith, in-table (search) _ (turn .loop-test .taken))
 
 signed-by-requires-2 : tie.Need-signed-by-requires-2 Inv-loop μ-loop
 signed-by-requires-2 c κs = search needs
@@ -91,65 +72,35 @@ slice-aggregate-put c = search needs
 
 put-requires : tie.Need-put-requires Inv-loop μ-loop
 put-requires c κs =
-    let in-loop : tie.In-loop Inv-loop μ-loop = search in
-    let at-loop : tie.At-loop Inv-loop μ-loop = search in
-    let start : tie.Start Inv-loop μ-loop = search in
-    let l = at-loop .loop in
-    let hd = div-mul-le (length (start .args .pairs .now)) in
-    let t = in-loop .loop-test .taken in
-    let p0 = start .pre .0 in let p1 = start .pre .1 in let e = l .inv .2 in omega arith
+    let turn : Turn = search in
+    let head : Head = search in
+    omega (arith, in-out (search) _ (turn .loop-test .taken), head .loop .inv .as-long)
 
 add-k : tie.Need-add-k Inv-loop μ-loop
-add-k c =
-    let in-loop : tie.In-loop Inv-loop μ-loop = search in
-    omega (arith, in-loop .loop-test .taken)
+add-k c = let turn : Turn = search in omega (arith, turn .loop-test .taken)
 
 loop-less : tie.Need-loop-less Inv-loop μ-loop
-loop-less c =
-    let in-loop : tie.In-loop Inv-loop μ-loop = search in
-    omega (arith, in-loop .loop-test .taken)
+loop-less c = let turn : Turn = search in omega (arith, turn .loop-test .taken)
 
 loop-again : tie.Need-loop-again Inv-loop μ-loop
 loop-again c =
-    let after-put : tie.After-put Inv-loop μ-loop = search in
-    let after-signed-by2 : tie.After-signed-by2 Inv-loop μ-loop = search in
-    let after-signed-by : tie.After-signed-by Inv-loop μ-loop = search in
-    let in-loop : tie.In-loop Inv-loop μ-loop = search in
-    let at-loop : tie.At-loop Inv-loop μ-loop = search in
-    let start : tie.Start Inv-loop μ-loop = search in
-    let pairs = start .args .pairs .now in let first = start .args .first in
-    let incoming = start .args .incoming in let connecting = start .args .connecting in
-    let l = at-loop .loop in
-    let hd = div-mul-le (length pairs) in
-    let t = in-loop .loop-test .taken in
-    let p0 = start .pre .0 in
-    let p1 = start .pre .1 in (
-      omega arith,
-      within-turn 2 (first * 2) (l .k) (λ j. turnedPair incoming connecting pairs (first + j))
-          (start .args .out .now) (λ j. pair-2 incoming connecting pairs (first + j)) (l .inv .1)
-          (pair-is incoming connecting pairs (first + l .k) (after-signed-by .signed-by .ensures)
-          (after-signed-by2 .signed-by2 .ensures)) (omega arith) (after-put .put .ensures) (omega arith),
-      after-put .put .kept .0 ∙ l .inv .2,
-    )
+    let written : tie.After-put Inv-loop μ-loop = search in
+    let to : tie.After-signed-by2 Inv-loop μ-loop = search in
+    let from : tie.After-signed-by Inv-loop μ-loop = search in
+    let turn : Turn = search in
+    let head : Head = search in
+    let start : Start = search in
+    let here = turn .loop-test .taken in
+    let pair = pair-is _ _ _ _ (from .signed-by .ensures) (to .signed-by2 .ensures) in
+    wrote-at-row 2 (λ j. pair-2 _ _ _ _) (head .loop .inv) here pair (omega arith) (written .put .ensures)
+    (in-out start _ here) (written .put .kept .0)
 
 same-length : tie.Need-same-length Inv-loop μ-loop
-same-length c =
-    let at-loop : tie.At-loop Inv-loop μ-loop = search in
-    at-loop .loop .inv .2
+same-length c = let head : Head = search in head .loop .inv .as-long
 
 returns : tie.Need-returns Inv-loop μ-loop
 unfolding pairsFrom
-returns c =
-    let at-loop : tie.At-loop Inv-loop μ-loop = search in
-    let start : tie.Start Inv-loop μ-loop = search in
-    let first = start .args .first in
-    let l = at-loop .loop in
-    let past : l .k ≡ start .args .count = omega (arith, l .inv .0, c .loop-test .left) in
-    l .inv .1
-    ∙ ap (λ (m : ℕ).
-    spliced (first * 2) (joined m
-    (λ j. turnedPair (start .args .incoming) (start .args .connecting) (start .args .pairs .now) (first + j)))
-    (start .args .out .now)) past
+returns c = let head : Head = search in wrote-at-all (head .loop .inv) (c .loop-test .left)
 
 pub put-part-spec : {M : Type 1} → statement M
 put-part-spec =

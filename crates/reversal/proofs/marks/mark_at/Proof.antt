@@ -17,9 +17,9 @@ shared-slice-read-result c = search needs
 
 returns-2 : tie.Need-returns-2
 returns-2 c =
-    let else1 : tie.Else1 = search in
+    let some : tie.Else1 = search in
     let start : tie.Start = search in
-    mark-some (start .args .marks .now) (start .args .road) (else1 .if1 .left)
+    mark-some (start .args .marks .now) (start .args .road) (some .if1 .left)
 
 pub mark-at-spec : {M : Type 1} → statement M
 mark-at-spec =

@@ -1,4 +1,6 @@
+-- The row that the name finds, and its mark.
 use Prim.Native.Nat.{ℕ, _/_}
+use mathlib.Core.Bool.{Bool}
 use mathlib.Core.Path.{ap, ap₂, _∙_}
 use native.Mathlib.Omega.{arith}
 use lib.ListN.{length}
@@ -12,6 +14,14 @@ use Rattle.reversal.specs.Turned.{markAt, markOf}
 use Rattle.reversal.proofs.marks.marked.Statement.{statement}
 use Rattle.reversal.proofs.marks.marked.Tie as tie
 
+-- ---- how many roads there are, and who bears a name
+module _ (start : tie.Start) where
+  abbrev roads : ℕ
+  roads = length (start .args .roads .now) / 20
+
+  abbrev bearers : ℕ → ℕ → ℕ → Bool
+  bearers s l = bears (start .args .text .now) 20 0 (start .args .roads .now) (span s l)
+
 word-requires : tie.Need-word-requires
 word-requires c κs = search needs
 
@@ -23,45 +33,40 @@ word-requires-2 c κs = search needs
 
 find-name-requires : tie.Need-find-name-requires
 find-name-requires c κs =
-    let after-word : tie.After-word = search in
-    let start : tie.Start = search in (
+    let first : tie.After-word = search in
+    let start : tie.Start = search in
+    let ready = start .pre .0 in (
       (
         omega arith,
         omega arith,
         rows-in (length (start .args .roads .now)) 20,
-        start .pre .0 .few,
-        start .pre .0 .buckets,
-        omega (arith, start .pre .0 .links, start .pre .0 .few),
-        after-word .word .ensures .1,
+        ready .few,
+        ready .buckets,
+        omega (arith, ready .links, ready .few),
+        first .word .ensures .1,
         c .word2 .ensures .1,
       ),
-      start .pre .0 .named,
+      ready .named,
     )
 
 mark-at-requires : tie.Need-mark-at-requires
 mark-at-requires c κs =
-    let after-word2 : tie.After-word2 = search in
-    let after-word : tie.After-word = search in
+    let second : tie.After-word2 = search in
+    let first : tie.After-word = search in
     let start : tie.Start = search in
-    let roads = start .args .roads .now in
-    let le = last-le (length roads / 20)
-    (bears (start .args .text .now) 20 0 roads
-    (span (after-word .word .result) (after-word2 .word2 .result))) in
-    omega (arith, c .find-name .ensures, start .pre .0 .even)
+    let row-low = last-le (roads start) (bearers start (first .word .result) (second .word2 .result)) in
+    omega (arith, c .find-name .ensures, start .pre .0 .even, row-low)
 
 returns : tie.Need-returns
 unfolding markOf roadRowOf
 returns c =
-    let after-find-name : tie.After-find-name = search in
-    let after-word2 : tie.After-word2 = search in
-    let after-word : tie.After-word = search in
+    let found : tie.After-find-name = search in
+    let second : tie.After-word2 = search in
+    let first : tie.After-word = search in
     let start : tie.Start = search in
-    let roads = start .args .roads .now in
-    c .mark-at .ensures
-    ∙ ap (markAt (start .args .marks .now))
-    (after-find-name .find-name .ensures
-    ∙ ap₂ (λ (a b : ℕ). lastOf (length roads / 20) (bears (start .args .text .now) 20 0 roads (span a b)))
-    (after-word .word .ensures .0) (after-word2 .word2 .ensures .0))
+    let row-is = found .find-name .ensures
+    ∙ ap₂ (λ s l. lastOf (roads start) (bearers start s l)) (first .word .ensures .0) (second .word2 .ensures .0) in
+    c .mark-at .ensures ∙ ap (markAt (start .args .marks .now)) row-is
 
 pub marked-spec : {M : Type 1} → statement M
 marked-spec =

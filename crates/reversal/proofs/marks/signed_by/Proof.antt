@@ -8,9 +8,9 @@ negate-requires c κs = search needs
 
 returns : tie.Need-returns
 returns c =
-    let then1 : tie.Then1 = search in
+    let marked : tie.Then1 = search in
     let start : tie.Start = search in
-    sign-on (start .args .mark) (start .args .number) (then1 .if1 .taken) (c .negate .ensures)
+    sign-on (start .args .mark) (start .args .number) (marked .if1 .taken) (c .negate .ensures)
 
 returns-2 : tie.Need-returns-2
 returns-2 c = search needs

@@ -1,3 +1,4 @@
+-- A target of kind road, whose name is that of a marked road.
 use borrow.Author.Needs.{needs}
 use Rattle.rules.proofs.Leaves.{both-is}
 use Rattle.reversal.specs.Turned.{toMarked}
@@ -40,13 +41,12 @@ both-requires-2 c κs = search needs
 returns : tie.Need-returns
 unfolding toMarked
 returns c =
-    let after-marked : tie.After-marked = search in
-    let after-both : tie.After-both = search in
-    let after-is2 : tie.After-is2 = search in
-    let after-is : tie.After-is = search in
-    both-is (c .both2 .ensures)
-    (both-is (after-both .both .ensures) (after-is .is .ensures) (after-is2 .is2 .ensures))
-    (after-marked .marked .ensures)
+    let marked : tie.After-marked = search in
+    let road : tie.After-both = search in
+    let of-kind : tie.After-is2 = search in
+    let there : tie.After-is = search in
+    let to-road = both-is (road .both .ensures) (there .is .ensures) (of-kind .is2 .ensures) in
+    both-is (c .both2 .ensures) to-road (marked .marked .ensures)
 
 pub to-marked-spec : {M : Type 1} → statement M
 to-marked-spec =

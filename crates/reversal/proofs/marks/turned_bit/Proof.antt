@@ -10,15 +10,15 @@ returns c =
 
 returns-2 : tie.Need-returns-2
 returns-2 c =
-    let else1 : tie.Else1 = search in
+    let marked : tie.Else1 = search in
     let start : tie.Start = search in
-    bit-zero (start .args .mark) (start .args .bit) (not-false _ (else1 .if1 .left)) (c .if2 .taken)
+    bit-zero (start .args .mark) (start .args .bit) (not-false _ (marked .if1 .left)) (c .if2 .taken)
 
 returns-3 : tie.Need-returns-3
 returns-3 c =
-    let else1 : tie.Else1 = search in
+    let marked : tie.Else1 = search in
     let start : tie.Start = search in
-    bit-one (start .args .mark) (start .args .bit) (not-false _ (else1 .if1 .left)) (c .if2 .left)
+    bit-one (start .args .mark) (start .args .bit) (not-false _ (marked .if1 .left)) (c .if2 .left)
 
 pub turned-bit-spec : {M : Type 1} → statement M
 turned-bit-spec = tie.close (tie.spec returns returns-2 returns-3)

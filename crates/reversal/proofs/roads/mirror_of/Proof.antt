@@ -22,8 +22,8 @@ cast-result c = search needs
 returns : tie.Need-returns
 unfolding mirror
 returns c =
-    let after-first-of : tie.After-first-of = search in
-    let e = after-first-of .first-of .ensures .0 in let f = c .last-of .ensures .0 in omega arith
+    let first : tie.After-first-of = search in
+    omega (arith, first .first-of .ensures .0, c .last-of .ensures .0)
 
 pub mirror-of-spec : {M : Type 1} → statement M
 mirror-of-spec =

@@ -1,19 +1,39 @@
-use Prim.Native.Nat.{ℕ, _+_, _*_}
+-- The road's numbers, mirrored or as they are, are put where they stood.
+use Prim.Native.Nat.{ℕ, _+_, _*_, _/_, _≤_}
+use mathlib.Core.Bool.{true}
 use mathlib.Core.List.{List}
-use mathlib.Core.Path.{refl, sym, ap, ap₂, _∙_}
+use mathlib.Core.Path.{_≡_, sym, ap, _∙_}
 use native.Mathlib.Omega.{arith}
-use lib.Dec.{eqb}
 use lib.ListN.{length, getD}
 use borrow.Author.Needs.{needs}
 use Rattle.model.specs.Lists.{ascends}
-use Rattle.model.specs.Reversal.{mirrored}
-use Rattle.words.specs.Rows.{spliced}
+use Rattle.words.proofs.Scans.{all-at}
 use Rattle.rules.specs.ByRow.{numbersAt}
-use Rattle.reversal.specs.Turned.{turnedSections}
-use Rattle.reversal.proofs.Leaves.{if-on, if-off}
-use Rattle.reversal.proofs.Places.{sections-room}
+use Rattle.reversal.proofs.Places.{numbers-marked, numbers-unmarked, sections-room}
 use Rattle.reversal.proofs.roads.put_numbers.Statement.{statement}
 use Rattle.reversal.proofs.roads.put_numbers.Tie as tie
+
+-- the road's numbers have room in their place, and ascend
+module _ (start : tie.Start) where
+  abbrev roads : List ℕ
+  roads = start .args .roads .now
+
+  abbrev numbers : ℕ → List ℕ
+  numbers = numbersAt roads (start .args .sections .now)
+
+  abbrev row : ℕ
+  row = start .args .road .0
+
+  room : getD roads (row * 20 + 18) 0 + length (numbers row) ≤ length (start .args .out .now)
+  room =
+      sections-room roads (start .args .sections .now) (start .pre .0 .parts) row (start .pre .1) _
+      (start .pre .0 .room)
+
+  up : ascends (numbers row) ≡ true
+  up = all-at (length roads / 20) row (λ i. ascends (numbers i)) (start .pre .0 .up) (start .pre .1)
+
+cast-i : tie.Need-cast-i
+cast-i c = search needs
 
 numbers-requires : tie.Need-numbers-requires
 numbers-requires c κs = search needs
@@ -38,71 +58,57 @@ is-requires c κs = search needs
 
 put-mirrored-requires : tie.Need-put-mirrored-requires
 put-mirrored-requires c κs =
-    let after-word : tie.After-word = search in
-    let after-numbers : tie.After-numbers = search in
+    let placed : tie.After-word = search in
+    let part : tie.After-numbers = search in
     let start : tie.Start = search in
-    let room = sections-room (start .args .roads .now) (start .args .sections .now) (start .args .marks .now)
-    (start .pre .3) (start .args .i) (start .pre .0) (length (start .args .out .now)) (start .pre .2) in
-    let w = after-word .word .ensures .0 in (
-      let n = ap length (after-numbers .numbers .ensures) in omega arith,
-      ap ascends (after-numbers .numbers .ensures) ∙ start .pre .4,
+    let size = ap length (part .numbers .ensures) in (
+      omega (arith, placed .word .ensures .0, size, room start),
+      ap ascends (part .numbers .ensures) ∙ up start,
     )
 
 same-length : tie.Need-same-length
 same-length c = search needs
 
 returns : tie.Need-returns
-unfolding turnedSections
 returns c =
-    let after-put-mirrored : tie.After-put-mirrored = search in
-    let then1 : tie.Then1 = search in
-    let after-is : tie.After-is = search in
-    let after-word : tie.After-word = search in
-    let after-numbers : tie.After-numbers = search in
+    let put : tie.After-put-mirrored = search in
+    let marked : tie.Then1 = search in
+    let asked : tie.After-is = search in
+    let placed : tie.After-word = search in
+    let part : tie.After-numbers = search in
     let start : tie.Start = search in
-    let out = start .args .out .now in let roads = start .args .roads .now in let i = start .args .i in
-    let sections = start .args .sections .now in
-    after-put-mirrored .put-mirrored .ensures
-    ∙ ap₂ (λ (a : ℕ) (p : List ℕ). spliced a (mirrored p) out) (after-word .word .ensures .0)
-    (after-numbers .numbers .ensures)
-    ∙ ap (λ (p : List ℕ). spliced (getD roads (i * 20 + 18) 0) p out)
-    (if-on (eqb (getD (start .args .marks .now) i 0) 1) (mirrored (numbersAt roads sections i))
-    (numbersAt roads sections i) (sym (after-is .is .ensures) ∙ then1 .if1 .taken) refl)
+    numbers-marked (roads start) (start .args .sections .now) (start .args .marks .now) (row start) _
+    (placed .word .ensures .0) (part .numbers .ensures) (sym (asked .is .ensures) ∙ marked .if1 .taken)
+    (put .put-mirrored .ensures)
 
 put-requires : tie.Need-put-requires
 put-requires c κs =
-    let after-word : tie.After-word = search in
-    let after-numbers : tie.After-numbers = search in
+    let placed : tie.After-word = search in
+    let part : tie.After-numbers = search in
     let start : tie.Start = search in
-    let room = sections-room (start .args .roads .now) (start .args .sections .now) (start .args .marks .now)
-    (start .pre .3) (start .args .i) (start .pre .0) (length (start .args .out .now)) (start .pre .2) in
-    let w = after-word .word .ensures .0 in (let n = ap length (after-numbers .numbers .ensures) in omega arith)
+    let size = ap length (part .numbers .ensures) in
+    omega (arith, placed .word .ensures .0, size, room start)
 
 same-length-2 : tie.Need-same-length-2
 same-length-2 c = search needs
 
 returns-2 : tie.Need-returns-2
-unfolding turnedSections
 returns-2 c =
-    let after-put : tie.After-put = search in
-    let else1 : tie.Else1 = search in
-    let after-is : tie.After-is = search in
-    let after-word : tie.After-word = search in
-    let after-numbers : tie.After-numbers = search in
+    let put : tie.After-put = search in
+    let unmarked : tie.Else1 = search in
+    let asked : tie.After-is = search in
+    let placed : tie.After-word = search in
+    let part : tie.After-numbers = search in
     let start : tie.Start = search in
-    let out = start .args .out .now in let roads = start .args .roads .now in let i = start .args .i in
-    let sections = start .args .sections .now in
-    after-put .put .ensures
-    ∙ ap₂ (λ (a : ℕ) (p : List ℕ). spliced a p out) (after-word .word .ensures .0)
-    (after-numbers .numbers .ensures)
-    ∙ ap (λ (p : List ℕ). spliced (getD roads (i * 20 + 18) 0) p out)
-    (if-off (eqb (getD (start .args .marks .now) i 0) 1) (mirrored (numbersAt roads sections i))
-    (numbersAt roads sections i) (sym (after-is .is .ensures) ∙ else1 .if1 .left) refl)
+    numbers-unmarked (roads start) (start .args .sections .now) (start .args .marks .now) (row start) _
+    (placed .word .ensures .0) (part .numbers .ensures) (sym (asked .is .ensures) ∙ unmarked .if1 .left)
+    (put .put .ensures)
 
 pub put-numbers-spec : {M : Type 1} → statement M
 put-numbers-spec =
     tie.close
     (tie.spec
+    cast-i
     numbers-requires
     mul-word
     add-word

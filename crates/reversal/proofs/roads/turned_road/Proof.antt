@@ -1,12 +1,12 @@
-use Prim.Native.Nat.{ℕ, _+_, _*_}
-use mathlib.Core.Path.{sym, ap, ap₂, _∙_}
-use lib.Dec.{eqb}
-use lib.ListN.{getD}
+-- The contacts of both targets turn over where these name a marked road; the targets swap where the road is marked.
+use mathlib.Core.Path.{sym, _∙_}
 use borrow.Author.Needs.{needs}
-use Rattle.reversal.specs.Turned.{contactAt, roadWith, turnBit, turnedRoad}
-use Rattle.reversal.proofs.Leaves.{if-on, if-off}
+use Rattle.reversal.proofs.Leaves.{contact-is, road-marked, road-unmarked}
 use Rattle.reversal.proofs.roads.turned_road.Statement.{statement}
 use Rattle.reversal.proofs.roads.turned_road.Tie as tie
+
+cast-i : tie.Need-cast-i
+cast-i c = search needs
 
 mul-at : tie.Need-mul-at
 mul-at c = search needs
@@ -60,50 +60,37 @@ road-with-requires : tie.Need-road-with-requires
 road-with-requires c κs = search needs
 
 returns : tie.Need-returns
-unfolding turnedRoad contactAt
 returns c =
-    let then1 : tie.Then1 = search in
-    let after-is : tie.After-is = search in
-    let after-turned-bit2 : tie.After-turned-bit2 = search in
-    let after-to-marked2 : tie.After-to-marked2 = search in
-    let after-turned-bit : tie.After-turned-bit = search in
-    let after-to-marked : tie.After-to-marked = search in
-    let start : tie.Start = search in
-    let i = start .args .i in let roads = start .args .roads .now in
-    if-on (eqb (getD (start .args .marks .now) i 0) 1) _ _ (sym (after-is .is .ensures) ∙ then1 .if1 .taken)
-    (c .road-with .ensures
-    ∙ ap₂ (λ (p q : ℕ). roadWith roads (i * 20) (i * 20 + 11) (i * 20 + 4) p q)
-    (after-turned-bit2 .turned-bit2 .ensures
-    ∙ ap (λ b. turnBit b (getD roads (i * 20 + 11 + 4) 0)) (after-to-marked2 .to-marked2 .ensures))
-    (after-turned-bit .turned-bit .ensures
-    ∙ ap (λ b. turnBit b (getD roads (i * 20 + 4 + 4) 0)) (after-to-marked .to-marked .ensures)))
+    let marked : tie.Then1 = search in
+    let asked : tie.After-is = search in
+    let after : tie.After-turned-bit2 = search in
+    let after-names : tie.After-to-marked2 = search in
+    let before : tie.After-turned-bit = search in
+    let before-names : tie.After-to-marked = search in
+    road-marked _ _ _ _ (contact-is _ _ _ _ (before-names .to-marked .ensures) (before .turned-bit .ensures))
+    (contact-is _ _ _ _ (after-names .to-marked2 .ensures) (after .turned-bit2 .ensures))
+    (sym (asked .is .ensures) ∙ marked .if1 .taken) (c .road-with .ensures)
 
 road-with-requires-2 : tie.Need-road-with-requires-2
 road-with-requires-2 c κs = search needs
 
 returns-2 : tie.Need-returns-2
-unfolding turnedRoad contactAt
 returns-2 c =
-    let else1 : tie.Else1 = search in
-    let after-is : tie.After-is = search in
-    let after-turned-bit2 : tie.After-turned-bit2 = search in
-    let after-to-marked2 : tie.After-to-marked2 = search in
-    let after-turned-bit : tie.After-turned-bit = search in
-    let after-to-marked : tie.After-to-marked = search in
-    let start : tie.Start = search in
-    let i = start .args .i in let roads = start .args .roads .now in
-    if-off (eqb (getD (start .args .marks .now) i 0) 1) _ _ (sym (after-is .is .ensures) ∙ else1 .if1 .left)
-    (c .road-with2 .ensures
-    ∙ ap₂ (λ (p q : ℕ). roadWith roads (i * 20) (i * 20 + 4) (i * 20 + 11) p q)
-    (after-turned-bit .turned-bit .ensures
-    ∙ ap (λ b. turnBit b (getD roads (i * 20 + 4 + 4) 0)) (after-to-marked .to-marked .ensures))
-    (after-turned-bit2 .turned-bit2 .ensures
-    ∙ ap (λ b. turnBit b (getD roads (i * 20 + 11 + 4) 0)) (after-to-marked2 .to-marked2 .ensures)))
+    let unmarked : tie.Else1 = search in
+    let asked : tie.After-is = search in
+    let after : tie.After-turned-bit2 = search in
+    let after-names : tie.After-to-marked2 = search in
+    let before : tie.After-turned-bit = search in
+    let before-names : tie.After-to-marked = search in
+    road-unmarked _ _ _ _ (contact-is _ _ _ _ (before-names .to-marked .ensures) (before .turned-bit .ensures))
+    (contact-is _ _ _ _ (after-names .to-marked2 .ensures) (after .turned-bit2 .ensures))
+    (sym (asked .is .ensures) ∙ unmarked .if1 .left) (c .road-with2 .ensures)
 
 pub turned-road-spec : {M : Type 1} → statement M
 turned-road-spec =
     tie.close
     (tie.spec
+    cast-i
     mul-at
     add-a
     add-b

@@ -1,274 +1,197 @@
-use lib.ListN.{length, getD, length-set}
-use native.Mathlib.Nat.{not-suc-le-zero}
-use Prim.Native.Nat.{ℕ, _+_, _*_, _-_, _/_, _<_, _≤_}
+-- Lane after lane: its road by name, and its section in that road. Before turn `i` that is done for the lanes
+-- below `i`, which is what `Listing` says.
+use Prim.Native.Nat.{_+_, _*_, _-_, _/_, _<_, _≤_}
 use native.Mathlib.Omega.{arith}
 use borrow.Author.Needs.{needs}
-use mathlib.Core.Path.{_≡_, refl, sym, ap, ap₂, _∙_, subst}
-use Rattle.model.specs.Records.{Span}
-use Rattle.words.specs.Keys.{bears}
-use Rattle.words.specs.Rows.{all, lastOf, nameAt, span}
-use Rattle.words.proofs.Chains.{last-le}
+use mathlib.Core.Path.{_≡_, refl, ap₂, _∙_}
+use mathlib.Core.Bool.{true, false}
+use lib.ListN.{length}
+use Rattle.model.specs.Rows.{partsFit, table}
+use Rattle.words.specs.Chain.{Chained}
+use Rattle.words.specs.Keys.{bears, nameBefore, nameHash}
+use Rattle.words.specs.Rows.{any, lastOf, nameAt, span}
+use Rattle.words.proofs.Chains.{found-le}
 use Rattle.words.proofs.KeyLaws.{row-in, rows-in}
-use Rattle.words.proofs.Scans.{all-more, all-none}
-use Rattle.rules.specs.ByRow.{Owned, listedAt}
-use Rattle.rules.proofs.Forms.{listed-row, owned-more}
-use Rattle.rules.proofs.Leaves.{both-is}
+use Rattle.rules.proofs.Forms.{Listing, all-listed, listing-more, listing-none}
 use Rattle.rules.proofs.lanes.lanes_listed.Statement.{statement}
 use Rattle.rules.proofs.lanes.lanes_listed.Tie as tie
 
 abbrev Inv-loop : tie.InvT-loop
 Inv-loop text roads sections lanes heads next owner₀ n every₀ i₀ owner every i =
-    (i ≤ n)
-    × (n ≡ length lanes / 10)
-    × (every ≡ all i (listedAt text roads sections lanes))
-    × (length owner ≡ 16384)
-    × Owned text roads lanes i owner
+    Listing text roads sections lanes owner every i
 
 abbrev μ-loop : tie.MeasureT-loop
 μ-loop text roads sections lanes heads next owner₀ n every₀ i₀ owner every i = n - i
 
+-- ---- the places
+abbrev Start : Type 0
+Start = tie.Start Inv-loop μ-loop
+
+abbrev Head : Type 0
+Head = tie.At-loop Inv-loop μ-loop
+
+abbrev Turn : Type 0
+Turn = tie.In-loop Inv-loop μ-loop
+
+-- ---- what is asked
+module _ (start : Start) where
+  few-roads : length (start .args .roads .now) / 20 ≤ 16384
+  few-roads = start .pre .0 .0
+
+  few-lanes : length (start .args .lanes .now) / 10 ≤ 16384
+  few-lanes = start .pre .0 .1
+
+  buckets : length (start .args .heads .now) ≡ 16384
+  buckets = start .pre .0 .2
+
+  links : length (start .args .next .now) ≡ 16384
+  links = start .pre .0 .3
+
+  owners : length (start .args .owner .now) ≡ 16384
+  owners = start .pre .0 .4
+
+  parts-fit : partsFit 18 19 0 (length (start .args .sections .now)) (table 20 (start .args .roads .now)) ≡ true
+  parts-fit = start .pre .1 .0
+
+  once : any (length (start .args .roads .now) / 20) (nameBefore (start .args .text .now) 20 0 (start .args .roads .now))
+      ≡ false
+  once = start .pre .1 .1 .0
+
+  chained : Chained (nameHash (start .args .text .now) 20 0 (start .args .roads .now))
+      (length (start .args .roads .now) / 20) (start .args .heads .now) (start .args .next .now)
+  chained = start .pre .1 .1 .1
+
+-- lane i has all its words, and its place in `owner`
+module _ (turn : Turn) where
+  abbrev head : Head
+  head = search
+
+  abbrev start : Start
+  start = search
+
+  lane-fits : head .loop .i * 10 + 9 < length (start .args .lanes .now)
+  lane-fits = row-in _ 10 9 _ _ (turn .loop-test .taken) (rows-in _ 10) (omega arith)
+
+  owner-fits : head .loop .i < length (head .loop .owner)
+  owner-fits = omega (arith, turn .loop-test .taken, head .loop .inv .room, few-lanes start)
+
+-- the row that was found is that of lane i's road
+module _ (found : tie.After-find-name Inv-loop μ-loop) where
+  abbrev second : tie.After-word2 Inv-loop μ-loop
+  second = search
+
+  abbrev turn : Turn
+  turn = search
+
+  road-small : found .find-name .result ≤ length (start turn .args .roads .now) / 20
+  road-small = found-le _ _ (found .find-name .ensures)
+
+  road-is : found .find-name .result
+      ≡ lastOf (length (start turn .args .roads .now) / 20)
+      (bears (start turn .args .text .now) 20 0 (start turn .args .roads .now)
+      (nameAt 10 1 (start turn .args .lanes .now) (head turn .loop .i)))
+  road-is =
+      let first : tie.After-word Inv-loop μ-loop = search in
+      let name-is = ap₂ span (first .word .ensures .0) (second .word2 .ensures .0) in
+      found .find-name .ensures ∙ rw name-is
+
 loop-holds : tie.Need-loop-holds Inv-loop μ-loop
 loop-holds c =
-    let start : tie.Start Inv-loop μ-loop = search in
-    (omega arith, refl, sym (all-none _), start .pre .0 .4, record { at = λ k lt. absurd (not-suc-le-zero lt) })
+    let start : Start = search in
+    listing-none (owners start)
 
 mul-word : tie.Need-mul-word Inv-loop μ-loop
-mul-word c =
-    let at-loop : tie.At-loop Inv-loop μ-loop = search in
-    let start : tie.Start Inv-loop μ-loop = search in
-    let lanes = start .args .lanes .now in
-    omega (
-      arith,
-      row-in (length lanes / 10) 10 9 (at-loop .loop .i) (length lanes)
-          (subst (λ (k : ℕ). at-loop .loop .i < k) (at-loop .loop .inv .1) (c .loop-test .taken))
-          (rows-in (length lanes) 10) (omega arith),
-    )
+mul-word c = omega (arith, lane-fits (search))
 
 add-word : tie.Need-add-word Inv-loop μ-loop
-add-word c =
-    let at-loop : tie.At-loop Inv-loop μ-loop = search in
-    let start : tie.Start Inv-loop μ-loop = search in
-    let lanes = start .args .lanes .now in
-    omega (
-      arith,
-      row-in (length lanes / 10) 10 9 (at-loop .loop .i) (length lanes)
-          (subst (λ (k : ℕ). at-loop .loop .i < k) (at-loop .loop .inv .1) (c .loop-test .taken))
-          (rows-in (length lanes) 10) (omega arith),
-    )
+add-word c = omega (arith, lane-fits (search))
 
 word-requires : tie.Need-word-requires Inv-loop μ-loop
-word-requires c κs =
-    let at-loop : tie.At-loop Inv-loop μ-loop = search in
-    let start : tie.Start Inv-loop μ-loop = search in
-    let lanes = start .args .lanes .now in
-    omega (
-      arith,
-      row-in (length lanes / 10) 10 9 (at-loop .loop .i) (length lanes)
-          (subst (λ (k : ℕ). at-loop .loop .i < k) (at-loop .loop .inv .1) (c .loop-test .taken))
-          (rows-in (length lanes) 10) (omega arith),
-    )
+word-requires c κs = omega (arith, lane-fits (search))
 
 mul-word-2 : tie.Need-mul-word-2 Inv-loop μ-loop
-mul-word-2 c =
-    let in-loop : tie.In-loop Inv-loop μ-loop = search in
-    let at-loop : tie.At-loop Inv-loop μ-loop = search in
-    let start : tie.Start Inv-loop μ-loop = search in
-    let lanes = start .args .lanes .now in
-    omega (
-      arith,
-      row-in (length lanes / 10) 10 9 (at-loop .loop .i) (length lanes)
-          (subst (λ (k : ℕ). at-loop .loop .i < k) (at-loop .loop .inv .1) (in-loop .loop-test .taken))
-          (rows-in (length lanes) 10) (omega arith),
-    )
+mul-word-2 c = omega (arith, lane-fits (search))
 
 add-word-2 : tie.Need-add-word-2 Inv-loop μ-loop
-add-word-2 c =
-    let in-loop : tie.In-loop Inv-loop μ-loop = search in
-    let at-loop : tie.At-loop Inv-loop μ-loop = search in
-    let start : tie.Start Inv-loop μ-loop = search in
-    let lanes = start .args .lanes .now in
-    omega (
-      arith,
-      row-in (length lanes / 10) 10 9 (at-loop .loop .i) (length lanes)
-          (subst (λ (k : ℕ). at-loop .loop .i < k) (at-loop .loop .inv .1) (in-loop .loop-test .taken))
-          (rows-in (length lanes) 10) (omega arith),
-    )
+add-word-2 c = omega (arith, lane-fits (search))
 
 add-word-3 : tie.Need-add-word-3 Inv-loop μ-loop
-add-word-3 c =
-    let in-loop : tie.In-loop Inv-loop μ-loop = search in
-    let at-loop : tie.At-loop Inv-loop μ-loop = search in
-    let start : tie.Start Inv-loop μ-loop = search in
-    let lanes = start .args .lanes .now in
-    omega (
-      arith,
-      row-in (length lanes / 10) 10 9 (at-loop .loop .i) (length lanes)
-          (subst (λ (k : ℕ). at-loop .loop .i < k) (at-loop .loop .inv .1) (in-loop .loop-test .taken))
-          (rows-in (length lanes) 10) (omega arith),
-    )
+add-word-3 c = omega (arith, lane-fits (search))
 
 word-requires-2 : tie.Need-word-requires-2 Inv-loop μ-loop
-word-requires-2 c κs =
-    let in-loop : tie.In-loop Inv-loop μ-loop = search in
-    let at-loop : tie.At-loop Inv-loop μ-loop = search in
-    let start : tie.Start Inv-loop μ-loop = search in
-    let lanes = start .args .lanes .now in
-    omega (
-      arith,
-      row-in (length lanes / 10) 10 9 (at-loop .loop .i) (length lanes)
-          (subst (λ (k : ℕ). at-loop .loop .i < k) (at-loop .loop .inv .1) (in-loop .loop-test .taken))
-          (rows-in (length lanes) 10) (omega arith),
-    )
+word-requires-2 c κs = omega (arith, lane-fits (search))
 
 find-name-requires : tie.Need-find-name-requires Inv-loop μ-loop
 find-name-requires c κs =
-    let after-word : tie.After-word Inv-loop μ-loop = search in
-    let start : tie.Start Inv-loop μ-loop = search in (
+    let first : tie.After-word Inv-loop μ-loop = search in
+    let start : Start = search in (
       (
         omega arith,
         omega arith,
-        rows-in (length (start .args .roads .now)) 20,
-        start .pre .0 .0,
-        start .pre .0 .2,
-        omega (arith, start .pre .0 .3, start .pre .0 .0),
-        after-word .word .ensures .1,
+        rows-in _ 20,
+        few-roads start,
+        buckets start,
+        omega (arith, links start, few-roads start),
+        first .word .ensures .1,
         c .word2 .ensures .1,
       ),
-      start .pre .1 .1 .1,
+      chained start,
     )
 
 cast-owner : tie.Need-cast-owner Inv-loop μ-loop
 cast-owner c =
-    let after-word2 : tie.After-word2 Inv-loop μ-loop = search in
-    let after-word : tie.After-word Inv-loop μ-loop = search in
-    let start : tie.Start Inv-loop μ-loop = search in
-    let roads = start .args .roads .now in
-    let le = last-le (length roads / 20)
-    (bears (start .args .text .now) 20 0 roads
-    (span (after-word .word .result) (after-word2 .word2 .result))) in
-    omega (arith, c .find-name .ensures, start .pre .0 .0)
+    let start : Start = search in
+    omega (arith, road-small (search), few-roads start)
 
 mul-owner : tie.Need-mul-owner Inv-loop μ-loop
 mul-owner c = search needs
 
 slice-write-owner : tie.Need-slice-write-owner Inv-loop μ-loop
-slice-write-owner c =
-    let in-loop : tie.In-loop Inv-loop μ-loop = search in
-    let at-loop : tie.At-loop Inv-loop μ-loop = search in
-    let start : tie.Start Inv-loop μ-loop = search in
-    omega (arith, at-loop .loop .inv .3, at-loop .loop .inv .1, in-loop .loop-test .taken, start .pre .0 .1)
+slice-write-owner c = owner-fits (search)
 
 mul-section-known : tie.Need-mul-section-known Inv-loop μ-loop
-mul-section-known c =
-    let in-loop : tie.In-loop Inv-loop μ-loop = search in
-    let at-loop : tie.At-loop Inv-loop μ-loop = search in
-    let start : tie.Start Inv-loop μ-loop = search in
-    let lanes = start .args .lanes .now in
-    omega (
-      arith,
-      row-in (length lanes / 10) 10 9 (at-loop .loop .i) (length lanes)
-          (subst (λ (k : ℕ). at-loop .loop .i < k) (at-loop .loop .inv .1) (in-loop .loop-test .taken))
-          (rows-in (length lanes) 10) (omega arith),
-    )
+mul-section-known c = omega (arith, lane-fits (search))
 
 add-section-known : tie.Need-add-section-known Inv-loop μ-loop
-add-section-known c =
-    let in-loop : tie.In-loop Inv-loop μ-loop = search in
-    let at-loop : tie.At-loop Inv-loop μ-loop = search in
-    let start : tie.Start Inv-loop μ-loop = search in
-    let lanes = start .args .lanes .now in
-    omega (
-      arith,
-      row-in (length lanes / 10) 10 9 (at-loop .loop .i) (length lanes)
-          (subst (λ (k : ℕ). at-loop .loop .i < k) (at-loop .loop .inv .1) (in-loop .loop-test .taken))
-          (rows-in (length lanes) 10) (omega arith),
-    )
+add-section-known c = omega (arith, lane-fits (search))
 
 mul-section-known-2 : tie.Need-mul-section-known-2 Inv-loop μ-loop
 mul-section-known-2 c = search needs
 
 shared-slice-read-section-known : tie.Need-shared-slice-read-section-known Inv-loop μ-loop
-shared-slice-read-section-known c =
-    let in-loop : tie.In-loop Inv-loop μ-loop = search in
-    let at-loop : tie.At-loop Inv-loop μ-loop = search in
-    let start : tie.Start Inv-loop μ-loop = search in
-    let lanes = start .args .lanes .now in
-    omega (
-      arith,
-      row-in (length lanes / 10) 10 9 (at-loop .loop .i) (length lanes)
-          (subst (λ (k : ℕ). at-loop .loop .i < k) (at-loop .loop .inv .1) (in-loop .loop-test .taken))
-          (rows-in (length lanes) 10) (omega arith),
-    )
+shared-slice-read-section-known c = omega (arith, lane-fits (search))
 
 section-known-requires : tie.Need-section-known-requires Inv-loop μ-loop
 section-known-requires c κs =
-    let after-find-name : tie.After-find-name Inv-loop μ-loop = search in
-    let after-word2 : tie.After-word2 Inv-loop μ-loop = search in
-    let after-word : tie.After-word Inv-loop μ-loop = search in
-    let start = after-word .before .before .before .before .before .before .before .before .before .before in
-    let roads = start .args .roads .now in
-    let le = last-le (length roads / 20)
-    (bears (start .args .text .now) 20 0 roads
-    (span (after-word .word .result) (after-word2 .word2 .result))) in
-    (start .pre .1 .0, omega (arith, after-find-name .find-name .ensures))
+    let turn : Turn = search in
+    (parts-fit (start turn), road-small (search))
 
 both-requires : tie.Need-both-requires Inv-loop μ-loop
 both-requires c κs = search needs
 
 add-i : tie.Need-add-i Inv-loop μ-loop
-add-i c =
-    let in-loop : tie.In-loop Inv-loop μ-loop = search in
-    omega (arith, in-loop .loop-test .taken)
+add-i c = let turn : Turn = search in omega (arith, turn .loop-test .taken)
 
 loop-less : tie.Need-loop-less Inv-loop μ-loop
-loop-less c =
-    let in-loop : tie.In-loop Inv-loop μ-loop = search in
-    omega (arith, in-loop .loop-test .taken)
+loop-less c = let turn : Turn = search in omega (arith, turn .loop-test .taken)
 
 loop-again : tie.Need-loop-again Inv-loop μ-loop
 loop-again c =
-    let after-section-known : tie.After-section-known Inv-loop μ-loop = search in
-    let after-find-name : tie.After-find-name Inv-loop μ-loop = search in
-    let after-word2 : tie.After-word2 Inv-loop μ-loop = search in
-    let after-word : tie.After-word Inv-loop μ-loop = search in
-    let in-loop : tie.In-loop Inv-loop μ-loop = search in
-    let at-loop : tie.At-loop Inv-loop μ-loop = search in
-    let start = at-loop .before .before .before .before .before .before .before .before in
-    let roads = start .args .roads .now in let text = start .args .text .now in
-    let lanes = start .args .lanes .now in
-    let l = at-loop .loop in
-    let n = ap₂ span (after-word .word .ensures .0) (after-word2 .word2 .ensures .0) in
-    let f = after-find-name .find-name .ensures
-    ∙ ap (λ (m : Span). lastOf (length roads / 20) (bears text 20 0 roads m)) n in (
-      omega (arith, in-loop .loop-test .taken),
-      l .inv .1,
-      both-is (c .both .ensures) (l .inv .2)
-          (after-section-known .section-known .ensures
-          ∙ listed-row text roads (start .args .sections .now) (nameAt 10 1 lanes (l .i))
-          (getD lanes (l .i * 10 + 3) 0) (after-find-name .find-name .result) (start .pre .1 .1 .0) f)
-          ∙ sym (all-more (l .i) _),
-      length-set (l .owner) (l .i) (after-find-name .find-name .result) ∙ l .inv .3,
-      owned-more text roads lanes (l .owner) (l .i) (l .inv .4)
-          (omega (arith, l .inv .3, l .inv .1, in-loop .loop-test .taken, start .pre .0 .1)) f refl,
-    )
+    let known : tie.After-section-known Inv-loop μ-loop = search in
+    let turn : Turn = search in
+    listing-more (head turn .loop .inv) (turn .loop-test .taken) (few-lanes (start turn)) (once (start turn)) (road-is (search))
+    (known .section-known .ensures) (c .both .ensures) refl
 
 same-length : tie.Need-same-length Inv-loop μ-loop
 same-length c =
-    let at-loop : tie.At-loop Inv-loop μ-loop = search in
-    let start : tie.Start Inv-loop μ-loop = search in
-    omega (arith, at-loop .loop .inv .3, start .pre .0 .4)
+    let head : Head = search in
+    let start : Start = search in
+    omega (arith, head .loop .inv .room, owners start)
 
 returns : tie.Need-returns Inv-loop μ-loop
 returns c =
-    let at-loop : tie.At-loop Inv-loop μ-loop = search in
-    let start : tie.Start Inv-loop μ-loop = search in
-    let lanes = start .args .lanes .now in let text = start .args .text .now in
-    let roads = start .args .roads .now in
-    let l = at-loop .loop in
-    let past : l .i ≡ length lanes / 10 = omega (arith, l .inv .0, l .inv .1, c .loop-test .left) in (
-      l .inv .2 ∙ ap (λ (k : ℕ). all k (listedAt text roads (start .args .sections .now) lanes)) past,
-      subst (λ (k : ℕ). Owned text roads lanes k (l .owner)) past (l .inv .4),
-    )
+    let head : Head = search in
+    all-listed (head .loop .inv) (c .loop-test .left)
 
 pub lanes-listed-spec : {M : Type 1} → statement M
 lanes-listed-spec =

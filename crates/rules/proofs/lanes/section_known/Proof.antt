@@ -8,29 +8,21 @@ use Rattle.rules.proofs.lanes.section_known.Tie as tie
 returns : tie.Need-returns
 returns c =
     let start : tie.Start = search in
-    listed-none (start .args .roads .now) (start .args .sections .now) (start .args .road)
-    (start .args .section) (c .if1 .taken)
-
-sub-numbers : tie.Need-sub-numbers
-sub-numbers c = search needs
-
-numbers-requires : tie.Need-numbers-requires
-numbers-requires c κs = search needs
-
-listed-requires : tie.Need-listed-requires
-listed-requires c κs = search needs
+    listed-none _ (start .args .sections .now) _ (start .args .section) (c .if1 .taken)
 
 returns-2 : tie.Need-returns-2
 returns-2 c =
-    let after-numbers : tie.After-numbers = search in
-    let else1 : tie.Else1 = search in
+    let taken : tie.After-numbers = search in
+    let known : tie.Else1 = search in
     let start : tie.Start = search in
-    let section = start .args .section in
     c .listed .ensures
-    ∙ ap (member section) (after-numbers .numbers .ensures)
-    ∙ listed-some (start .args .roads .now) (start .args .sections .now) (start .args .road) section
-    (else1 .if1 .left)
+    ∙ ap (member _) (taken .numbers .ensures)
+    ∙ listed-some _ (start .args .sections .now) _ (start .args .section) (known .if1 .left)
 
 pub section-known-spec : {M : Type 1} → statement M
 section-known-spec =
-    tie.close (tie.spec returns sub-numbers numbers-requires listed-requires returns-2)
+    tie.close
+    (tie.spec
+    returns
+    (λ c. search needs) (λ c κs. search needs) (λ c κs. search needs)
+    returns-2)

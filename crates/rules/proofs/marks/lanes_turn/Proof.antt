@@ -1,26 +1,35 @@
+-- Row after row, until one breaks the rule: before turn `i` those below `i` keep it, which is what `Passing` says.
+use Prim.Native.Nat.{_-_, _/_}
+use native.Mathlib.Omega.{arith}
 use borrow.Author.Needs.{needs}
 use borrow.Author.Tests.{not-true, not-false}
-use lib.ListN.{length, drop}
-use native.Mathlib.Omega.{arith}
-use mathlib.Core.Bool.{true}
-use mathlib.Core.Path.{_≡_, sym, ap, _∙_}
-use Prim.Native.Nat.{ℕ, _-_, _*_, _/_, _≤_}
+use mathlib.Core.Path.{sym, _∙_}
+use lib.ListN.{length}
 use Rattle.model.specs.Rules.{laneFine}
 use Rattle.model.specs.Tables.{laneIn}
-use Rattle.words.specs.Rows.{all}
-use Rattle.words.proofs.Scans.{all-miss, all-none, all-step}
+use Rattle.words.specs.Rows.{from}
+use Rattle.words.proofs.Scans.{Passing, all-pass, one-fails, passing-more, passing-none}
 use Rattle.rules.proofs.Turning.{lanes-fine-form}
 use Rattle.rules.proofs.marks.lanes_turn.Statement.{statement}
 use Rattle.rules.proofs.marks.lanes_turn.Tie as tie
 
 abbrev Inv-loop : tie.InvT-loop
-Inv-loop lanes n i₀ i = (i ≤ n) × (all i (λ (j : ℕ). laneFine (laneIn (drop (j * 10) lanes))) ≡ true)
+Inv-loop lanes n i₀ i = Passing (λ k. laneFine (laneIn (from 10 lanes k))) (length lanes / 10) i
 
 abbrev μ-loop : tie.MeasureT-loop
 μ-loop lanes n i₀ i = n - i
 
+abbrev Head : Type 0
+Head = tie.At-loop Inv-loop μ-loop
+
+abbrev Turn : Type 0
+Turn = tie.In-loop Inv-loop μ-loop
+
+abbrev Judged : Type 0
+Judged = tie.After-lane-turns Inv-loop μ-loop
+
 loop-holds : tie.Need-loop-holds Inv-loop μ-loop
-loop-holds c = (omega arith, all-none _)
+loop-holds c = passing-none
 
 mul-lane-turns : tie.Need-mul-lane-turns Inv-loop μ-loop
 mul-lane-turns c = search needs
@@ -30,13 +39,11 @@ lane-turns-requires c κs = omega arith
 
 returns : tie.Need-returns Inv-loop μ-loop
 returns c =
-    let after-lane-turns : tie.After-lane-turns Inv-loop μ-loop = search in
-    let at-loop : tie.At-loop Inv-loop μ-loop = search in
-    let start : tie.Start Inv-loop μ-loop = search in
-    let lanes = start .args .lanes .now in
-    sym (lanes-fine-form lanes
-    ∙ all-miss (length lanes / 10) (at-loop .loop .i) (λ (i : ℕ). laneFine (laneIn (drop (i * 10) lanes)))
-    (omega arith) (sym (after-lane-turns .lane-turns .ensures) ∙ not-true _ (c .if1 .taken)))
+    let judged : Judged = search in
+    let turn : Turn = search in
+    let head : Head = search in
+    let fails = sym (judged .lane-turns .ensures) ∙ not-true _ (c .if1 .taken) in
+    one-fails (head .loop .inv) (turn .loop-test .taken) fails ∙ sym (lanes-fine-form _)
 
 add-i : tie.Need-add-i Inv-loop μ-loop
 add-i c = omega arith
@@ -46,23 +53,16 @@ loop-less c = omega arith
 
 loop-again : tie.Need-loop-again Inv-loop μ-loop
 loop-again c =
-    let after-lane-turns : tie.After-lane-turns Inv-loop μ-loop = search in
-    let at-loop : tie.At-loop Inv-loop μ-loop = search in
-    let start : tie.Start Inv-loop μ-loop = search in (
-      omega arith,
-      all-step (at-loop .loop .i) (λ (i : ℕ). laneFine (laneIn (drop (i * 10) (start .args .lanes .now))))
-          (at-loop .loop .inv .1) (sym (after-lane-turns .lane-turns .ensures) ∙ not-false _ (c .if1 .left)),
-    )
+    let judged : Judged = search in
+    let turn : Turn = search in
+    let head : Head = search in
+    let passes = sym (judged .lane-turns .ensures) ∙ not-false _ (c .if1 .left) in
+    passing-more (head .loop .inv) (turn .loop-test .taken) passes
 
 returns-2 : tie.Need-returns-2 Inv-loop μ-loop
 returns-2 c =
-    let at-loop : tie.At-loop Inv-loop μ-loop = search in
-    let start : tie.Start Inv-loop μ-loop = search in
-    let lanes = start .args .lanes .now in
-    let past : length lanes / 10 ≡ at-loop .loop .i = omega arith in
-    sym (lanes-fine-form lanes
-    ∙ ap (λ (k : ℕ). all k (λ (i : ℕ). laneFine (laneIn (drop (i * 10) lanes)))) past
-    ∙ at-loop .loop .inv .1)
+    let head : Head = search in
+    all-pass (head .loop .inv) (c .loop-test .left) ∙ sym (lanes-fine-form _)
 
 pub lanes-turn-spec : {M : Type 1} → statement M
 lanes-turn-spec =

@@ -1,26 +1,35 @@
+-- Row after row, until one breaks the rule: before turn `i` those below `i` keep it, which is what `Passing` says.
+use Prim.Native.Nat.{_-_, _/_}
+use native.Mathlib.Omega.{arith}
 use borrow.Author.Needs.{needs}
 use borrow.Author.Tests.{not-true, not-false}
-use lib.ListN.{length, drop}
-use native.Mathlib.Omega.{arith}
-use mathlib.Core.Bool.{true}
-use mathlib.Core.Path.{_≡_, sym, ap, _∙_}
-use Prim.Native.Nat.{ℕ, _-_, _*_, _/_, _≤_}
+use mathlib.Core.Path.{sym, _∙_}
+use lib.ListN.{length}
 use Rattle.model.specs.Rules.{pairFine}
 use Rattle.model.specs.Tables.{pairIn}
-use Rattle.words.specs.Rows.{all}
-use Rattle.words.proofs.Scans.{all-miss, all-none, all-step}
+use Rattle.words.specs.Rows.{from}
+use Rattle.words.proofs.Scans.{Passing, all-pass, one-fails, passing-more, passing-none}
 use Rattle.rules.proofs.Turning.{pairs-fine-form}
 use Rattle.rules.proofs.marks.pairs_turn.Statement.{statement}
 use Rattle.rules.proofs.marks.pairs_turn.Tie as tie
 
 abbrev Inv-loop : tie.InvT-loop
-Inv-loop pairs n i₀ i = (i ≤ n) × (all i (λ (j : ℕ). pairFine (pairIn (drop (j * 2) pairs))) ≡ true)
+Inv-loop pairs n i₀ i = Passing (λ k. pairFine (pairIn (from 2 pairs k))) (length pairs / 2) i
 
 abbrev μ-loop : tie.MeasureT-loop
 μ-loop pairs n i₀ i = n - i
 
+abbrev Head : Type 0
+Head = tie.At-loop Inv-loop μ-loop
+
+abbrev Turn : Type 0
+Turn = tie.In-loop Inv-loop μ-loop
+
+abbrev Judged : Type 0
+Judged = tie.After-pair-turns Inv-loop μ-loop
+
 loop-holds : tie.Need-loop-holds Inv-loop μ-loop
-loop-holds c = (omega arith, all-none _)
+loop-holds c = passing-none
 
 mul-pair-turns : tie.Need-mul-pair-turns Inv-loop μ-loop
 mul-pair-turns c = search needs
@@ -30,13 +39,11 @@ pair-turns-requires c κs = omega arith
 
 returns : tie.Need-returns Inv-loop μ-loop
 returns c =
-    let after-pair-turns : tie.After-pair-turns Inv-loop μ-loop = search in
-    let at-loop : tie.At-loop Inv-loop μ-loop = search in
-    let start : tie.Start Inv-loop μ-loop = search in
-    let pairs = start .args .pairs .now in
-    sym (pairs-fine-form pairs
-    ∙ all-miss (length pairs / 2) (at-loop .loop .i) (λ (i : ℕ). pairFine (pairIn (drop (i * 2) pairs)))
-    (omega arith) (sym (after-pair-turns .pair-turns .ensures) ∙ not-true _ (c .if1 .taken)))
+    let judged : Judged = search in
+    let turn : Turn = search in
+    let head : Head = search in
+    let fails = sym (judged .pair-turns .ensures) ∙ not-true _ (c .if1 .taken) in
+    one-fails (head .loop .inv) (turn .loop-test .taken) fails ∙ sym (pairs-fine-form _)
 
 add-i : tie.Need-add-i Inv-loop μ-loop
 add-i c = omega arith
@@ -46,23 +53,16 @@ loop-less c = omega arith
 
 loop-again : tie.Need-loop-again Inv-loop μ-loop
 loop-again c =
-    let after-pair-turns : tie.After-pair-turns Inv-loop μ-loop = search in
-    let at-loop : tie.At-loop Inv-loop μ-loop = search in
-    let start : tie.Start Inv-loop μ-loop = search in (
-      omega arith,
-      all-step (at-loop .loop .i) (λ (i : ℕ). pairFine (pairIn (drop (i * 2) (start .args .pairs .now))))
-          (at-loop .loop .inv .1) (sym (after-pair-turns .pair-turns .ensures) ∙ not-false _ (c .if1 .left)),
-    )
+    let judged : Judged = search in
+    let turn : Turn = search in
+    let head : Head = search in
+    let passes = sym (judged .pair-turns .ensures) ∙ not-false _ (c .if1 .left) in
+    passing-more (head .loop .inv) (turn .loop-test .taken) passes
 
 returns-2 : tie.Need-returns-2 Inv-loop μ-loop
 returns-2 c =
-    let at-loop : tie.At-loop Inv-loop μ-loop = search in
-    let start : tie.Start Inv-loop μ-loop = search in
-    let pairs = start .args .pairs .now in
-    let past : length pairs / 2 ≡ at-loop .loop .i = omega arith in
-    sym (pairs-fine-form pairs
-    ∙ ap (λ (k : ℕ). all k (λ (i : ℕ). pairFine (pairIn (drop (i * 2) pairs)))) past
-    ∙ at-loop .loop .inv .1)
+    let head : Head = search in
+    all-pass (head .loop .inv) (c .loop-test .left) ∙ sym (pairs-fine-form _)
 
 pub pairs-turn-spec : {M : Type 1} → statement M
 pairs-turn-spec =

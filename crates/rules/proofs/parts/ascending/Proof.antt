@@ -1,3 +1,4 @@
+-- Number after number: before turn `k` each of the first `k` is below its next.
 use borrow.Author.Needs.{needs}
 use borrow.Author.Count.{below-none, below-more}
 use lib.ListN.{length, getD}
@@ -14,6 +15,12 @@ Inv-loop part k₀ k = (k ≤ length part) × ((j : ℕ) → j < k → getD part
 
 abbrev μ-loop : tie.MeasureT-loop
 μ-loop part k₀ k = length part - k
+
+abbrev Start : Type 0
+Start = tie.Start Inv-loop μ-loop
+
+abbrev Head : Type 0
+Head = tie.At-loop Inv-loop μ-loop
 
 loop-holds : tie.Need-loop-holds Inv-loop μ-loop
 loop-holds c = (omega arith, below-none _)
@@ -38,9 +45,9 @@ shared-slice-read-if1-2 c = omega arith
 
 returns : tie.Need-returns Inv-loop μ-loop
 returns c =
-    let at-loop : tie.At-loop Inv-loop μ-loop = search in
-    let start : tie.Start Inv-loop μ-loop = search in
-    sym (ascend-off (start .args .part .now) (at-loop .loop .k) (omega arith) (c .if1 .taken))
+    let head : Head = search in
+    let start : Start = search in
+    sym (ascend-off (start .args .part .now) (head .loop .k) (omega arith) (c .if1 .taken))
 
 add-k : tie.Need-add-k Inv-loop μ-loop
 add-k c = omega arith
@@ -50,15 +57,14 @@ loop-less c = omega arith
 
 loop-again : tie.Need-loop-again Inv-loop μ-loop
 loop-again c =
-    let at-loop : tie.At-loop Inv-loop μ-loop = search in
-    (omega arith, below-more _ _ (at-loop .loop .inv .1) (c .if1 .left))
+    let head : Head = search in
+    (omega arith, below-more _ _ (head .loop .inv .1) (c .if1 .left))
 
 returns-2 : tie.Need-returns-2 Inv-loop μ-loop
 returns-2 c =
-    let at-loop : tie.At-loop Inv-loop μ-loop = search in
-    let start : tie.Start Inv-loop μ-loop = search in
-    sym
-    (ascend-on (start .args .part .now) (λ k h. at-loop .loop .inv .1 k (omega (arith, c .loop-test .left))))
+    let head : Head = search in
+    let start : Start = search in
+    sym (ascend-on (start .args .part .now) (λ k h. head .loop .inv .1 k (omega (arith, c .loop-test .left))))
 
 pub ascending-spec : {M : Type 1} → statement M
 ascending-spec =

@@ -1,123 +1,105 @@
+-- Row after row: each part begins where the one before it ends, and none ends past row `n`. `Reached` says how far that
+-- has been seen before turn `i`.
+use Prim.Native.Nat.{_+_, _-_, _*_, _<_}
 use native.Mathlib.Nat.{div-le-self}
-use borrow.Author.Tests.{eq-eqb, ne-eqb}
-use lib.Dec.{eqb}
-use lib.ListN.{length, getD, drop}
 use native.Mathlib.Omega.{arith}
-use mathlib.Core.Path.{_≡_, refl, sym, ap, _∙_}
-use Prim.Native.Nat.{ℕ, _+_, _-_, _*_, _≤_}
-use Rattle.model.specs.Rows.{partsFit, table}
-use Rattle.words.proofs.Scans.{and-off, and-off-left, and-on}
-use Rattle.rules.proofs.Fits.{fit-end, fit-over, fit-step, in-row}
+use mathlib.Core.Path.{refl}
+use lib.ListN.{length}
+use Rattle.rules.proofs.Fits.{Reached, begins-elsewhere, ends-past, in-row, reached-end, reached-more}
 use Rattle.rules.proofs.parts.parts_fit.Statement.{statement}
 use Rattle.rules.proofs.parts.parts_fit.Tie as tie
 
 abbrev Inv-loop : tie.InvT-loop
-Inv-loop ws w kf kc n rows at₀ i₀ at i =
-    (i ≤ rows) × (at ≤ n) × (partsFit kf kc 0 n (table w ws) ≡ partsFit kf kc at n (drop i (table w ws)))
+Inv-loop ws w kf kc n rows at₀ i₀ at i = Reached w kf kc n ws at i
 
 abbrev μ-loop : tie.MeasureT-loop
 μ-loop ws w kf kc n rows at₀ i₀ at i = rows - i
+
+-- ---- the places
+abbrev Start : Type 0
+Start = tie.Start Inv-loop μ-loop
+
+abbrev Head : Type 0
+Head = tie.At-loop Inv-loop μ-loop
+
+abbrev Turn : Type 0
+Turn = tie.In-loop Inv-loop μ-loop
+
+-- ---- what is asked
+module _ (start : Start) where
+  first-inside : start .args .kf < start .args .w
+  first-inside = start .pre .2
+
+  count-inside : start .args .kc < start .args .w
+  count-inside = start .pre .3
+
+-- both words of row i's part are in the table
+module _ (turn : Turn) where
+  abbrev head : Head
+  head = search
+
+  abbrev start : Start
+  start = search
+
+  first-in : head .loop .i * start .args .w + start .args .kf < length (start .args .ws .now)
+  first-in = in-row _ _ _ _ (turn .loop-test .taken) (first-inside start)
+
+  count-in : head .loop .i * start .args .w + start .args .kc < length (start .args .ws .now)
+  count-in = in-row _ _ _ _ (turn .loop-test .taken) (count-inside start)
 
 div-rows : tie.Need-div-rows Inv-loop μ-loop
 div-rows c = omega arith
 
 loop-holds : tie.Need-loop-holds Inv-loop μ-loop
-loop-holds c = (omega arith, omega arith, refl)
+loop-holds c = record { below = omega arith; inside = omega arith; rest = refl }
 
 mul-word : tie.Need-mul-word Inv-loop μ-loop
-mul-word c =
-    let at-loop : tie.At-loop Inv-loop μ-loop = search in
-    let start : tie.Start Inv-loop μ-loop = search in
-    omega (
-      arith,
-      in-row (length (start .args .ws .now)) (start .args .w) (at-loop .loop .i) (start .args .kf)
-          (c .loop-test .taken) (start .pre .2),
-    )
+mul-word c = omega (arith, first-in (search))
 
 add-word : tie.Need-add-word Inv-loop μ-loop
-add-word c =
-    let at-loop : tie.At-loop Inv-loop μ-loop = search in
-    let start : tie.Start Inv-loop μ-loop = search in
-    omega (
-      arith,
-      in-row (length (start .args .ws .now)) (start .args .w) (at-loop .loop .i) (start .args .kf)
-          (c .loop-test .taken) (start .pre .2),
-    )
+add-word c = omega (arith, first-in (search))
 
 word-requires : tie.Need-word-requires Inv-loop μ-loop
-word-requires c κs =
-    let at-loop : tie.At-loop Inv-loop μ-loop = search in
-    let start : tie.Start Inv-loop μ-loop = search in
-    in-row (length (start .args .ws .now)) (start .args .w) (at-loop .loop .i) (start .args .kf)
-    (c .loop-test .taken) (start .pre .2)
+word-requires c κs = first-in (search)
 
 mul-word-2 : tie.Need-mul-word-2 Inv-loop μ-loop
-mul-word-2 c =
-    let in-loop : tie.In-loop Inv-loop μ-loop = search in
-    let at-loop : tie.At-loop Inv-loop μ-loop = search in
-    let start : tie.Start Inv-loop μ-loop = search in
-    omega (
-      arith,
-      in-row (length (start .args .ws .now)) (start .args .w) (at-loop .loop .i) (start .args .kc)
-          (in-loop .loop-test .taken) (start .pre .3),
-    )
+mul-word-2 c = omega (arith, count-in (search))
 
 add-word-2 : tie.Need-add-word-2 Inv-loop μ-loop
-add-word-2 c =
-    let in-loop : tie.In-loop Inv-loop μ-loop = search in
-    let at-loop : tie.At-loop Inv-loop μ-loop = search in
-    let start : tie.Start Inv-loop μ-loop = search in
-    omega (
-      arith,
-      in-row (length (start .args .ws .now)) (start .args .w) (at-loop .loop .i) (start .args .kc)
-          (in-loop .loop-test .taken) (start .pre .3),
-    )
+add-word-2 c = omega (arith, count-in (search))
 
 word-requires-2 : tie.Need-word-requires-2 Inv-loop μ-loop
-word-requires-2 c κs =
-    let in-loop : tie.In-loop Inv-loop μ-loop = search in
-    let at-loop : tie.At-loop Inv-loop μ-loop = search in
-    let start : tie.Start Inv-loop μ-loop = search in
-    in-row (length (start .args .ws .now)) (start .args .w) (at-loop .loop .i) (start .args .kc)
-    (in-loop .loop-test .taken) (start .pre .3)
+word-requires-2 c κs = count-in (search)
 
 returns : tie.Need-returns Inv-loop μ-loop
 returns c =
-    let after-word : tie.After-word Inv-loop μ-loop = search in
-    let in-loop : tie.In-loop Inv-loop μ-loop = search in
-    let at-loop : tie.At-loop Inv-loop μ-loop = search in
-    let start : tie.Start Inv-loop μ-loop = search in
-    sym (at-loop .loop .inv .2
-    ∙ fit-step (start .args .w) (start .args .kf) (start .args .kc) (start .args .n) (start .args .ws .now)
-    (start .pre .2) (start .pre .3) (at-loop .loop .at) (at-loop .loop .i) (in-loop .loop-test .taken)
-    ∙ and-off-left _ _ (ne-eqb _ _ (λ e. c .if1 .taken (after-word .word .ensures .0 ∙ e))))
+    let second : tie.After-word2 Inv-loop μ-loop = search in
+    let first : tie.After-word Inv-loop μ-loop = search in
+    let turn : Turn = search in
+    let head : Head = search in
+    let start : Start = search in
+    begins-elsewhere (head .loop .inv) (first-inside start) (count-inside start) (turn .loop-test .taken)
+    (first .word .ensures .0) (second .word2 .ensures .0) (c .if1 .taken)
 
 sub-if2 : tie.Need-sub-if2 Inv-loop μ-loop
 sub-if2 c = omega arith
 
 returns-2 : tie.Need-returns-2 Inv-loop μ-loop
 returns-2 c =
-    let after-word2 : tie.After-word2 Inv-loop μ-loop = search in
-    let in-loop : tie.In-loop Inv-loop μ-loop = search in
-    let at-loop : tie.At-loop Inv-loop μ-loop = search in
-    let start : tie.Start Inv-loop μ-loop = search in
-    let w = start .args .w in let kf = start .args .kf in let kc = start .args .kc in let n = start .args .n in
-    let ws = start .args .ws .now in
-    let e = after-word2 .word2 .ensures .0 in
-    let l = at-loop .loop in
-    sym (l .inv .2
-    ∙ fit-step w kf kc n ws (start .pre .2) (start .pre .3) (at-loop .loop .at) (at-loop .loop .i)
-    (in-loop .loop-test .taken)
-    ∙ and-off (eqb (getD ws (l .i * w + kf) 0) (l .at)) _
-    (fit-over kf kc (l .at + getD ws (l .i * w + kc) 0) n (drop (l .i + 1) (table w ws))
-    (omega (arith, e, c .if2 .taken, l .inv .1))))
+    let second : tie.After-word2 Inv-loop μ-loop = search in
+    let first : tie.After-word Inv-loop μ-loop = search in
+    let turn : Turn = search in
+    let head : Head = search in
+    let start : Start = search in
+    ends-past (head .loop .inv) (first-inside start) (count-inside start) (turn .loop-test .taken)
+    (first .word .ensures .0) (second .word2 .ensures .0) (c .if2 .taken)
 
 add-at : tie.Need-add-at Inv-loop μ-loop
 add-at c = omega arith
 
 add-i : tie.Need-add-i Inv-loop μ-loop
 add-i c =
-    let start : tie.Start Inv-loop μ-loop = search in
+    let start : Start = search in
     omega (arith, div-le-self (length (start .args .ws .now)) (start .args .w))
 
 loop-less : tie.Need-loop-less Inv-loop μ-loop
@@ -125,32 +107,20 @@ loop-less c = omega arith
 
 loop-again : tie.Need-loop-again Inv-loop μ-loop
 loop-again c =
-    let else1 : tie.Else1 Inv-loop μ-loop = search in
-    let after-word2 : tie.After-word2 Inv-loop μ-loop = search in
-    let after-word : tie.After-word Inv-loop μ-loop = search in
-    let in-loop : tie.In-loop Inv-loop μ-loop = search in
-    let at-loop : tie.At-loop Inv-loop μ-loop = search in
-    let start : tie.Start Inv-loop μ-loop = search in
-    let w = start .args .w in let kf = start .args .kf in let kc = start .args .kc in let n = start .args .n in
-    let ws = start .args .ws .now in
-    let e = after-word2 .word2 .ensures .0 in
-    let l = at-loop .loop in (
-      omega arith,
-      omega (arith, c .if2 .left, l .inv .1),
-      l .inv .2
-          ∙ fit-step w kf kc n ws (start .pre .2) (start .pre .3) (at-loop .loop .at) (at-loop .loop .i)
-          (in-loop .loop-test .taken)
-          ∙ and-on _ _ (eq-eqb _ _ (sym (after-word .word .ensures .0) ∙ else1 .if1 .left))
-          ∙ ap (λ (k : ℕ). partsFit kf kc (l .at + k) n (drop (l .i + 1) (table w ws))) (sym e),
-    )
+    let begins : tie.Else1 Inv-loop μ-loop = search in
+    let second : tie.After-word2 Inv-loop μ-loop = search in
+    let first : tie.After-word Inv-loop μ-loop = search in
+    let turn : Turn = search in
+    let head : Head = search in
+    let start : Start = search in
+    reached-more (head .loop .inv) (first-inside start) (count-inside start) (turn .loop-test .taken)
+    (first .word .ensures .0) (second .word2 .ensures .0) (begins .if1 .left) (c .if2 .left)
 
 returns-3 : tie.Need-returns-3 Inv-loop μ-loop
 returns-3 c =
-    let at-loop : tie.At-loop Inv-loop μ-loop = search in
-    let start : tie.Start Inv-loop μ-loop = search in
-    sym (at-loop .loop .inv .2
-    ∙ fit-end (start .args .w) (start .args .kf) (start .args .kc) (start .args .n) (start .args .ws .now)
-    (start .pre .2) (start .pre .3) (at-loop .loop .at) (at-loop .loop .i) (omega arith))
+    let head : Head = search in
+    let start : Start = search in
+    reached-end (head .loop .inv) (first-inside start) (count-inside start) (c .loop-test .left)
 
 pub parts-fit-spec : {M : Type 1} → statement M
 parts-fit-spec =

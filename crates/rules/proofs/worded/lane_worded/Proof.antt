@@ -1,6 +1,4 @@
--- Every call's answer is a part of the row's test, and `both` joins them.
-use mathlib.Core.Path.{sym, _∙_}
-use native.Mathlib.Omega.{arith}
+-- Each call's answer is one part of the row's test, and `both` joins them.
 use borrow.Author.Needs.{needs}
 use Rattle.rules.proofs.Locals.{lane-words}
 use Rattle.rules.proofs.worded.lane_worded.Statement.{statement}
@@ -15,17 +13,8 @@ pub lane-worded-spec : {M : Type 1} → statement M
 lane-worded-spec =
     tie.close
     (tie.spec
-    (λ c. omega arith)
-    (λ c κs. search needs)
-    (λ c. omega arith)
-    (λ c. omega arith)
-    (λ c. omega arith)
-    (λ c κs. search needs)
-    (λ c κs. search needs)
-    (λ c. omega arith)
-    (λ c κs. search needs)
-    (λ c κs. search needs)
-    (λ c. omega arith)
-    (λ c κs. search needs)
-    (λ c κs. search needs)
+    (λ c. search needs) (λ c κs. search needs)
+    (λ c. search needs) (λ c. search needs) (λ c. search needs) (λ c κs. search needs) (λ c κs. search needs)
+    (λ c. search needs) (λ c κs. search needs) (λ c κs. search needs)
+    (λ c. search needs) (λ c κs. search needs) (λ c κs. search needs)
     returns)

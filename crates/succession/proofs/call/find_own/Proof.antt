@@ -1,16 +1,25 @@
+-- `find_own` turns names into rows, chains the connections, and lets `own_lists` fill in the lists.
 use Rattle.succession.proofs.Packing.{filled-same}
 use Rattle.succession.proofs.Admits.{exits-fit, fewer, fewer-junctions, fewer-lanes, own-is, parts-good}
 use Rattle.succession.proofs.Admits.{sound}
 use Rattle.succession.specs.Answers.{ownList}
-use Rattle.succession.specs.ByRow.{rowsOf, successorsByRow}
-use Rattle.model.specs.Tables.{laneTables}
+use Rattle.succession.specs.ByRow.{Rows, rowsOf, successorsByRow}
+use Rattle.model.specs.Tables.{Tables, laneTables}
 use lib.ListN.{length, length-replicate}
 use native.Mathlib.Omega.{arith}
-use mathlib.Core.Path.{_∙_}
+use mathlib.Core.List.{List}
+use mathlib.Core.Path.{_≡_, _∙_}
 use Prim.Native.Nat.{ℕ, _/_}
 use borrow.Author.Needs.{needs}
 use Rattle.succession.proofs.call.find_own.Statement.{statement}
 use Rattle.succession.proofs.call.find_own.Tie as tie
+
+module _ (start : tie.Start) where
+  abbrev tables : Tables
+  tables =
+      laneTables (start .args .text .now) (start .args .roads .now) (start .args .sections .now)
+      (start .args .junctions .now) (start .args .connections .now) (start .args .pairs .now)
+      (start .args .lanes .now)
 
 slice-aggregate-link-rows : tie.Need-slice-aggregate-link-rows
 slice-aggregate-link-rows c = search needs
@@ -21,43 +30,51 @@ slice-aggregate-link-rows-2 c = search needs
 link-rows-requires : tie.Need-link-rows-requires
 link-rows-requires c κs =
     let start : tie.Start = search in
-    let text = start .args .text .now in let roads = start .args .roads .now in
-    let sections = start .args .sections .now in let junctions = start .args .junctions .now in
-    let connections = start .args .connections .now in let pairs = start .args .pairs .now in
-    let lanes = start .args .lanes .now in (
-      (
-        fewer (laneTables text roads sections junctions connections pairs lanes) (start .pre .0) .few-roads,
-        start .pre .1 .1 .0,
-        start .pre .1 .1 .1,
-        fewer-junctions (laneTables text roads sections junctions connections pairs lanes) (start .pre .0),
-        fewer (laneTables text roads sections junctions connections pairs lanes) (start .pre .0) .few-connections,
-        length-replicate {A = ℕ} 32768 0,
-        length-replicate {A = ℕ} 32768 0,
-      ),
+    let t = tables start in
+    let admitted = start .pre .0 in
+    let lent = start .pre .1 .1 in
+    let few = fewer t admitted in
+    let new = length-replicate {A = ℕ} 32768 0 in (
+      (few .few-roads, lent .0, lent .1, fewer-junctions t admitted, few .few-connections, new, new),
       start .pre .1 .0 .named,
     )
+
+-- ---- once names are rows
+module _ (named : tie.After-link-rows) where
+  abbrev begun : tie.Start
+  begun = search
+
+  abbrev sides : List ℕ
+  sides = named .link-rows .last .1 .1 .1 .1 .1 .1 .0
+
+  abbrev ends : List ℕ
+  ends = named .link-rows .last .1 .1 .1 .1 .1 .1 .1 .0
+
+  sides-long : length sides ≡ 32768
+  sides-long = named .link-rows .kept .1 .1 .1 .1 .1 .1 .0 ∙ length-replicate {A = ℕ} 32768 0
+
+  ends-long : length ends ≡ 32768
+  ends-long = named .link-rows .kept .1 .1 .1 .1 .1 .1 .1 .0 ∙ length-replicate {A = ℕ} 32768 0
+
+  abbrev walk : Rows
+  walk =
+      rowsOf (begun .args .roads .now) (begun .args .sections .now) (begun .args .junctions .now)
+      (begun .args .connections .now) (begun .args .pairs .now) (begun .args .lanes .now) (begun .args .owner .now)
+      sides ends
 
 slice-aggregate-link-connections : tie.Need-slice-aggregate-link-connections
 slice-aggregate-link-connections c = search needs
 
 link-connections-requires : tie.Need-link-connections-requires
 link-connections-requires c κs =
-    let after-link-rows : tie.After-link-rows = search in
-    let after-shared-slice-known10 = after-link-rows .before .before .before .before .before .before .before in
-    let after-shared-slice-known5 = after-shared-slice-known10 .before .before .before .before .before .before .before in
-    let start = after-shared-slice-known5 .before .before .before .before .before in
-    let text = start .args .text .now in let roads = start .args .roads .now in
-    let sections = start .args .sections .now in let junctions = start .args .junctions .now in
-    let connections = start .args .connections .now in let pairs = start .args .pairs .now in
-    let lanes = start .args .lanes .now in (
-      (
-        fewer (laneTables text roads sections junctions connections pairs lanes) (start .pre .0) .few-connections,
-        fewer-junctions (laneTables text roads sections junctions connections pairs lanes) (start .pre .0),
-        (after-link-rows .link-rows .kept .1 .1 .1 .1 .1 .1 .0 ∙ length-replicate {A = ℕ} 32768 0),
-        start .pre .1 .1 .0,
-        start .pre .1 .1 .1,
-      ),
-      parts-good (laneTables text roads sections junctions connections pairs lanes) (start .pre .0) .0,
+    let named : tie.After-link-rows = search in
+    let start = begun named in
+    let t = tables start in
+    let admitted = start .pre .0 in
+    let lent = start .pre .1 .1 in
+    let few = fewer t admitted in (
+      (few .few-connections, fewer-junctions t admitted, sides-long named, lent .0, lent .1),
+      parts-good t admitted .0,
     )
 
 slice-aggregate-own-lists : tie.Need-slice-aggregate-own-lists
@@ -68,43 +85,24 @@ slice-aggregate-own-lists-2 c = search needs
 
 own-lists-requires : tie.Need-own-lists-requires
 own-lists-requires c κs =
-    let after-link-connections : tie.After-link-connections = search in
-    let after-link-rows : tie.After-link-rows = search in
-    let after-shared-slice-known10 = after-link-rows .before .before .before .before .before .before .before in
-    let after-shared-slice-known5 = after-shared-slice-known10 .before .before .before .before .before .before .before in
-    let start = after-shared-slice-known5 .before .before .before .before .before in
-    let text = start .args .text .now in let roads = start .args .roads .now in
-    let sections = start .args .sections .now in let junctions = start .args .junctions .now in
-    let connections = start .args .connections .now in let pairs = start .args .pairs .now in
-    let lanes = start .args .lanes .now in let heads = start .args .heads .now in
-    let next = start .args .next .now in let owner = start .args .owner .now in
-    let kheads = start .args .kheads .now in let knext = start .args .knext .now in (
-      sound (laneTables text roads sections junctions connections pairs lanes) (start .pre .0)
-          (start .pre .1 .0) (after-link-rows .link-rows .ensures .0)
-          (after-link-rows .link-rows .ensures .1) (start .pre .1 .1 .2) (start .pre .1 .1 .3)
-          (start .pre .1 .1 .4)
-          (after-link-rows .link-rows .kept .1 .1 .1 .1 .1 .1 .0 ∙ length-replicate {A = ℕ} 32768 0)
-          (after-link-rows .link-rows .kept .1 .1 .1 .1 .1 .1 .1 .0 ∙ length-replicate {A = ℕ} 32768 0),
+    let chained : tie.After-link-connections = search in
+    let named : tie.After-link-rows = search in
+    let start = begun named in
+    let t = tables start in
+    let admitted = start .pre .0 in
+    let linked = start .pre .1 .0 in
+    let lent = start .pre .1 .1 in
+    let rows = named .link-rows .ensures in
+    let fit =
+    exits-fit t admitted linked (rows .0) (rows .1) (lent .2) (lent .3) (lent .4) (sides-long named)
+    (ends-long named) in (
+      sound t admitted linked (rows .0) (rows .1) (lent .2) (lent .3) (lent .4) (sides-long named) (ends-long named),
       (
-        after-link-connections .link-connections .ensures,
+        chained .link-connections .ensures,
         (
-          omega (
-            arith,
-            start .pre .1 .1 .5,
-            fewer-lanes (laneTables text roads sections junctions connections pairs lanes) (start .pre .0),
-          ),
-          omega (arith, start .pre .1 .1 .6),
-          omega (
-            arith,
-            start .pre .1 .1 .6,
-            exits-fit (laneTables text roads sections junctions connections pairs lanes) (start .pre .0) (start .pre .1 .0)
-                (after-link-rows .link-rows .ensures .0) (after-link-rows .link-rows .ensures .1)
-                (start .pre .1 .1 .2) (start .pre .1 .1 .3) (start .pre .1 .1 .4)
-                (after-link-rows .link-rows .kept .1 .1 .1 .1 .1 .1 .0
-                ∙ length-replicate {A = ℕ} 32768 0)
-                (after-link-rows .link-rows .kept .1 .1 .1 .1 .1 .1 .1 .0
-                ∙ length-replicate {A = ℕ} 32768 0),
-          ),
+          omega (arith, lent .5, fewer-lanes t admitted),
+          omega (arith, lent .6),
+          omega (arith, lent .6, fit),
         ),
       ),
     )
@@ -121,31 +119,24 @@ same-length-3 c = search needs
 same-length-4 : tie.Need-same-length-4
 same-length-4 c = search needs
 
+module _ (chained : tie.After-link-connections) where
+  abbrev named : tie.After-link-rows
+  named = search
+
 returns : tie.Need-returns
 returns c =
-    let after-own-lists : tie.After-own-lists = search in
-    let after-slice-known6 = after-own-lists .before .before .before .before .before .before .before in
-    let after-sides3 = after-slice-known6 .before .before .before .before .before .before .before in
-    let after-link-rows = after-sides3 .before .before .before in
-    let after-shared-slice-known10 = after-link-rows .before .before .before .before .before .before .before in
-    let after-shared-slice-known5 = after-shared-slice-known10 .before .before .before .before .before .before .before in
-    let start = after-shared-slice-known5 .before .before .before .before .before in
-    let roads = start .args .roads .now in let sections = start .args .sections .now in
-    let junctions = start .args .junctions .now in let connections = start .args .connections .now in
-    let pairs = start .args .pairs .now in let lanes = start .args .lanes .now in
-    let owner = start .args .owner .now in let text = start .args .text .now in
-    filled-same (successorsByRow (rowsOf roads sections junctions connections pairs lanes owner
-    (after-link-rows .link-rows .last .1 .1 .1 .1 .1 .1 .0)
-    (after-link-rows .link-rows .last .1 .1 .1 .1 .1 .1 .1 .0)))
-    (ownList (laneTables text roads sections junctions connections pairs lanes)) (length lanes / 10)
-    (own-is (laneTables text roads sections junctions connections pairs lanes) (start .pre .0) (start .pre .1 .0) (after-link-rows .link-rows .ensures .0)
-    (after-link-rows .link-rows .ensures .1) (start .pre .1 .1 .2) (start .pre .1 .1 .3) (start .pre .1 .1 .4)
-    (after-link-rows .link-rows .kept .1 .1 .1 .1 .1 .1 .0 ∙ length-replicate {A = ℕ} 32768 0)
-    (after-link-rows .link-rows .kept .1 .1 .1 .1 .1 .1 .1 .0 ∙ length-replicate {A = ℕ} 32768 0))
-    (start .args .offsets .now) (start .args .own .now)
-    (after-own-lists .own-lists .last .1 .1 .1 .1 .1 .1 .1 .1 .1 .1 .1 .1 .1 .0)
-    (after-own-lists .own-lists .last .1 .1 .1 .1 .1 .1 .1 .1 .1 .1 .1 .1 .1 .1 .0)
-    (after-own-lists .own-lists .ensures)
+    let found : tie.After-own-lists = search in
+    let chained : tie.After-link-connections = search in
+    let rows-named = named chained in
+    let start = begun rows-named in
+    let t = tables start in
+    let lent = start .pre .1 .1 in
+    let rows = rows-named .link-rows .ensures in
+    let own =
+    own-is t (start .pre .0) (start .pre .1 .0) (rows .0) (rows .1) (lent .2) (lent .3) (lent .4)
+    (sides-long rows-named) (ends-long rows-named) in
+    filled-same (successorsByRow (walk rows-named)) (ownList t) (length (t .lanes) / 10) own _ _ _ _
+    (found .own-lists .ensures)
 
 pub find-own-spec : {M : Type 1} → statement M
 find-own-spec =

@@ -1,12 +1,17 @@
+-- `link_rows` chains the junctions by name, and lets the rows be filled in that connections and targets name.
 use lib.ListN.{length, length-replicate}
 use Rattle.words.proofs.Chains.{fresh}
 use Rattle.words.proofs.KeyLaws.{rows-in}
-use Prim.Native.Nat.{ℕ, _-_}
+use Prim.Native.Nat.{ℕ, _/_, _≤_}
 use native.Mathlib.Omega.{arith}
 use mathlib.Core.Path.{_∙_}
 use borrow.Author.Needs.{needs}
 use Rattle.succession.proofs.call.link_rows.Statement.{statement}
 use Rattle.succession.proofs.call.link_rows.Tie as tie
+
+module _ (start : tie.Start) where
+  chains-long : length (start .args .roads .now) / 20 ≤ length (start .args .next .now)
+  chains-long = omega (arith, start .pre .0 .0, start .pre .0 .2)
 
 slice-aggregate-link-names : tie.Need-slice-aggregate-link-names
 slice-aggregate-link-names c = search needs
@@ -28,16 +33,9 @@ link-names-requires c κs =
 
 link-sides-requires : tie.Need-link-sides-requires
 link-sides-requires c κs =
-    let start : tie.Start = search in (
-      (
-        start .pre .0 .0,
-        start .pre .0 .1,
-        omega (arith, start .pre .0 .0, start .pre .0 .2),
-        start .pre .0 .4,
-        start .pre .0 .5,
-      ),
-      start .pre .1,
-    )
+    let start : tie.Start = search in
+    let lent = start .pre .0 in
+    ((lent .0, lent .1, chains-long start, lent .4, lent .5), start .pre .1)
 
 slice-aggregate-link-ends : tie.Need-slice-aggregate-link-ends
 slice-aggregate-link-ends c = search needs
@@ -47,23 +45,17 @@ slice-aggregate-link-ends-2 c = search needs
 
 link-ends-requires : tie.Need-link-ends-requires
 link-ends-requires c κs =
-    let after-link-names : tie.After-link-names = search in
-    let start : tie.Start = search in (
-      (start .pre .0 .0, start .pre .0 .1, omega (arith, start .pre .0 .0, start .pre .0 .2), start .pre .0 .6),
+    let linked : tie.After-link-names = search in
+    let start : tie.Start = search in
+    let lent = start .pre .0 in
+    let kept = linked .link-names .kept .1 .1 .1 .1 .1 in
+    let new = length-replicate {A = ℕ} 16384 0 in (
+      (lent .0, lent .1, chains-long start, lent .6),
       (
         start .pre .1,
         (
-          (
-            start .pre .0 .3,
-            after-link-names .link-names .kept .1 .1 .1 .1 .1 .0 ∙ length-replicate {A = ℕ} 16384 0,
-            omega (
-              arith,
-              start .pre .0 .3,
-              after-link-names .link-names .kept .1 .1 .1 .1 .1 .1 .0,
-              length-replicate {A = ℕ} 16384 0,
-            ),
-          ),
-          after-link-names .link-names .ensures .1,
+          (lent .3, kept .0 ∙ new, omega (arith, lent .3, kept .1 .0, new)),
+          linked .link-names .ensures .1,
         ),
       ),
     )
@@ -76,9 +68,9 @@ same-length-2 c = search needs
 
 returns : tie.Need-returns
 returns c =
-    let after-link-ends : tie.After-link-ends = search in
-    let after-link-sides : tie.After-link-sides = search in
-    (after-link-sides .link-sides .ensures, after-link-ends .link-ends .ensures)
+    let ends : tie.After-link-ends = search in
+    let sides : tie.After-link-sides = search in
+    (sides .link-sides .ensures, ends .link-ends .ensures)
 
 pub link-rows-spec : {M : Type 1} → statement M
 link-rows-spec =

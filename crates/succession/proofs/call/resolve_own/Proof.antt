@@ -1,9 +1,11 @@
+-- `resolve_own` answers the verdict of the checks, and where there is no refusal finds the own lists.
 use Rattle.words.proofs.Chains.{fresh}
 use Rattle.tables.specs.Verdicts.{refusalOf}
 use Rattle.tables.proofs.Order.{is-none, is-some}
 use lib.ListN.{length-replicate}
 use borrow.Author.Tests.{not-true, not-false}
-use mathlib.Core.Path.{sym, _∙_}
+use mathlib.Core.Option.{none}
+use mathlib.Core.Path.{_≡_, sym, _∙_}
 use Prim.Native.Nat.{ℕ}
 use borrow.Author.Needs.{needs}
 use Rattle.succession.proofs.call.resolve_own.Statement.{statement}
@@ -25,26 +27,35 @@ slice-aggregate-succession-verdict-5 : tie.Need-slice-aggregate-succession-verdi
 slice-aggregate-succession-verdict-5 c = search needs
 
 succession-verdict-requires : tie.Need-succession-verdict-requires
-succession-verdict-requires c κs = (
-  fresh,
-  (
-    length-replicate {A = ℕ} 16384 0,
-    fresh,
-  ),
-)
+succession-verdict-requires c κs = (fresh, (length-replicate {A = ℕ} 16384 0, fresh))
 
 admitted-requires : tie.Need-admitted-requires
 admitted-requires c κs = search needs
 
+-- ---- refused
 returns : tie.Need-returns
 returns c =
-    let after-admitted : tie.After-admitted = search in
-    let after-succession-verdict : tie.After-succession-verdict = search in (
-      after-succession-verdict .succession-verdict .ensures .0,
-      λ e.
-          absurd (is-some (refusalOf (after-succession-verdict .succession-verdict .result))
-          (sym (after-admitted .admitted .ensures) ∙ not-true _ (c .if1 .taken)) e),
+    let asked : tie.After-admitted = search in
+    let judged : tie.After-succession-verdict = search in
+    let barred = sym (asked .admitted .ensures) ∙ not-true _ (c .if1 .taken) in (
+      judged .succession-verdict .ensures .0,
+      λ unrefused. absurd (is-some (refusalOf (judged .succession-verdict .result)) barred unrefused),
     )
+
+-- ---- no refusal: the checks left their links
+module _ (past : tie.Else1) where
+  abbrev judged : tie.After-succession-verdict
+  judged = search
+
+  unrefused : refusalOf (judged .succession-verdict .result) ≡ none
+  unrefused =
+      let asked : tie.After-admitted = search in
+      is-none (refusalOf (judged .succession-verdict .result))
+      (sym (asked .admitted .ensures) ∙ not-false _ (past .if1 .left))
+
+module _ (judged : tie.After-succession-verdict) where
+  abbrev start : tie.Start
+  start = search
 
 slice-aggregate-find-own : tie.Need-slice-aggregate-find-own
 slice-aggregate-find-own c = search needs
@@ -63,30 +74,22 @@ slice-aggregate-find-own-5 c = search needs
 
 find-own-requires : tie.Need-find-own-requires
 find-own-requires c κs =
-    let else1 : tie.Else1 = search in
-    let after-admitted : tie.After-admitted = search in
-    let after-succession-verdict : tie.After-succession-verdict = search in
-    let after-slice-known = after-succession-verdict .before .before .before .before .before .before .before in
-    let after-shared-slice-known = after-slice-known .before .before .before .before .before .before .before in
-    let start = after-shared-slice-known .before in
-    let adm = is-none (refusalOf (after-succession-verdict .succession-verdict .result))
-    (sym (after-admitted .admitted .ensures) ∙ not-false _ (else1 .if1 .left)) in (
-      sym (after-succession-verdict .succession-verdict .ensures .0) ∙ adm,
+    let past : tie.Else1 = search in
+    let verdict = judged past .succession-verdict in
+    let kept = verdict .kept .1 .1 .1 .1 .1 .1 .1 in
+    let new = length-replicate {A = ℕ} 16384 0 in
+    let lent = start (judged past) .pre in (
+      sym (verdict .ensures .0) ∙ unrefused past,
       (
-        after-succession-verdict .succession-verdict .ensures .1 adm,
+        verdict .ensures .1 (unrefused past),
         (
-          after-succession-verdict .succession-verdict .kept .1 .1 .1 .1 .1 .1 .1 .0
-              ∙ length-replicate {A = ℕ} 16384 0,
-          after-succession-verdict .succession-verdict .kept .1 .1 .1 .1 .1 .1 .1 .1 .0
-              ∙ length-replicate {A = ℕ} 16384 0,
-          after-succession-verdict .succession-verdict .kept .1 .1 .1 .1 .1 .1 .1 .1 .1 .0
-              ∙ length-replicate {A = ℕ} 16384 0,
-          after-succession-verdict .succession-verdict .kept .1 .1 .1 .1 .1 .1 .1 .1 .1 .1 .0
-              ∙ length-replicate {A = ℕ} 16384 0,
-          after-succession-verdict .succession-verdict .kept .1 .1 .1 .1 .1 .1 .1 .1 .1 .1 .1 .0
-              ∙ length-replicate {A = ℕ} 16384 0,
-          start .pre .0,
-          start .pre .1,
+          kept .0 ∙ new,
+          kept .1 .0 ∙ new,
+          kept .1 .1 .0 ∙ new,
+          kept .1 .1 .1 .0 ∙ new,
+          kept .1 .1 .1 .1 .0 ∙ new,
+          lent .0,
+          lent .1,
         ),
       ),
     )
@@ -99,9 +102,9 @@ same-length-2 c = search needs
 
 returns-2 : tie.Need-returns-2
 returns-2 c =
-    let after-find-own : tie.After-find-own = search in
-    let after-succession-verdict : tie.After-succession-verdict = search in
-    (after-succession-verdict .succession-verdict .ensures .0, λ e. after-find-own .find-own .ensures)
+    let found : tie.After-find-own = search in
+    let judged : tie.After-succession-verdict = search in
+    (judged .succession-verdict .ensures .0, λ unrefused. found .find-own .ensures)
 
 pub resolve-own-spec : {M : Type 1} → statement M
 resolve-own-spec =

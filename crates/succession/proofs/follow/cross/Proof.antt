@@ -13,6 +13,10 @@ use Rattle.succession.proofs.Turns.{cross-unlinked}
 use Rattle.succession.proofs.follow.cross.Statement.{statement}
 use Rattle.succession.proofs.follow.cross.Tie as tie
 
+module _ (near : tie.Else1) where
+  abbrev begun : tie.Start
+  begun = search
+
 mul-if1 : tie.Need-mul-if1
 mul-if1 c = search needs
 
@@ -76,9 +80,7 @@ through-junction-requires c κs =
     let else3 : tie.Else3 = search in
     let then2 : tie.Then2 = search in
     let else1 : tie.Else1 = search in
-    let after-shared-slice-known9 = else1 .before .before .before .before .before .before .before in
-    let after-shared-slice-known2 = after-shared-slice-known9 .before .before .before .before .before .before .before in
-    let start = after-shared-slice-known2 .before .before in
+    let start = begun else1 in
     let roads = start .args .roads .now in let at = start .args .at in
     let b = start .pre .1 .1 .0 .3 (eq-eqb (getD roads (at + 1) 0) 1 (then2 .if2 .taken)) in (
       start .pre .0,
@@ -107,9 +109,7 @@ returns-3 c =
     let else3 : tie.Else3 = search in
     let then2 : tie.Then2 = search in
     let else1 : tie.Else1 = search in
-    let after-shared-slice-known9 = else1 .before .before .before .before .before .before .before in
-    let after-shared-slice-known2 = after-shared-slice-known9 .before .before .before .before .before .before .before in
-    let start = after-shared-slice-known2 .before .before in
+    let start = begun else1 in
     subst (λ (es : List Entry).
     Took (start .args .both) (start .args .n) es (start .args .run .now)
     (after-through-junction .through-junction .last .1 .1 .1 .1 .1 .1 .1 .1 .1 .1 .1 .1 .1 .1 .1 .1 .1 .0)
@@ -155,7 +155,7 @@ end-section-requires c κs =
     let start : tie.Start = search in (
       start .pre .1 .1 .0 .4
           (ne-eqb (getD (start .args .roads .now) (start .args .at + 1) 0) 1 (else2 .if2 .left)),
-      start .pre .0 .section-parts,
+      record { few = start .pre .0 .few-roads; parts = start .pre .0 .section-parts },
     )
 
 add-lookup : tie.Need-add-lookup
@@ -189,9 +189,7 @@ enter-requires c κs =
     let else4 : tie.Else4 = search in
     let else2 : tie.Else2 = search in
     let else1 : tie.Else1 = search in
-    let after-shared-slice-known9 = else1 .before .before .before .before .before .before .before in
-    let after-shared-slice-known2 = after-shared-slice-known9 .before .before .before .before .before .before .before in
-    let start = after-shared-slice-known2 .before .before in (
+    let start = begun else1 in (
       c .lookup .ensures .1,
       subst (λ (es : List Entry). Room (start .args .n) es (start .args .run .now))
           (cross-road (rowsOf (start .args .roads .now) (start .args .sections .now)
@@ -214,9 +212,7 @@ returns-5 c =
     let else4 : tie.Else4 = search in
     let else2 : tie.Else2 = search in
     let else1 : tie.Else1 = search in
-    let after-shared-slice-known9 = else1 .before .before .before .before .before .before .before in
-    let after-shared-slice-known2 = after-shared-slice-known9 .before .before .before .before .before .before .before in
-    let start = after-shared-slice-known2 .before .before in
+    let start = begun else1 in
     subst (λ (es : List Entry).
     Took (start .args .both) (start .args .n) es (start .args .run .now) (after-enter .enter .last .1 .0)
     (after-enter .enter .result))

@@ -18,6 +18,10 @@ up : (l : ℕ) (b : Bool) → pick b (l * 10 + 8) (l * 10 + 6) ≤ l * 10 + 8
 up l true = omega arith
 up l false = omega arith
 
+module _ (near : tie.After-link-at) where
+  abbrev begun : tie.Start
+  begun = search
+
 mul-next-section : tie.Need-mul-next-section
 mul-next-section c = search needs
 
@@ -70,9 +74,7 @@ within-road-requires c κs =
     let after-s : tie.After-s = search in
     let after-next-section : tie.After-next-section = search in
     let after-link-at : tie.After-link-at = search in
-    let after-shared-slice-known9 = after-link-at .before .before .before .before .before .before .before in
-    let after-shared-slice-known2 = after-shared-slice-known9 .before .before .before .before .before .before .before in
-    let start = after-shared-slice-known2 .before .before in
+    let start = begun after-link-at in
     let l = start .args .l in let forward = start .args .forward in let owner = start .args .owner .now in (
       (
         start .pre .1 .1 .0,
@@ -107,9 +109,7 @@ leave-requires c κs =
     let after-enum-told : tie.After-enum-told = search in
     let after-next-section : tie.After-next-section = search in
     let after-link-at : tie.After-link-at = search in
-    let after-shared-slice-known9 = after-link-at .before .before .before .before .before .before .before in
-    let after-shared-slice-known2 = after-shared-slice-known9 .before .before .before .before .before .before .before in
-    let start = after-shared-slice-known2 .before .before in
+    let start = begun after-link-at in
     let l = start .args .l in let forward = start .args .forward in let owner = start .args .owner .now in (
       start .pre .0,
       (
@@ -145,9 +145,7 @@ returns c =
     let after-s : tie.After-s = search in
     let after-next-section : tie.After-next-section = search in
     let after-link-at : tie.After-link-at = search in
-    let after-shared-slice-known9 = after-link-at .before .before .before .before .before .before .before in
-    let after-shared-slice-known2 = after-shared-slice-known9 .before .before .before .before .before .before .before in
-    let start = after-shared-slice-known2 .before .before in
+    let start = begun after-link-at in
     let owner = start .args .owner .now in let l = start .args .l in
     subst (λ (es : List Entry).
     Took (start .args .both) (start .args .n) es (start .args .run .now)
@@ -172,9 +170,7 @@ returns-2 c =
     let after-enum-told : tie.After-enum-told = search in
     let after-next-section : tie.After-next-section = search in
     let after-link-at : tie.After-link-at = search in
-    let after-shared-slice-known9 = after-link-at .before .before .before .before .before .before .before in
-    let after-shared-slice-known2 = after-shared-slice-known9 .before .before .before .before .before .before .before in
-    let start = after-shared-slice-known2 .before .before in
+    let start = begun after-link-at in
     let owner = start .args .owner .now in let l = start .args .l in
     subst (λ (es : List Entry).
     Took (start .args .both) (start .args .n) es (start .args .run .now)

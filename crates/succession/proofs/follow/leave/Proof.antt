@@ -8,9 +8,24 @@ use lib.Dec.{eqb}
 use borrow.Author.Needs.{needs}
 use Rattle.model.specs.Lists.{pick}
 use Rattle.model.specs.Succession.{Entry}
-use Rattle.succession.specs.ByRow.{Room, Took, crossByRow, rowsOf}
+use Rattle.succession.specs.ByRow.{Rows, Room, Took, crossByRow, rowsOf}
 use Rattle.succession.proofs.follow.leave.Statement.{statement}
 use Rattle.succession.proofs.follow.leave.Tie as tie
+
+module _ (near : tie.Then1) where
+  abbrev begun : tie.Start
+  begun = search
+
+module _ (near : tie.Else1) where
+  abbrev begun-2 : tie.Start
+  begun-2 = search
+
+module _ (start : tie.Start) where
+  abbrev walk : Rows
+  walk =
+      rowsOf (start .args .roads .now) (start .args .sections .now) (start .args .junctions .now)
+      (start .args .connections .now) (start .args .pairs .now) (start .args .lanes .now) (start .args .owner .now)
+      (start .args .sides .now) (start .args .ends .now)
 
 cast-row : tie.Need-cast-row
 cast-row c = search needs
@@ -36,11 +51,7 @@ cross-requires c κs =
     let then1 : tie.Then1 = search in
     let start : tie.Start = search in
     let roads = start .args .roads .now in let ends = start .args .ends .now in
-    let sections = start .args .sections .now in let junctions = start .args .junctions .now in
-    let connections = start .args .connections .now in let pairs = start .args .pairs .now in
-    let lanes = start .args .lanes .now in let owner = start .args .owner .now in
-    let sides = start .args .sides .now in let l = start .args .l in let link = start .args .link in
-    let rowsOf′ = rowsOf roads sections junctions connections pairs lanes owner sides ends in (
+    let l = start .args .l in let link = start .args .link in (
       start .pre .0,
       (
         start .pre .1 .0,
@@ -67,10 +78,10 @@ cross-requires c κs =
           ),
           subst (λ (es : List Entry). Room (start .args .n) es (start .args .run .now))
               (ap (λ (f : Bool).
-              crossByRow rowsOf′ l (pick f (start .args .r .0 * 20 + 4) (start .args .r .0 * 20 + 11))
+              crossByRow (walk start) l (pick f (start .args .r .0 * 20 + 4) (start .args .r .0 * 20 + 11))
               (pick f (getD ends (start .args .r .0 * 2) 0) (getD ends (start .args .r .0 * 2 + 1) 0))
               link) (then1 .if1 .taken)
-              ∙ ap (λ (w : ℕ). crossByRow rowsOf′ l (start .args .r .0 * 20 + 11) w link)
+              ∙ ap (λ (w : ℕ). crossByRow (walk start) l (start .args .r .0 * 20 + 11) w link)
               (sym (after-word .word .ensures .0))) (start .pre .1 .1 .1),
         ),
       ),
@@ -84,24 +95,17 @@ returns c =
     let after-cross : tie.After-cross = search in
     let after-word : tie.After-word = search in
     let then1 : tie.Then1 = search in
-    let after-shared-slice-known9 = then1 .before .before .before .before .before .before .before in
-    let after-shared-slice-known2 = after-shared-slice-known9 .before .before .before .before .before .before .before in
-    let start = after-shared-slice-known2 .before .before in
-    let roads = start .args .roads .now in let sections = start .args .sections .now in
-    let junctions = start .args .junctions .now in let connections = start .args .connections .now in
-    let pairs = start .args .pairs .now in let lanes = start .args .lanes .now in
-    let owner = start .args .owner .now in let sides = start .args .sides .now in
+    let start = begun then1 in
     let ends = start .args .ends .now in let l = start .args .l in let link = start .args .link in
-    let rowsOf′ = rowsOf roads sections junctions connections pairs lanes owner sides ends in
     subst (λ (es : List Entry).
     Took (start .args .both) (start .args .n) es (start .args .run .now)
     (after-cross .cross .last .1 .1 .1 .1 .1 .1 .1 .1 .1 .1 .1 .1 .1 .1 .1 .1 .1 .1 .0)
     (after-cross .cross .result))
     (sym (ap (λ (f : Bool).
-    crossByRow rowsOf′ l (pick f (start .args .r .0 * 20 + 4) (start .args .r .0 * 20 + 11))
+    crossByRow (walk start) l (pick f (start .args .r .0 * 20 + 4) (start .args .r .0 * 20 + 11))
     (pick f (getD ends (start .args .r .0 * 2) 0) (getD ends (start .args .r .0 * 2 + 1) 0)) link)
     (then1 .if1 .taken)
-    ∙ ap (λ (w : ℕ). crossByRow rowsOf′ l (start .args .r .0 * 20 + 11) w link)
+    ∙ ap (λ (w : ℕ). crossByRow (walk start) l (start .args .r .0 * 20 + 11) w link)
     (sym (after-word .word .ensures .0)))) (after-cross .cross .ensures)
 
 mul-cross-2 : tie.Need-mul-cross-2
@@ -122,11 +126,7 @@ cross-requires-2 c κs =
     let else1 : tie.Else1 = search in
     let start : tie.Start = search in
     let roads = start .args .roads .now in let ends = start .args .ends .now in
-    let sections = start .args .sections .now in let junctions = start .args .junctions .now in
-    let connections = start .args .connections .now in let pairs = start .args .pairs .now in
-    let lanes = start .args .lanes .now in let owner = start .args .owner .now in
-    let sides = start .args .sides .now in let l = start .args .l in let link = start .args .link in
-    let rowsOf′ = rowsOf roads sections junctions connections pairs lanes owner sides ends in (
+    let l = start .args .l in let link = start .args .link in (
       start .pre .0,
       (
         start .pre .1 .0,
@@ -153,10 +153,10 @@ cross-requires-2 c κs =
           ),
           subst (λ (es : List Entry). Room (start .args .n) es (start .args .run .now))
               (ap (λ (f : Bool).
-              crossByRow rowsOf′ l (pick f (start .args .r .0 * 20 + 4) (start .args .r .0 * 20 + 11))
+              crossByRow (walk start) l (pick f (start .args .r .0 * 20 + 4) (start .args .r .0 * 20 + 11))
               (pick f (getD ends (start .args .r .0 * 2) 0) (getD ends (start .args .r .0 * 2 + 1) 0))
               link) (else1 .if1 .left)
-              ∙ ap (λ (w : ℕ). crossByRow rowsOf′ l (start .args .r .0 * 20 + 4) w link)
+              ∙ ap (λ (w : ℕ). crossByRow (walk start) l (start .args .r .0 * 20 + 4) w link)
               (sym (after-word2 .word2 .ensures .0))) (start .pre .1 .1 .1),
         ),
       ),
@@ -170,24 +170,17 @@ returns-2 c =
     let after-cross2 : tie.After-cross2 = search in
     let after-word2 : tie.After-word2 = search in
     let else1 : tie.Else1 = search in
-    let after-shared-slice-known9 = else1 .before .before .before .before .before .before .before in
-    let after-shared-slice-known2 = after-shared-slice-known9 .before .before .before .before .before .before .before in
-    let start = after-shared-slice-known2 .before .before in
-    let roads = start .args .roads .now in let sections = start .args .sections .now in
-    let junctions = start .args .junctions .now in let connections = start .args .connections .now in
-    let pairs = start .args .pairs .now in let lanes = start .args .lanes .now in
-    let owner = start .args .owner .now in let sides = start .args .sides .now in
+    let start = begun-2 else1 in
     let ends = start .args .ends .now in let l = start .args .l in let link = start .args .link in
-    let rowsOf′ = rowsOf roads sections junctions connections pairs lanes owner sides ends in
     subst (λ (es : List Entry).
     Took (start .args .both) (start .args .n) es (start .args .run .now)
     (after-cross2 .cross2 .last .1 .1 .1 .1 .1 .1 .1 .1 .1 .1 .1 .1 .1 .1 .1 .1 .1 .1 .0)
     (after-cross2 .cross2 .result))
     (sym (ap (λ (f : Bool).
-    crossByRow rowsOf′ l (pick f (start .args .r .0 * 20 + 4) (start .args .r .0 * 20 + 11))
+    crossByRow (walk start) l (pick f (start .args .r .0 * 20 + 4) (start .args .r .0 * 20 + 11))
     (pick f (getD ends (start .args .r .0 * 2) 0) (getD ends (start .args .r .0 * 2 + 1) 0)) link)
     (else1 .if1 .left)
-    ∙ ap (λ (w : ℕ). crossByRow rowsOf′ l (start .args .r .0 * 20 + 4) w link)
+    ∙ ap (λ (w : ℕ). crossByRow (walk start) l (start .args .r .0 * 20 + 4) w link)
     (sym (after-word2 .word2 .ensures .0)))) (after-cross2 .cross2 .ensures)
 
 pub leave-spec : {M : Type 1} → statement M

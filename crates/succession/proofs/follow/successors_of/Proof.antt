@@ -2,11 +2,34 @@ use mathlib.Core.Bool.{true, false}
 use native.Mathlib.Omega.{arith}
 use lib.ListN.{length-append}
 use borrow.Author.Needs.{needs}
-use Rattle.succession.specs.ByRow.{exitsByRow, rowsOf}
+use Rattle.succession.specs.ByRow.{Rows, exitsByRow, rowsOf}
 use Rattle.succession.proofs.Absorbed.{room-after, took-more}
 use Rattle.succession.proofs.Turns.{resolved-backward, resolved-both, resolved-forward, room-none}
 use Rattle.succession.proofs.follow.successors_of.Statement.{statement}
 use Rattle.succession.proofs.follow.successors_of.Tie as tie
+
+module _ (near : tie.Then1) where
+  abbrev begun : tie.Start
+  begun = search
+
+module _ (near : tie.Then2) where
+  abbrev begun-2 : tie.Start
+  begun-2 = search
+
+module _ (near : tie.After-exits3) where
+  abbrev begun-3 : tie.Start
+  begun-3 = search
+
+module _ (near : tie.Else1) where
+  abbrev begun-4 : tie.Start
+  begun-4 = search
+
+module _ (start : tie.Start) where
+  abbrev walk : Rows
+  walk =
+      rowsOf (start .args .roads .now) (start .args .sections .now) (start .args .junctions .now)
+      (start .args .connections .now) (start .args .pairs .now) (start .args .lanes .now) (start .args .owner .now)
+      (start .args .sides .now) (start .args .ends .now)
 
 mul-direction : tie.Need-mul-direction
 mul-direction c = search needs
@@ -44,9 +67,7 @@ returns : tie.Need-returns
 returns c =
     let after-exits : tie.After-exits = search in
     let then1 : tie.Then1 = search in
-    let after-shared-slice-known9 = then1 .before .before .before .before .before .before .before in
-    let after-shared-slice-known2 = after-shared-slice-known9 .before .before .before .before .before .before .before in
-    let start = after-shared-slice-known2 .before .before in
+    let start = begun then1 in
     resolved-forward (rowsOf (start .args .roads .now) (start .args .sections .now)
     (start .args .junctions .now) (start .args .connections .now) (start .args .pairs .now)
     (start .args .lanes .now) (start .args .owner .now) (start .args .sides .now) (start .args .ends .now))
@@ -78,9 +99,7 @@ returns-2 : tie.Need-returns-2
 returns-2 c =
     let after-exits2 : tie.After-exits2 = search in
     let then2 : tie.Then2 = search in
-    let after-shared-slice-known10 = then2 .before .before .before .before .before .before .before in
-    let after-shared-slice-known3 = after-shared-slice-known10 .before .before .before .before .before .before .before in
-    let start = after-shared-slice-known3 .before .before .before in
+    let start = begun-2 then2 in
     resolved-backward (rowsOf (start .args .roads .now) (start .args .sections .now)
     (start .args .junctions .now) (start .args .connections .now) (start .args .pairs .now)
     (start .args .lanes .now) (start .args .owner .now) (start .args .sides .now) (start .args .ends .now))
@@ -108,16 +127,9 @@ exits-requires-3 c κs =
 exits-requires-4 : tie.Need-exits-requires-4
 exits-requires-4 c κs =
     let after-exits3 : tie.After-exits3 = search in
-    let after-shared-slice-known12 = after-exits3 .before .before .before .before .before .before .before in
-    let after-shared-slice-known5 = after-shared-slice-known12 .before .before .before .before .before .before .before in
-    let start = after-shared-slice-known5 .before .before .before .before .before in
-    let roads = start .args .roads .now in let sections = start .args .sections .now in
-    let junctions = start .args .junctions .now in let connections = start .args .connections .now in
-    let pairs = start .args .pairs .now in let lanes = start .args .lanes .now in
-    let owner = start .args .owner .now in let sides = start .args .sides .now in
-    let ends = start .args .ends .now in let l = start .args .l in let run = start .args .run .now in
-    let rowsOf′ = rowsOf roads sections junctions connections pairs lanes owner sides ends in
-    let exitsByRow′ = exitsByRow rowsOf′ l true in (
+    let start = begun-3 after-exits3 in
+    let l = start .args .l in let run = start .args .run .now in
+    let exitsByRow′ = exitsByRow (walk start) l true in (
       start .pre .0,
       (
         start .pre .1 .0,
@@ -126,10 +138,10 @@ exits-requires-4 c κs =
           room-after true 0 exitsByRow′ run
               (after-exits3 .exits3 .last .1 .1 .1 .1 .1 .1 .1 .1 .1 .1 .1 .1 .1 .1 .1 .1 .0)
               (after-exits3 .exits3 .result) (after-exits3 .exits3 .ensures)
-              (omega (arith, start .pre .1 .1 .1)) (exitsByRow rowsOf′ l false)
+              (omega (arith, start .pre .1 .1 .1)) (exitsByRow (walk start) l false)
               ((room-none exitsByRow′ run (omega (arith, start .pre .1 .1 .1))) .rising)
               (omega
-              (arith, start .pre .1 .1 .1, length-append exitsByRow′ (exitsByRow rowsOf′ l false))),
+              (arith, start .pre .1 .1 .1, length-append exitsByRow′ (exitsByRow (walk start) l false))),
         ),
       ),
     )
@@ -143,21 +155,14 @@ returns-3 c =
     let after-exits3 : tie.After-exits3 = search in
     let else2 : tie.Else2 = search in
     let else1 : tie.Else1 = search in
-    let after-shared-slice-known9 = else1 .before .before .before .before .before .before .before in
-    let after-shared-slice-known2 = after-shared-slice-known9 .before .before .before .before .before .before .before in
-    let start = after-shared-slice-known2 .before .before in
-    let roads = start .args .roads .now in let sections = start .args .sections .now in
-    let junctions = start .args .junctions .now in let connections = start .args .connections .now in
-    let pairs = start .args .pairs .now in let lanes = start .args .lanes .now in
-    let owner = start .args .owner .now in let sides = start .args .sides .now in
-    let ends = start .args .ends .now in let l = start .args .l in let run = start .args .run .now in
-    let rowsOf′ = rowsOf roads sections junctions connections pairs lanes owner sides ends in
-    resolved-both rowsOf′ l run (after-exits4 .exits4 .last .1 .1 .1 .1 .1 .1 .1 .1 .1 .1 .1 .1 .1 .1 .1 .1 .0)
+    let start = begun-4 else1 in
+    let l = start .args .l in let run = start .args .run .now in
+    resolved-both (walk start) l run (after-exits4 .exits4 .last .1 .1 .1 .1 .1 .1 .1 .1 .1 .1 .1 .1 .1 .1 .1 .1 .0)
     (after-exits4 .exits4 .result) (else1 .if1 .left) (else2 .if2 .left)
-    (took-more true 0 (exitsByRow rowsOf′ l true) run
+    (took-more true 0 (exitsByRow (walk start) l true) run
     (after-exits3 .exits3 .last .1 .1 .1 .1 .1 .1 .1 .1 .1 .1 .1 .1 .1 .1 .1 .1 .0)
     (after-exits3 .exits3 .result) (after-exits3 .exits3 .ensures) (omega (arith, start .pre .1 .1 .1))
-    (exitsByRow rowsOf′ l false)
+    (exitsByRow (walk start) l false)
     (after-exits4 .exits4 .last .1 .1 .1 .1 .1 .1 .1 .1 .1 .1 .1 .1 .1 .1 .1 .1 .0)
     (after-exits4 .exits4 .result) (after-exits4 .exits4 .ensures))
 

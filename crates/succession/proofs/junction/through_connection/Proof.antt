@@ -10,6 +10,10 @@ use borrow.Author.Needs.{needs}
 use Rattle.succession.proofs.junction.through_connection.Statement.{statement}
 use Rattle.succession.proofs.junction.through_connection.Tie as tie
 
+module _ (near : tie.After-comes-from) where
+  abbrev begun : tie.Start
+  begun = search
+
 comes-from-requires : tie.Need-comes-from-requires
 comes-from-requires c κs =
     let start : tie.Start = search in
@@ -54,8 +58,7 @@ returns-2 c =
     let after-through-pairs : tie.After-through-pairs = search in
     let else1 : tie.Else1 = search in
     let after-comes-from : tie.After-comes-from = search in
-    let after-shared-slice-known6 = after-comes-from .before .before .before .before .before .before .before in
-    let start = after-shared-slice-known6 .before .before .before .before .before .before in
+    let start = begun after-comes-from in
     subst (λ (es : List Entry).
     Took (start .args .both) (start .args .n) es (start .args .run .now)
     (after-through-pairs .through-pairs .last .1 .1 .1 .1 .1 .1 .1 .1 .1 .1 .1 .1 .1 .1 .0)

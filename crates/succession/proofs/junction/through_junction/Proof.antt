@@ -17,6 +17,10 @@ abbrev μ-loop : tie.MeasureT-loop
     both run₀ start count n₀ at₀ run n at =
     at
 
+module _ (near : tie.At-loop Inv-loop μ-loop) where
+  abbrev begun : tie.Start Inv-loop μ-loop
+  begun = search
+
 add-bucket : tie.Need-add-bucket Inv-loop μ-loop
 add-bucket c = omega arith
 
@@ -47,20 +51,18 @@ loop-holds c =
 
 sub-through-connection : tie.Need-sub-through-connection Inv-loop μ-loop
 sub-through-connection c =
-    let at-loop : tie.At-loop Inv-loop μ-loop = search in
-    omega (arith, at-loop .loop .inv .below)
+    let head : tie.At-loop Inv-loop μ-loop = search in
+    omega (arith, head .loop .inv .below)
 
 through-connection-requires : tie.Need-through-connection-requires Inv-loop μ-loop
 through-connection-requires c κs =
-    let in-loop : tie.In-loop Inv-loop μ-loop = search in
-    let at-loop : tie.At-loop Inv-loop μ-loop = search in
-    let after-shared-slice-known10 = at-loop .before .before .before .before .before .before .before in
-    let after-shared-slice-known3 = after-shared-slice-known10 .before .before .before .before .before .before .before in
-    let start = after-shared-slice-known3 .before .before .before in
+    let turn : tie.In-loop Inv-loop μ-loop = search in
+    let head : tie.At-loop Inv-loop μ-loop = search in
+    let start = begun head in
     let connections = start .args .connections .now in let j = start .args .j in (
       start .pre .0,
       (
-        (start .pre .1 .1 .0 .0, omega (arith, at-loop .loop .inv .below, in-loop .loop-test .taken)),
+        (start .pre .1 .1 .0 .0, omega (arith, head .loop .inv .below, turn .loop-test .taken)),
         walk-room (start .args .both) (start .args .start)
             (rowsOf (start .args .roads .now) (start .args .sections .now) (start .args .junctions .now)
             connections (start .args .pairs .now) (start .args .lanes .now) (start .args .owner .now)
@@ -68,32 +70,28 @@ through-connection-requires c κs =
             (start .args .road) (start .args .k) (start .args .run .now) (start .args .mheads .now)
             (start .args .mnext .now) (start .pre .1 .1 .1) (start .pre .1 .1 .0 .0)
             (start .pre .0 .connection-parts j (start .pre .1 .1 .0 .0)) (start .pre .1 .0 .homes)
-            (start .pre .1 .0 .chained) (at-loop .loop .at) (at-loop .loop .n) (at-loop .loop .run)
-            (at-loop .loop .inv) (in-loop .loop-test .taken),
+            (start .pre .1 .0 .chained) (head .loop .at) (head .loop .n) (head .loop .run)
+            (head .loop .inv) (turn .loop-test .taken),
       ),
     )
 
 sub-word : tie.Need-sub-word Inv-loop μ-loop
 sub-word c =
-    let in-loop : tie.In-loop Inv-loop μ-loop = search in
-    omega (arith, in-loop .loop-test .taken)
+    let turn : tie.In-loop Inv-loop μ-loop = search in
+    omega (arith, turn .loop-test .taken)
 
 word-requires-2 : tie.Need-word-requires-2 Inv-loop μ-loop
 word-requires-2 c κs =
-    let in-loop : tie.In-loop Inv-loop μ-loop = search in
-    let at-loop : tie.At-loop Inv-loop μ-loop = search in
-    let after-shared-slice-known10 = at-loop .before .before .before .before .before .before .before in
-    let after-shared-slice-known3 = after-shared-slice-known10 .before .before .before .before .before .before .before in
-    let start = after-shared-slice-known3 .before .before .before in
-    omega (arith, at-loop .loop .inv .below, start .pre .1 .0 .links, in-loop .loop-test .taken)
+    let turn : tie.In-loop Inv-loop μ-loop = search in
+    let head : tie.At-loop Inv-loop μ-loop = search in
+    let start = begun head in
+    omega (arith, head .loop .inv .below, start .pre .1 .0 .links, turn .loop-test .taken)
 
 loop-less : tie.Need-loop-less Inv-loop μ-loop
 loop-less c =
-    let in-loop : tie.In-loop Inv-loop μ-loop = search in
-    let at-loop : tie.At-loop Inv-loop μ-loop = search in
-    let after-shared-slice-known10 = at-loop .before .before .before .before .before .before .before in
-    let after-shared-slice-known3 = after-shared-slice-known10 .before .before .before .before .before .before .before in
-    let start = after-shared-slice-known3 .before .before .before in
+    let turn : tie.In-loop Inv-loop μ-loop = search in
+    let head : tie.At-loop Inv-loop μ-loop = search in
+    let start = begun head in
     let connections = start .args .connections .now in let j = start .args .j in
     (let z = walk-less (start .args .both) (start .args .start)
     (rowsOf (start .args .roads .now) (start .args .sections .now) (start .args .junctions .now)
@@ -102,18 +100,16 @@ loop-less c =
     (start .args .k) (start .args .run .now) (start .args .mheads .now) (start .args .mnext .now)
     (start .pre .1 .1 .1) (start .pre .1 .1 .0 .0)
     (start .pre .0 .connection-parts j (start .pre .1 .1 .0 .0)) (start .pre .1 .0 .homes)
-    (start .pre .1 .0 .chained) (at-loop .loop .at) (at-loop .loop .n) (at-loop .loop .run)
-    (at-loop .loop .inv) (in-loop .loop-test .taken) in
+    (start .pre .1 .0 .chained) (head .loop .at) (head .loop .n) (head .loop .run)
+    (head .loop .inv) (turn .loop-test .taken) in
     omega (arith, c .word2 .ensures .0))
 
 loop-again : tie.Need-loop-again Inv-loop μ-loop
 loop-again c =
     let after-through-connection : tie.After-through-connection Inv-loop μ-loop = search in
-    let in-loop : tie.In-loop Inv-loop μ-loop = search in
-    let at-loop : tie.At-loop Inv-loop μ-loop = search in
-    let after-shared-slice-known10 = at-loop .before .before .before .before .before .before .before in
-    let after-shared-slice-known3 = after-shared-slice-known10 .before .before .before .before .before .before .before in
-    let start = after-shared-slice-known3 .before .before .before in
+    let turn : tie.In-loop Inv-loop μ-loop = search in
+    let head : tie.At-loop Inv-loop μ-loop = search in
+    let start = begun head in
     let connections = start .args .connections .now in let j = start .args .j in
     walk-on (start .args .both) (start .args .start)
     (rowsOf (start .args .roads .now) (start .args .sections .now) (start .args .junctions .now) connections
@@ -121,15 +117,15 @@ loop-again c =
     (start .args .ends .now)) (length connections / 7) j (start .args .road) (start .args .k)
     (start .args .run .now) (start .args .mheads .now) (start .args .mnext .now) (start .pre .1 .1 .1)
     (start .pre .1 .1 .0 .0) (start .pre .0 .connection-parts j (start .pre .1 .1 .0 .0))
-    (start .pre .1 .0 .homes) (start .pre .1 .0 .chained) (at-loop .loop .at) (at-loop .loop .n)
-    (at-loop .loop .run) (at-loop .loop .inv) (in-loop .loop-test .taken) (c .word2 .result)
+    (start .pre .1 .0 .homes) (start .pre .1 .0 .chained) (head .loop .at) (head .loop .n)
+    (head .loop .run) (head .loop .inv) (turn .loop-test .taken) (c .word2 .result)
     (after-through-connection .through-connection .result)
     (after-through-connection .through-connection .last .1 .1 .1 .1 .1 .1 .1 .1 .1 .1 .1 .1 .1 .1 .1 .1 .0)
     (c .word2 .ensures .0) (after-through-connection .through-connection .ensures)
 
 same-length : tie.Need-same-length Inv-loop μ-loop
 same-length c =
-    let at-loop : tie.At-loop Inv-loop μ-loop = search in
+    let head : tie.At-loop Inv-loop μ-loop = search in
     let start : tie.Start Inv-loop μ-loop = search in
     let connections = start .args .connections .now in let j = start .args .j in
     walk-long (start .args .both) (start .args .start)
@@ -138,12 +134,12 @@ same-length c =
     (start .args .ends .now)) (length connections / 7) j (start .args .road) (start .args .k)
     (start .args .run .now) (start .args .mheads .now) (start .args .mnext .now) (start .pre .1 .1 .1)
     (start .pre .1 .1 .0 .0) (start .pre .0 .connection-parts j (start .pre .1 .1 .0 .0))
-    (start .pre .1 .0 .homes) (start .pre .1 .0 .chained) (at-loop .loop .at) (at-loop .loop .n)
-    (at-loop .loop .run) (at-loop .loop .inv)
+    (start .pre .1 .0 .homes) (start .pre .1 .0 .chained) (head .loop .at) (head .loop .n)
+    (head .loop .run) (head .loop .inv)
 
 returns : tie.Need-returns Inv-loop μ-loop
 returns c =
-    let at-loop : tie.At-loop Inv-loop μ-loop = search in
+    let head : tie.At-loop Inv-loop μ-loop = search in
     let start : tie.Start Inv-loop μ-loop = search in
     let connections = start .args .connections .now in let j = start .args .j in
     walk-end (start .args .both) (start .args .start)
@@ -152,8 +148,8 @@ returns c =
     (start .args .ends .now)) (length connections / 7) j (start .args .road) (start .args .k)
     (start .args .run .now) (start .args .mheads .now) (start .args .mnext .now) (start .pre .1 .1 .1)
     (start .pre .1 .1 .0 .0) (start .pre .0 .connection-parts j (start .pre .1 .1 .0 .0))
-    (start .pre .1 .0 .homes) (start .pre .1 .0 .chained) (at-loop .loop .at) (at-loop .loop .n)
-    (at-loop .loop .run) (at-loop .loop .inv) (c .loop-test .left)
+    (start .pre .1 .0 .homes) (start .pre .1 .0 .chained) (head .loop .at) (head .loop .n)
+    (head .loop .run) (head .loop .inv) (c .loop-test .left)
 
 pub through-junction-spec : {M : Type 1} → statement M
 through-junction-spec =

@@ -24,6 +24,10 @@ abbrev μ-loop : tie.MeasureT-loop
     contact section first end n₀ p₀ run n p =
     end - p
 
+module _ (near : tie.After-word Inv-loop μ-loop) where
+  abbrev begun : tie.Start Inv-loop μ-loop
+  begun = search
+
 mul-word : tie.Need-mul-word Inv-loop μ-loop
 mul-word c = search needs
 
@@ -55,7 +59,7 @@ end-section-requires c κs =
     let start : tie.Start Inv-loop μ-loop = search in (
       let s = start in
           omega (arith, after-word .word .ensures .0, s .pre .0 .sides-high (s .args .c) (s .pre .1 .0)),
-      start .pre .0 .section-parts,
+      record { few = start .pre .0 .few-roads; parts = start .pre .0 .section-parts },
     )
 
 mul-word-2 : tie.Need-mul-word-2 Inv-loop μ-loop
@@ -90,8 +94,7 @@ loop-holds c =
     let after-word2 : tie.After-word2 Inv-loop μ-loop = search in
     let after-end-section : tie.After-end-section Inv-loop μ-loop = search in
     let after-word : tie.After-word Inv-loop μ-loop = search in
-    let after-shared-slice-known6 = after-word .before .before .before .before .before .before .before in
-    let start = after-shared-slice-known6 .before .before .before .before .before .before in
+    let start = begun after-word in
     let pairs = start .args .pairs .now in let lanes = start .args .lanes .now in
     let owner = start .args .owner .now in let connections = start .args .connections .now in
     let k = start .args .k in let run = start .args .run .now in (
@@ -111,14 +114,13 @@ loop-holds c =
 
 through-pair-requires : tie.Need-through-pair-requires Inv-loop μ-loop
 through-pair-requires c κs =
-    let in-loop : tie.In-loop Inv-loop μ-loop = search in
-    let at-loop : tie.At-loop Inv-loop μ-loop = search in
+    let turn : tie.In-loop Inv-loop μ-loop = search in
+    let head : tie.At-loop Inv-loop μ-loop = search in
     let after-word3 : tie.After-word3 Inv-loop μ-loop = search in
     let after-word2 : tie.After-word2 Inv-loop μ-loop = search in
     let after-end-section : tie.After-end-section Inv-loop μ-loop = search in
     let after-word : tie.After-word Inv-loop μ-loop = search in
-    let after-shared-slice-known6 = after-word .before .before .before .before .before .before .before in
-    let start = after-shared-slice-known6 .before .before .before .before .before .before in
+    let start = begun after-word in
     let pairs = start .args .pairs .now in let lanes = start .args .lanes .now in
     let owner = start .args .owner .now in let connections = start .args .connections .now in
     let k = start .args .k in let run = start .args .run .now in (
@@ -137,8 +139,8 @@ through-pair-requires c κs =
             start .pre .0 .pair-parts (start .args .c) (start .pre .1 .0),
             after-word2 .word2 .ensures .0,
             after-word3 .word3 .ensures .0,
-            at-loop .loop .inv .1,
-            in-loop .loop-test .taken,
+            head .loop .inv .1,
+            turn .loop-test .taken,
           ),
           turns-room (start .args .both) (start .args .start) (after-word2 .word2 .result)
               (after-word3 .word3 .result)
@@ -152,9 +154,9 @@ through-pair-requires c κs =
               (after-end-section .end-section .result) (after-word2 .word2 .result)
               (after-word3 .word3 .result) (after-word .word .ensures .0)
               (after-end-section .end-section .ensures) (after-word2 .word2 .ensures .0)
-              (after-word3 .word3 .ensures .0)) (start .pre .1 .1)) (at-loop .loop .p)
-              (at-loop .loop .n) (at-loop .loop .run) (at-loop .loop .inv .2) (at-loop .loop .inv .0)
-              (omega (arith, in-loop .loop-test .taken)),
+              (after-word3 .word3 .ensures .0)) (start .pre .1 .1)) (head .loop .p)
+              (head .loop .n) (head .loop .run) (head .loop .inv .2) (head .loop .inv .0)
+              (omega (arith, turn .loop-test .taken)),
         ),
       ),
     )
@@ -168,19 +170,18 @@ loop-less c = omega arith
 loop-again : tie.Need-loop-again Inv-loop μ-loop
 loop-again c =
     let after-through-pair : tie.After-through-pair Inv-loop μ-loop = search in
-    let in-loop : tie.In-loop Inv-loop μ-loop = search in
-    let at-loop : tie.At-loop Inv-loop μ-loop = search in
+    let turn : tie.In-loop Inv-loop μ-loop = search in
+    let head : tie.At-loop Inv-loop μ-loop = search in
     let after-word3 : tie.After-word3 Inv-loop μ-loop = search in
     let after-word2 : tie.After-word2 Inv-loop μ-loop = search in
     let after-end-section : tie.After-end-section Inv-loop μ-loop = search in
     let after-word : tie.After-word Inv-loop μ-loop = search in
-    let after-shared-slice-known6 = after-word .before .before .before .before .before .before .before in
-    let start = after-shared-slice-known6 .before .before .before .before .before .before in
+    let start = begun after-word in
     let pairs = start .args .pairs .now in let lanes = start .args .lanes .now in
     let owner = start .args .owner .now in let connections = start .args .connections .now in
     let k = start .args .k in let run = start .args .run .now in (
-      omega (arith, at-loop .loop .inv .0),
-      omega (arith, in-loop .loop-test .taken),
+      omega (arith, head .loop .inv .0),
+      omega (arith, turn .loop-test .taken),
       turns-on (start .args .both) (start .args .start) (after-word2 .word2 .result)
           (after-word3 .word3 .result)
           (pairEntry pairs lanes owner (after-word .word .result) (after-end-section .end-section .result)
@@ -191,22 +192,21 @@ loop-again c =
           (after-word .word .result) (after-end-section .end-section .result) (after-word2 .word2 .result)
           (after-word3 .word3 .result) (after-word .word .ensures .0)
           (after-end-section .end-section .ensures) (after-word2 .word2 .ensures .0)
-          (after-word3 .word3 .ensures .0)) (start .pre .1 .1)) (at-loop .loop .p) (at-loop .loop .n)
-          (at-loop .loop .run) (at-loop .loop .inv .2) (at-loop .loop .inv .0)
-          (omega (arith, in-loop .loop-test .taken))
+          (after-word3 .word3 .ensures .0)) (start .pre .1 .1)) (head .loop .p) (head .loop .n)
+          (head .loop .run) (head .loop .inv .2) (head .loop .inv .0)
+          (omega (arith, turn .loop-test .taken))
           (after-through-pair .through-pair .last .1 .1 .1 .1 .1 .1 .1 .1 .1 .1 .1 .0)
           (after-through-pair .through-pair .result) (after-through-pair .through-pair .ensures),
     )
 
 same-length : tie.Need-same-length Inv-loop μ-loop
 same-length c =
-    let at-loop : tie.At-loop Inv-loop μ-loop = search in
+    let head : tie.At-loop Inv-loop μ-loop = search in
     let after-word3 : tie.After-word3 Inv-loop μ-loop = search in
     let after-word2 : tie.After-word2 Inv-loop μ-loop = search in
     let after-end-section : tie.After-end-section Inv-loop μ-loop = search in
     let after-word : tie.After-word Inv-loop μ-loop = search in
-    let after-shared-slice-known6 = after-word .before .before .before .before .before .before .before in
-    let start = after-shared-slice-known6 .before .before .before .before .before .before in
+    let start = begun after-word in
     let pairs = start .args .pairs .now in let lanes = start .args .lanes .now in
     let owner = start .args .owner .now in let connections = start .args .connections .now in
     let k = start .args .k in let run = start .args .run .now in
@@ -219,19 +219,18 @@ same-length c =
     pairs lanes owner (start .args .sides .now) (start .args .ends .now) (start .args .c) k
     (after-word .word .result) (after-end-section .end-section .result) (after-word2 .word2 .result)
     (after-word3 .word3 .result) (after-word .word .ensures .0) (after-end-section .end-section .ensures)
-    (after-word2 .word2 .ensures .0) (after-word3 .word3 .ensures .0)) (start .pre .1 .1)) (at-loop .loop .p)
-    (at-loop .loop .n) (at-loop .loop .run) (at-loop .loop .inv .2) (at-loop .loop .inv .0)
-    (at-loop .loop .inv .1)
+    (after-word2 .word2 .ensures .0) (after-word3 .word3 .ensures .0)) (start .pre .1 .1)) (head .loop .p)
+    (head .loop .n) (head .loop .run) (head .loop .inv .2) (head .loop .inv .0)
+    (head .loop .inv .1)
 
 returns : tie.Need-returns Inv-loop μ-loop
 returns c =
-    let at-loop : tie.At-loop Inv-loop μ-loop = search in
+    let head : tie.At-loop Inv-loop μ-loop = search in
     let after-word3 : tie.After-word3 Inv-loop μ-loop = search in
     let after-word2 : tie.After-word2 Inv-loop μ-loop = search in
     let after-end-section : tie.After-end-section Inv-loop μ-loop = search in
     let after-word : tie.After-word Inv-loop μ-loop = search in
-    let after-shared-slice-known6 = after-word .before .before .before .before .before .before .before in
-    let start = after-shared-slice-known6 .before .before .before .before .before .before in
+    let start = begun after-word in
     let both = start .args .both in let run = start .args .run .now in let roads = start .args .roads .now in
     let sections = start .args .sections .now in let junctions = start .args .junctions .now in
     let connections = start .args .connections .now in let pairs = start .args .pairs .now in
@@ -242,14 +241,14 @@ returns c =
     (after-word2 .word2 .result) (after-word3 .word3 .result) (after-word .word .ensures .0)
     (after-end-section .end-section .ensures) (after-word2 .word2 .ensures .0)
     (after-word3 .word3 .ensures .0) in
-    subst (λ (es : List Entry). Took both (start .args .start) es run (at-loop .loop .run) (at-loop .loop .n))
+    subst (λ (es : List Entry). Took both (start .args .start) es run (head .loop .run) (head .loop .n))
     (sym pairs-by′) (turns-end both (start .args .start) (after-word2 .word2 .result)
     (after-word3 .word3 .result)
     (pairEntry pairs lanes owner (after-word .word .result) (after-end-section .end-section .result)
     (flag (getD connections (start .args .c * 7 + 4) 0)) k) run
     (subst (λ (es : List Entry). Room (start .args .start) es run) pairs-by′ (start .pre .1 .1))
-    (at-loop .loop .p) (at-loop .loop .n) (at-loop .loop .run) (at-loop .loop .inv .2)
-    (omega (arith, at-loop .loop .inv .1, c .loop-test .left)))
+    (head .loop .p) (head .loop .n) (head .loop .run) (head .loop .inv .2)
+    (omega (arith, head .loop .inv .1, c .loop-test .left)))
 
 pub through-pairs-spec : {M : Type 1} → statement M
 through-pairs-spec =

@@ -45,27 +45,27 @@ sub-j c = omega arith
 
 link-part-requires : tie.Need-link-part-requires Inv-loop μ-loop
 link-part-requires c κs =
-    let in-loop : tie.In-loop Inv-loop μ-loop = search in
-    let at-loop : tie.At-loop Inv-loop μ-loop = search in
+    let turn : tie.In-loop Inv-loop μ-loop = search in
+    let head : tie.At-loop Inv-loop μ-loop = search in
     let start : tie.Start Inv-loop μ-loop = search in
     let connections = start .args .connections .now in let junctions = start .args .junctions .now in (
       (
         start .pre .0 .0,
         omega (arith, start .pre .0 .0, start .pre .0 .2),
-        at-loop .loop .inv .1,
-        omega (arith, start .pre .0 .0, at-loop .loop .inv .2),
-        omega (arith, at-loop .loop .inv .0, in-loop .loop-test .taken),
+        head .loop .inv .1,
+        omega (arith, start .pre .0 .0, head .loop .inv .2),
+        omega (arith, head .loop .inv .0, turn .loop-test .taken),
         start .pre .0 .1,
       ),
       (
         (
-          end-in (length connections / 7) junctions (start .pre .1) (at-loop .loop .j - 1)
-              (omega (arith, at-loop .loop .inv .0, in-loop .loop-test .taken)),
+          end-in (length connections / 7) junctions (start .pre .1) (head .loop .j - 1)
+              (omega (arith, head .loop .inv .0, turn .loop-test .taken)),
           homes-are (length connections / 7) junctions (start .pre .1),
         ),
         chains-part (length connections / 7) junctions (start .pre .1) (start .args .sides .now)
-            (at-loop .loop .heads) (at-loop .loop .next) (at-loop .loop .j)
-            (omega (arith, in-loop .loop-test .taken)) (at-loop .loop .inv .0) (at-loop .loop .inv .3),
+            (head .loop .heads) (head .loop .next) (head .loop .j)
+            (omega (arith, turn .loop-test .taken)) (head .loop .inv .0) (head .loop .inv .3),
       ),
     )
 
@@ -75,45 +75,45 @@ loop-less c = omega arith
 loop-again : tie.Need-loop-again Inv-loop μ-loop
 loop-again c =
     let after-link-part : tie.After-link-part Inv-loop μ-loop = search in
-    let in-loop : tie.In-loop Inv-loop μ-loop = search in
-    let at-loop : tie.At-loop Inv-loop μ-loop = search in
+    let turn : tie.In-loop Inv-loop μ-loop = search in
+    let head : tie.At-loop Inv-loop μ-loop = search in
     let start : tie.Start Inv-loop μ-loop = search in (
-      omega (arith, at-loop .loop .inv .0),
-      after-link-part .link-part .kept .1 .1 .1 .1 .0 ∙ at-loop .loop .inv .1,
-      after-link-part .link-part .kept .1 .1 .1 .1 .1 .0 ∙ at-loop .loop .inv .2,
+      omega (arith, head .loop .inv .0),
+      after-link-part .link-part .kept .1 .1 .1 .1 .0 ∙ head .loop .inv .1,
+      after-link-part .link-part .kept .1 .1 .1 .1 .1 .0 ∙ head .loop .inv .2,
       chains-on (length (start .args .connections .now) / 7) (start .args .junctions .now) (start .pre .1)
           (start .args .sides .now) (after-link-part .link-part .last .1 .1 .1 .1 .0)
-          (after-link-part .link-part .last .1 .1 .1 .1 .1 .0) (at-loop .loop .j - 1)
-          (omega (arith, at-loop .loop .inv .0, in-loop .loop-test .taken))
+          (after-link-part .link-part .last .1 .1 .1 .1 .1 .0) (head .loop .j - 1)
+          (omega (arith, head .loop .inv .0, turn .loop-test .taken))
           (after-link-part .link-part .ensures),
     )
 
 same-length : tie.Need-same-length Inv-loop μ-loop
 same-length c =
-    let at-loop : tie.At-loop Inv-loop μ-loop = search in
+    let head : tie.At-loop Inv-loop μ-loop = search in
     let start : tie.Start Inv-loop μ-loop = search in
-    at-loop .loop .inv .1 ∙ sym (start .pre .0 .3)
+    head .loop .inv .1 ∙ sym (start .pre .0 .3)
 
 same-length-2 : tie.Need-same-length-2 Inv-loop μ-loop
 same-length-2 c =
-    let at-loop : tie.At-loop Inv-loop μ-loop = search in
+    let head : tie.At-loop Inv-loop μ-loop = search in
     let start : tie.Start Inv-loop μ-loop = search in
-    at-loop .loop .inv .2 ∙ sym (start .pre .0 .4)
+    head .loop .inv .2 ∙ sym (start .pre .0 .4)
 
 returns : tie.Need-returns Inv-loop μ-loop
 returns c =
-    let at-loop : tie.At-loop Inv-loop μ-loop = search in
+    let head : tie.At-loop Inv-loop μ-loop = search in
     let start : tie.Start Inv-loop μ-loop = search in
     let connections = start .args .connections .now in let junctions = start .args .junctions .now in
     record {
       few = start .pre .0 .0;
       few-junctions = start .pre .0 .1;
       homes = homes-are (length connections / 7) junctions (start .pre .1);
-      buckets = at-loop .loop .inv .1;
-      links = omega (arith, start .pre .0 .0, at-loop .loop .inv .2);
+      buckets = head .loop .inv .1;
+      links = omega (arith, start .pre .0 .0, head .loop .inv .2);
       chained = chains-end (length connections / 7) junctions (start .pre .1) (start .args .sides .now)
-          (at-loop .loop .heads) (at-loop .loop .next) (at-loop .loop .j) (omega (arith, c .loop-test .left))
-          (at-loop .loop .inv .3);
+          (head .loop .heads) (head .loop .next) (head .loop .j) (omega (arith, c .loop-test .left))
+          (head .loop .inv .3);
     }
 
 pub link-connections-spec : {M : Type 1} → statement M

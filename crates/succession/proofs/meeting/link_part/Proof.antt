@@ -62,9 +62,9 @@ loop-holds c =
 
 sub-i : tie.Need-sub-i Inv-loop μ-loop
 sub-i c =
-    let at-loop : tie.At-loop Inv-loop μ-loop = search in
+    let head : tie.At-loop Inv-loop μ-loop = search in
     let start : tie.Start Inv-loop μ-loop = search in
-    omega (arith, at-loop .loop .inv .1, start .pre .1 .0 .0)
+    omega (arith, head .loop .inv .1, start .pre .1 .0 .0)
 
 sub-c : tie.Need-sub-c Inv-loop μ-loop
 sub-c c = omega arith
@@ -77,9 +77,9 @@ mul-word-3 c = search needs
 
 word-requires-3 : tie.Need-word-requires-3 Inv-loop μ-loop
 word-requires-3 c κs =
-    let at-loop : tie.At-loop Inv-loop μ-loop = search in
+    let head : tie.At-loop Inv-loop μ-loop = search in
     let start : tie.Start Inv-loop μ-loop = search in
-    omega (arith, at-loop .loop .inv .1, start .pre .1 .0 .0, start .pre .0 .1, c .loop-test .taken)
+    omega (arith, head .loop .inv .1, start .pre .1 .0 .0, start .pre .0 .1, c .loop-test .taken)
 
 bucket-requires : tie.Need-bucket-requires Inv-loop μ-loop
 bucket-requires c κs =
@@ -92,24 +92,24 @@ mul-next c = search needs
 slice-read-next : tie.Need-slice-read-next Inv-loop μ-loop
 slice-read-next c =
     let after-bucket : tie.After-bucket Inv-loop μ-loop = search in
-    let at-loop : tie.At-loop Inv-loop μ-loop = search in
-    omega (arith, after-bucket .bucket .ensures .1, at-loop .loop .inv .2)
+    let head : tie.At-loop Inv-loop μ-loop = search in
+    omega (arith, after-bucket .bucket .ensures .1, head .loop .inv .2)
 
 mul-next-2 : tie.Need-mul-next-2 Inv-loop μ-loop
 mul-next-2 c = search needs
 
 slice-write-next : tie.Need-slice-write-next Inv-loop μ-loop
 slice-write-next c =
-    let in-loop : tie.In-loop Inv-loop μ-loop = search in
-    let at-loop : tie.At-loop Inv-loop μ-loop = search in
+    let turn : tie.In-loop Inv-loop μ-loop = search in
+    let head : tie.At-loop Inv-loop μ-loop = search in
     let start : tie.Start Inv-loop μ-loop = search in
     omega (
       arith,
-      at-loop .loop .inv .1,
-      at-loop .loop .inv .3,
+      head .loop .inv .1,
+      head .loop .inv .3,
       start .pre .1 .0 .0,
       start .pre .0 .3,
-      in-loop .loop-test .taken,
+      turn .loop-test .taken,
     )
 
 add-heads : tie.Need-add-heads Inv-loop μ-loop
@@ -126,8 +126,8 @@ mul-heads c = search needs
 slice-write-heads : tie.Need-slice-write-heads Inv-loop μ-loop
 slice-write-heads c =
     let after-bucket : tie.After-bucket Inv-loop μ-loop = search in
-    let at-loop : tie.At-loop Inv-loop μ-loop = search in
-    omega (arith, after-bucket .bucket .ensures .1, at-loop .loop .inv .2)
+    let head : tie.At-loop Inv-loop μ-loop = search in
+    omega (arith, after-bucket .bucket .ensures .1, head .loop .inv .2)
 
 loop-less : tie.Need-loop-less Inv-loop μ-loop
 loop-less c = omega arith
@@ -136,53 +136,53 @@ loop-again : tie.Need-loop-again Inv-loop μ-loop
 loop-again c =
     let after-bucket : tie.After-bucket Inv-loop μ-loop = search in
     let after-word3 : tie.After-word3 Inv-loop μ-loop = search in
-    let in-loop : tie.In-loop Inv-loop μ-loop = search in
-    let at-loop : tie.At-loop Inv-loop μ-loop = search in
+    let turn : tie.In-loop Inv-loop μ-loop = search in
+    let head : tie.At-loop Inv-loop μ-loop = search in
     let after-word : tie.After-word Inv-loop μ-loop = search in
     let start : tie.Start Inv-loop μ-loop = search in
     let n = start .args .n in let j = start .args .j in (
-      omega (arith, in-loop .loop-test .taken),
-      omega (arith, at-loop .loop .inv .1),
-      length-set (at-loop .loop .heads) (after-bucket .bucket .result) _ ∙ at-loop .loop .inv .2,
-      length-set (at-loop .loop .next) (n - at-loop .loop .c) _ ∙ at-loop .loop .inv .3,
-      part-turn (start .args .junctions .now) (start .args .sides .now) n j (at-loop .loop .c)
+      omega (arith, turn .loop-test .taken),
+      omega (arith, head .loop .inv .1),
+      length-set (head .loop .heads) (after-bucket .bucket .result) _ ∙ head .loop .inv .2,
+      length-set (head .loop .next) (n - head .loop .c) _ ∙ head .loop .inv .3,
+      part-turn (start .args .junctions .now) (start .args .sides .now) n j (head .loop .c)
           (start .pre .1 .0 .1) (start .pre .0 .4)
-          (omega (arith, in-loop .loop-test .taken, after-word .word .ensures .0)) (at-loop .loop .inv .1)
-          (start .pre .1 .0 .0) (at-loop .loop .heads) (at-loop .loop .next) (at-loop .loop .inv .4)
+          (omega (arith, turn .loop-test .taken, after-word .word .ensures .0)) (head .loop .inv .1)
+          (start .pre .1 .0 .0) (head .loop .heads) (head .loop .next) (head .loop .inv .4)
           (after-bucket .bucket .ensures .0 ∙ ap (meetingHash (j + 1)) (after-word3 .word3 .ensures .0))
-          (omega (arith, after-bucket .bucket .ensures .1, at-loop .loop .inv .2))
+          (omega (arith, after-bucket .bucket .ensures .1, head .loop .inv .2))
           (omega (
             arith,
-            at-loop .loop .inv .1,
-            at-loop .loop .inv .3,
+            head .loop .inv .1,
+            head .loop .inv .3,
             start .pre .1 .0 .0,
             start .pre .0 .3,
-            in-loop .loop-test .taken,
+            turn .loop-test .taken,
           )) refl refl,
     )
 
 same-length : tie.Need-same-length Inv-loop μ-loop
 same-length c =
-    let at-loop : tie.At-loop Inv-loop μ-loop = search in
+    let head : tie.At-loop Inv-loop μ-loop = search in
     let start : tie.Start Inv-loop μ-loop = search in
-    at-loop .loop .inv .2 ∙ sym (start .pre .0 .2)
+    head .loop .inv .2 ∙ sym (start .pre .0 .2)
 
 same-length-2 : tie.Need-same-length-2 Inv-loop μ-loop
 same-length-2 c =
-    let at-loop : tie.At-loop Inv-loop μ-loop = search in
-    at-loop .loop .inv .3
+    let head : tie.At-loop Inv-loop μ-loop = search in
+    head .loop .inv .3
 
 returns : tie.Need-returns Inv-loop μ-loop
 returns c =
-    let at-loop : tie.At-loop Inv-loop μ-loop = search in
+    let head : tie.At-loop Inv-loop μ-loop = search in
     let after-word : tie.After-word Inv-loop μ-loop = search in
     let start : tie.Start Inv-loop μ-loop = search in
     let junctions = start .args .junctions .now in let n = start .args .n in
     subst (λ (x : ℕ).
-    Chained (connectionHash junctions (start .args .sides .now) n) (n - x) (at-loop .loop .heads)
-    (at-loop .loop .next)) (let e : at-loop .loop .c ≡ firstOf junctions (start .args .j) =
-    omega (arith, at-loop .loop .inv .0, c .loop-test .left, after-word .word .ensures .0) in
-    e) (at-loop .loop .inv .4)
+    Chained (connectionHash junctions (start .args .sides .now) n) (n - x) (head .loop .heads)
+    (head .loop .next)) (let e : head .loop .c ≡ firstOf junctions (start .args .j) =
+    omega (arith, head .loop .inv .0, c .loop-test .left, after-word .word .ensures .0) in
+    e) (head .loop .inv .4)
 
 pub link-part-spec : {M : Type 1} → statement M
 link-part-spec =

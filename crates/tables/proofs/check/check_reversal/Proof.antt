@@ -21,13 +21,7 @@ slice-aggregate-reversal-verdict-5 : tie.Need-slice-aggregate-reversal-verdict-5
 slice-aggregate-reversal-verdict-5 c = search needs
 
 reversal-verdict-requires : tie.Need-reversal-verdict-requires
-reversal-verdict-requires c κs = (
-  fresh,
-  (
-    length-replicate {A = ℕ} 16384 0,
-    fresh,
-  ),
-)
+reversal-verdict-requires c κs = (fresh, (length-replicate {A = ℕ} 16384 0, fresh))
 
 returns : tie.Need-returns
 returns c = search needs

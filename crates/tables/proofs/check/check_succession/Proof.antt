@@ -21,13 +21,7 @@ slice-aggregate-succession-verdict-5 : tie.Need-slice-aggregate-succession-verdi
 slice-aggregate-succession-verdict-5 c = search needs
 
 succession-verdict-requires : tie.Need-succession-verdict-requires
-succession-verdict-requires c κs = (
-  fresh,
-  (
-    length-replicate {A = ℕ} 16384 0,
-    fresh,
-  ),
-)
+succession-verdict-requires c κs = (fresh, (length-replicate {A = ℕ} 16384 0, fresh))
 
 returns : tie.Need-returns
 returns c = search needs

@@ -1,21 +1,114 @@
+-- `lane_verdict`: the first refusal of `map_verdict` stays; after its admission rules 6 to 8 are asked in their order.
+use borrow.Author.Needs.{needs}
 use borrow.Author.Tests.{not-true, not-false}
 use lib.ListN.{length}
-use mathlib.Core.Option.{none}
-use mathlib.Core.Bool.{not}
-use native.Mathlib.Omega.{arith}
+use mathlib.Core.Bool.{true, not}
+use mathlib.Core.List.{List, _++_}
+use mathlib.Core.Option.{Option, none}
 use mathlib.Core.Path.{_≡_, sym, ap, _∙_}
-use borrow.Author.Needs.{needs}
+use native.Mathlib.Omega.{arith}
+use Prim.Native.Nat.{ℕ, _/_, _≤_}
 use Rattle.model.specs.Calls.{laneRules, rulesTo5}
-use Rattle.model.specs.Tables.{laneTables}
+use Rattle.model.specs.Rules.{Rule, firstBroken, identitiesOnce, lanesListed}
+use Rattle.model.specs.Tables.{Tables, laneTables}
+use Rattle.laws.proofs.RulesReversed.{pass-all}
+use Rattle.words.specs.Chain.{Empty}
+use Rattle.words.specs.Rows.{all}
 use Rattle.words.proofs.KeyLaws.{rows-in}
+use Rattle.rules.specs.ByRow.{Few, listedAt}
 use Rattle.rules.proofs.Forms.{identities-once, lanes-listed, roads-once}
 use Rattle.rules.proofs.Places.{keys-once}
 use Rattle.tables.specs.Verdicts.{refusalOf}
-use Rattle.tables.proofs.Order.{first-stays, is-none, is-some, kept5, lane-0, lane-6, lane-7, lane-8}
-use Rattle.tables.proofs.Order.{not-none, parts-of, refused, then-first}
+use Rattle.tables.specs.declared.verdict.Verdict.{Verdict}
+use Rattle.tables.proofs.Order.{Kept5, broken-at, first-stays, is-none, is-some, kept5, not-none, parts-of}
+use Rattle.tables.proofs.Order.{refused, then-first}
 use Rattle.tables.proofs.verdict.lane_verdict.Statement.{statement}
 use Rattle.tables.proofs.verdict.lane_verdict.Tie as tie
 
+-- ---- the tables, and their rules
+module _ (start : tie.Start) where
+  abbrev tables : Tables
+  tables =
+      laneTables (start .args .text .now) (start .args .roads .now) (start .args .sections .now)
+      (start .args .junctions .now) (start .args .connections .now) (start .args .pairs .now)
+      (start .args .lanes .now)
+
+  abbrev to-5 : List Rule
+  to-5 = rulesTo5 (start .args .sizes) (start .args .words) tables
+
+  -- the arrays that it is lent
+  names-empty : Empty (start .args .heads .now) (start .args .next .now)
+  names-empty = start .pre .1 .0
+
+  owner-long : length (start .args .owner .now) ≡ 16384
+  owner-long = start .pre .1 .1 .0
+
+  keys-empty : Empty (start .args .kheads .now) (start .args .knext .now)
+  keys-empty = start .pre .1 .1 .1
+
+-- ---- the verdict on the map
+module _ (tried : tie.After-admitted) where
+  abbrev judged : tie.After-map-verdict
+  judged = search
+
+  abbrev start : tie.Start
+  start = let near = judged in search
+
+  abbrev verdict : Verdict
+  verdict = judged .map-verdict .result
+
+  first : refusalOf verdict ≡ firstBroken (to-5 start)
+  unfolding rulesTo5
+  first = judged .map-verdict .ensures .0
+
+-- ---- what its admission leaves
+module _ (past : tie.Else1) where
+  abbrev tried : tie.After-admitted
+  tried = search
+
+  abbrev begun : tie.Start
+  begun = start tried
+
+  admitted : refusalOf (verdict tried) ≡ none
+  admitted = is-none _ (sym (tried .admitted .ensures) ∙ not-false _ (past .if1 .left))
+
+  kept : Kept5 (begun .args .sizes) (begun .args .words) (tables begun)
+  kept = kept5 _ _ _ (sym admitted ∙ first tried)
+
+  few : Few (tables begun .roads) (tables begun .sections) (tables begun .connections) (tables begun .pairs)
+  few = begun .pre .0 .0 (kept .sized)
+
+  lanes-few : length (tables begun .lanes) / 10 ≤ 16384
+  lanes-few = begun .pre .0 .1 (kept .sized)
+
+  abbrev from-6 : List Rule
+  from-6 = laneRules (tables begun)
+
+  -- 1 to 5 pass, so 6 to 8 decide
+  later : {o : Option ℕ} → o ≡ firstBroken from-6 → o ≡ firstBroken (to-5 begun ++ from-6)
+  later = then-first (to-5 begun) from-6 (sym admitted ∙ first tried)
+
+-- ---- what each test leaves
+identified : (past : tie.Else2) → identitiesOnce (tables (begun (search))) ≡ true
+identified past =
+    let tested : tie.After-identities-once = search in
+    identities-once _ ∙ sym (tested .identities-once .ensures) ∙ not-false _ (past .if2 .left)
+
+module _ (past : tie.Else3) where
+  abbrev tested : tie.After-lanes-listed
+  tested = search
+
+  abbrev tables-there : Tables
+  tables-there = tables (begun (search))
+
+  listed-rows : all (length (tables-there .lanes) / 10)
+      (listedAt (tables-there .text) (tables-there .roads) (tables-there .sections) (tables-there .lanes)) ≡ true
+  listed-rows = sym (tested .lanes-listed .ensures .0) ∙ not-false _ (past .if3 .left)
+
+  listed : lanesListed tables-there ≡ true
+  listed = lanes-listed _ _ _ _ ∙ listed-rows
+
+-- ---- the answers
 map-verdict-requires : tie.Need-map-verdict-requires
 map-verdict-requires c κs = search needs
 
@@ -29,37 +122,13 @@ same-length-2 : tie.Need-same-length-2
 same-length-2 c = search needs
 
 returns : tie.Need-returns
-unfolding rulesTo5
 returns c =
-    let after-admitted : tie.After-admitted = search in
-    let after-map-verdict : tie.After-map-verdict = search in
-    let after-shared-slice-known5 = after-map-verdict .before .before .before .before .before .before .before .before .before .before in
-    let start = after-shared-slice-known5 .before .before .before .before .before in
-    let t = (laneTables (start .args .text .now) (start .args .roads .now) (start .args .sections .now)
-    (start .args .junctions .now) (start .args .connections .now) (start .args .pairs .now)
-    (start .args .lanes .now)) in
-    let no : refusalOf (after-map-verdict .map-verdict .result) ≡ none → ⊥ =
-    is-some (refusalOf (after-map-verdict .map-verdict .result))
-    (sym (after-admitted .admitted .ensures) ∙ not-true _ (c .if1 .taken)) in (
-      first-stays (rulesTo5 (start .args .sizes) (start .args .words) t) (laneRules t)
-          (refusalOf (after-map-verdict .map-verdict .result)) no (after-map-verdict .map-verdict .ensures .0),
-      λ e. absurd (no e),
-    )
+    let tried : tie.After-admitted = search in
+    let barred = is-some _ (sym (tried .admitted .ensures) ∙ not-true _ (c .if1 .taken)) in
+    (first-stays (to-5 (start tried)) (laneRules _) _ barred (first tried), λ e. absurd (barred e))
 
 identities-once-requires : tie.Need-identities-once-requires
-unfolding rulesTo5
-identities-once-requires c κs =
-    let after-admitted : tie.After-admitted = search in
-    let after-map-verdict : tie.After-map-verdict = search in
-    let after-shared-slice-known5 = after-map-verdict .before .before .before .before .before .before .before .before .before .before in
-    let start = after-shared-slice-known5 .before .before .before .before .before in
-    let t = (laneTables (start .args .text .now) (start .args .roads .now) (start .args .sections .now)
-    (start .args .junctions .now) (start .args .connections .now) (start .args .pairs .now)
-    (start .args .lanes .now)) in
-    let adm = is-none (refusalOf (after-map-verdict .map-verdict .result))
-    (sym (after-admitted .admitted .ensures) ∙ not-false _ (c .if1 .left)) in
-    let first = sym adm ∙ after-map-verdict .map-verdict .ensures .0 in
-    let k = kept5 (start .args .sizes) (start .args .words) t first in start .pre .0 .1 (k .sized)
+identities-once-requires c κs = lanes-few (search)
 
 same-length-3 : tie.Need-same-length-3
 same-length-3 c = search needs
@@ -68,56 +137,29 @@ same-length-4 : tie.Need-same-length-4
 same-length-4 c = search needs
 
 returns-2 : tie.Need-returns-2
-unfolding rulesTo5
+unfolding laneRules
 returns-2 c =
-    let after-identities-once : tie.After-identities-once = search in
-    let else1 : tie.Else1 = search in
-    let after-admitted : tie.After-admitted = search in
-    let after-map-verdict : tie.After-map-verdict = search in
-    let after-shared-slice-known5 = after-map-verdict .before .before .before .before .before .before .before .before .before .before in
-    let start = after-shared-slice-known5 .before .before .before .before .before in
-    let lanes = start .args .lanes .now in
-    let t = (laneTables (start .args .text .now) (start .args .roads .now) (start .args .sections .now)
-    (start .args .junctions .now) (start .args .connections .now) (start .args .pairs .now) lanes) in
-    let adm = is-none (refusalOf (after-map-verdict .map-verdict .result))
-    (sym (after-admitted .admitted .ensures) ∙ not-false _ (else1 .if1 .left)) in
-    let first = sym adm ∙ after-map-verdict .map-verdict .ensures .0 in (
-      then-first (rulesTo5 (start .args .sizes) (start .args .words) t) (laneRules t) first
-          (lane-6 t (identities-once lanes
-          ∙ sym (after-identities-once .identities-once .ensures)
-          ∙ not-true _ (c .if2 .taken))),
-      refused 6,
-    )
+    let past : tie.Else1 = search in
+    let tested : tie.After-identities-once = search in
+    let twice = identities-once _ ∙ sym (tested .identities-once .ensures) ∙ not-true _ (c .if2 .taken) in
+    (later past (broken-at 0 (from-6 past) tt twice), refused 6)
 
 lanes-listed-requires : tie.Need-lanes-listed-requires
-unfolding rulesTo5
 lanes-listed-requires c κs =
-    let else1 : tie.Else1 = search in
-    let after-admitted : tie.After-admitted = search in
-    let after-map-verdict : tie.After-map-verdict = search in
-    let after-shared-slice-known5 = after-map-verdict .before .before .before .before .before .before .before .before .before .before in
-    let start = after-shared-slice-known5 .before .before .before .before .before in
-    let text = start .args .text .now in let roads = start .args .roads .now in
-    let sections = start .args .sections .now in
-    let t = (laneTables text roads sections (start .args .junctions .now) (start .args .connections .now)
-    (start .args .pairs .now) (start .args .lanes .now)) in
-    let adm = is-none (refusalOf (after-map-verdict .map-verdict .result))
-    (sym (after-admitted .admitted .ensures) ∙ not-false _ (else1 .if1 .left)) in
-    let first = sym adm ∙ after-map-verdict .map-verdict .ensures .0 in
-    let k = kept5 (start .args .sizes) (start .args .words) t first in (
+    let past : tie.Else1 = search in
+    let judged-map = judged (tried past) in
+    let lengths = judged-map .map-verdict .kept in
+    let empty = names-empty (begun past) in (
       (
-        start .pre .0 .0 (k .sized) .few-roads,
-        start .pre .0 .1 (k .sized),
-        after-map-verdict .map-verdict .kept .1 .1 .1 .1 .1 .1 .1 .1 .0 ∙ start .pre .1 .0 .buckets,
-        after-map-verdict .map-verdict .kept .1 .1 .1 .1 .1 .1 .1 .1 .1 .0 ∙ start .pre .1 .0 .rows,
-        start .pre .1 .1 .0,
+        few past .few-roads,
+        lanes-few past,
+        omega (arith, lengths, empty .buckets),
+        omega (arith, lengths, empty .rows),
+        owner-long (begun past),
       ),
       (
-        parts-of sections roads _ (k .sections),
-        (
-          not-none _ (sym (roads-once text roads sections) ∙ k .once),
-          after-map-verdict .map-verdict .ensures .1 adm,
-        ),
+        parts-of _ _ _ (kept past .sections),
+        (not-none _ (sym (roads-once _ _ _) ∙ kept past .once), judged-map .map-verdict .ensures .1 (admitted past)),
       ),
     )
 
@@ -131,60 +173,23 @@ same-length-7 : tie.Need-same-length-7
 same-length-7 c = search needs
 
 returns-3 : tie.Need-returns-3
-unfolding rulesTo5
+unfolding laneRules
 returns-3 c =
-    let after-lanes-listed : tie.After-lanes-listed = search in
-    let else2 : tie.Else2 = search in
-    let after-identities-once : tie.After-identities-once = search in
-    let else1 : tie.Else1 = search in
-    let after-admitted : tie.After-admitted = search in
-    let after-map-verdict : tie.After-map-verdict = search in
-    let after-shared-slice-known5 = after-map-verdict .before .before .before .before .before .before .before .before .before .before in
-    let start = after-shared-slice-known5 .before .before .before .before .before in
-    let text = start .args .text .now in let roads = start .args .roads .now in
-    let sections = start .args .sections .now in let lanes = start .args .lanes .now in
-    let t = (laneTables text roads sections (start .args .junctions .now) (start .args .connections .now)
-    (start .args .pairs .now) lanes) in
-    let adm = is-none (refusalOf (after-map-verdict .map-verdict .result))
-    (sym (after-admitted .admitted .ensures) ∙ not-false _ (else1 .if1 .left)) in
-    let first = sym adm ∙ after-map-verdict .map-verdict .ensures .0 in (
-      then-first (rulesTo5 (start .args .sizes) (start .args .words) t) (laneRules t) first
-          (lane-7 t (identities-once lanes
-          ∙ sym (after-identities-once .identities-once .ensures)
-          ∙ not-false _ (else2 .if2 .left))
-          (lanes-listed text roads sections lanes
-          ∙ sym (after-lanes-listed .lanes-listed .ensures .0)
-          ∙ not-true _ (c .if3 .taken))),
-      refused 7,
-    )
+    let past : tie.Else1 = search in
+    let tested : tie.After-lanes-listed = search in
+    let unlisted = lanes-listed _ _ _ _ ∙ sym (tested .lanes-listed .ensures .0) ∙ not-true _ (c .if3 .taken) in
+    (later past (broken-at 1 (from-6 past) (identified (search), tt) unlisted), refused 7)
 
 link-keys-requires : tie.Need-link-keys-requires
-unfolding rulesTo5
 link-keys-requires c κs =
-    let after-lanes-listed : tie.After-lanes-listed = search in
-    let else1 : tie.Else1 = search in
-    let after-admitted : tie.After-admitted = search in
-    let after-map-verdict : tie.After-map-verdict = search in
-    let after-shared-slice-known5 = after-map-verdict .before .before .before .before .before .before .before .before .before .before in
-    let start = after-shared-slice-known5 .before .before .before .before .before in
-    let lanes = start .args .lanes .now in
-    let t = (laneTables (start .args .text .now) (start .args .roads .now) (start .args .sections .now)
-    (start .args .junctions .now) (start .args .connections .now) (start .args .pairs .now) lanes) in
-    let adm = is-none (refusalOf (after-map-verdict .map-verdict .result))
-    (sym (after-admitted .admitted .ensures) ∙ not-false _ (else1 .if1 .left)) in
-    let first = sym adm ∙ after-map-verdict .map-verdict .ensures .0 in
-    let k = kept5 (start .args .sizes) (start .args .words) t first in (
+    let past : tie.Else1 = search in
+    let tested : tie.After-lanes-listed = search in (
       (
-        rows-in (length lanes) 10,
-        start .pre .0 .1 (k .sized),
-        omega (
-          arith,
-          after-lanes-listed .lanes-listed .kept .1 .1 .1 .1 .1 .1 .0,
-          start .pre .1 .1 .0,
-          start .pre .0 .1 (k .sized),
-        ),
+        rows-in (length (tables (begun past) .lanes)) 10,
+        lanes-few past,
+        omega (arith, tested .lanes-listed .kept, owner-long (begun past), lanes-few past),
       ),
-      start .pre .1 .1 .1,
+      keys-empty (begun past),
     )
 
 same-length-8 : tie.Need-same-length-8
@@ -203,38 +208,14 @@ same-length-12 : tie.Need-same-length-12
 same-length-12 c = search needs
 
 returns-4 : tie.Need-returns-4
-unfolding rulesTo5
+unfolding laneRules
 returns-4 c =
-    let after-link-keys : tie.After-link-keys = search in
-    let else3 : tie.Else3 = search in
-    let after-lanes-listed : tie.After-lanes-listed = search in
-    let else2 : tie.Else2 = search in
-    let after-identities-once : tie.After-identities-once = search in
-    let else1 : tie.Else1 = search in
-    let after-admitted : tie.After-admitted = search in
-    let after-map-verdict : tie.After-map-verdict = search in
-    let after-shared-slice-known5 = after-map-verdict .before .before .before .before .before .before .before .before .before .before in
-    let start = after-shared-slice-known5 .before .before .before .before .before in
-    let text = start .args .text .now in let roads = start .args .roads .now in
-    let sections = start .args .sections .now in let lanes = start .args .lanes .now in
-    let t = (laneTables text roads sections (start .args .junctions .now) (start .args .connections .now)
-    (start .args .pairs .now) lanes) in
-    let adm = is-none (refusalOf (after-map-verdict .map-verdict .result))
-    (sym (after-admitted .admitted .ensures) ∙ not-false _ (else1 .if1 .left)) in
-    let first = sym adm ∙ after-map-verdict .map-verdict .ensures .0 in (
-      then-first (rulesTo5 (start .args .sizes) (start .args .words) t) (laneRules t) first
-          (lane-8 t (identities-once lanes
-          ∙ sym (after-identities-once .identities-once .ensures)
-          ∙ not-false _ (else2 .if2 .left))
-          (lanes-listed text roads sections lanes
-          ∙ sym (after-lanes-listed .lanes-listed .ensures .0)
-          ∙ not-false _ (else3 .if3 .left))
-          (keys-once text roads sections lanes (after-lanes-listed .lanes-listed .last .1 .1 .1 .1 .1 .1 .0)
-          (sym (after-lanes-listed .lanes-listed .ensures .0) ∙ not-false _ (else3 .if3 .left))
-          (after-lanes-listed .lanes-listed .ensures .1)
-          ∙ ap not (sym (after-link-keys .link-keys .ensures .0) ∙ c .if4 .taken))),
-      refused 8,
-    )
+    let past : tie.Else1 = search in
+    let all-listed : tie.Else3 = search in
+    let linked : tie.After-link-keys = search in
+    let twice = keys-once _ _ _ _ _ (listed-rows all-listed) (tested all-listed .lanes-listed .ensures .1)
+    ∙ ap not (sym (linked .link-keys .ensures .0) ∙ c .if4 .taken) in
+    (later past (broken-at 2 (from-6 past) (identified (search), (listed all-listed, tt)) twice), refused 8)
 
 same-length-13 : tie.Need-same-length-13
 same-length-13 c = search needs
@@ -252,41 +233,19 @@ same-length-17 : tie.Need-same-length-17
 same-length-17 c = search needs
 
 returns-5 : tie.Need-returns-5
-unfolding rulesTo5
+unfolding laneRules
 returns-5 c =
-    let after-link-keys : tie.After-link-keys = search in
-    let else3 : tie.Else3 = search in
-    let after-lanes-listed : tie.After-lanes-listed = search in
-    let else2 : tie.Else2 = search in
-    let after-identities-once : tie.After-identities-once = search in
-    let else1 : tie.Else1 = search in
-    let after-admitted : tie.After-admitted = search in
-    let after-map-verdict : tie.After-map-verdict = search in
-    let after-shared-slice-known5 = after-map-verdict .before .before .before .before .before .before .before .before .before .before in
-    let start = after-shared-slice-known5 .before .before .before .before .before in
-    let text = start .args .text .now in let roads = start .args .roads .now in
-    let sections = start .args .sections .now in let lanes = start .args .lanes .now in
-    let t = (laneTables text roads sections (start .args .junctions .now) (start .args .connections .now)
-    (start .args .pairs .now) lanes) in
-    let adm = is-none (refusalOf (after-map-verdict .map-verdict .result))
-    (sym (after-admitted .admitted .ensures) ∙ not-false _ (else1 .if1 .left)) in
-    let first = sym adm ∙ after-map-verdict .map-verdict .ensures .0 in (
-      then-first (rulesTo5 (start .args .sizes) (start .args .words) t) (laneRules t) first
-          (lane-0 t (identities-once lanes
-          ∙ sym (after-identities-once .identities-once .ensures)
-          ∙ not-false _ (else2 .if2 .left))
-          (lanes-listed text roads sections lanes
-          ∙ sym (after-lanes-listed .lanes-listed .ensures .0)
-          ∙ not-false _ (else3 .if3 .left))
-          (keys-once text roads sections lanes (after-lanes-listed .lanes-listed .last .1 .1 .1 .1 .1 .1 .0)
-          (sym (after-lanes-listed .lanes-listed .ensures .0) ∙ not-false _ (else3 .if3 .left))
-          (after-lanes-listed .lanes-listed .ensures .1)
-          ∙ ap not (sym (after-link-keys .link-keys .ensures .0) ∙ c .if4 .left))),
-      λ e.
+    let past : tie.Else1 = search in
+    let all-listed : tie.Else3 = search in
+    let linked : tie.After-link-keys = search in
+    let single = keys-once _ _ _ _ _ (listed-rows all-listed) (tested all-listed .lanes-listed .ensures .1)
+    ∙ ap not (sym (linked .link-keys .ensures .0) ∙ c .if4 .left) in (
+      later past (sym (pass-all (from-6 past) (identified (search), (listed all-listed, (single, tt))))),
+      λ _.
           record {
-            named = after-map-verdict .map-verdict .ensures .1 adm;
-            owned = after-lanes-listed .lanes-listed .ensures .1;
-            keyed = after-link-keys .link-keys .ensures .1;
+            named = judged (tried past) .map-verdict .ensures .1 (admitted past);
+            owned = tested all-listed .lanes-listed .ensures .1;
+            keyed = linked .link-keys .ensures .1;
           },
     )
 

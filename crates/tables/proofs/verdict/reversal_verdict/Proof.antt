@@ -1,25 +1,156 @@
+-- `reversal_verdict`: the first refusal of `table_verdict` stays; after its admission rules 12 to 14 are asked in
+-- their order.
+use borrow.Author.Needs.{needs}
 use borrow.Author.Tests.{not-true, not-false}
 use lib.ListN.{length}
-use mathlib.Core.List.{[], _∷_, _++_}
-use mathlib.Core.Option.{none}
-use mathlib.Core.Bool.{_&&_}
-use native.Mathlib.Omega.{arith}
+use mathlib.Core.Bool.{true, _&&_}
+use mathlib.Core.List.{List, [], _∷_, _++_}
+use mathlib.Core.Option.{Option, none}
 use mathlib.Core.Path.{_≡_, sym, ap₂, _∙_}
-use borrow.Author.Needs.{needs}
-use Rattle.model.specs.Calls.{laneRules, rulesTo5, tableRules}
-use Rattle.model.specs.Rules.{edgesFit, edgesSized, firstBroken, lanesSized, lanesWorded, mapSized, mapWorded}
-use Rattle.model.specs.Rules.{marksFit, numbersFine, rule}
-use Rattle.model.specs.Tables.{allTables, lanesIn, mapTables, pairsIn}
+use native.Mathlib.Omega.{arith}
+use Prim.Native.Nat.{ℕ, _/_}
+use Rattle.model.specs.Calls.{laneRules, markRules, reversalRules, rulesTo5, tableRules}
+use Rattle.model.specs.Rules.{Rule, edgesFit, edgesSized, firstBroken, lanesSized, lanesWorded, mapSized, mapWorded}
+use Rattle.model.specs.Rules.{marksFit, numbersFine, numbersTurn, rule}
+use Rattle.model.specs.Tables.{Tables, allTables, lanesIn, pairsIn}
+use Rattle.laws.proofs.RulesReversed.{pass-all}
 use Rattle.words.proofs.Scans.{left-on, right-on}
-use Rattle.rules.proofs.Counts.{few, junctions-few, sized-few, sized10, sized12}
+use Rattle.rules.proofs.Counts.{few, junctions-few, lanes-few}
 use Rattle.rules.proofs.Leaves.{both-is}
 use Rattle.rules.proofs.OneEnd.{one-ended}
 use Rattle.tables.specs.Verdicts.{refusalOf}
-use Rattle.tables.proofs.Order.{is-none, is-some, kept5-more, mark-0, mark-12, mark-13, mark-14}
-use Rattle.tables.proofs.Order.{mark-early, marks-count, refused}
+use Rattle.tables.specs.declared.verdict.Verdict.{Verdict}
+use Rattle.tables.proofs.Order.{Kept5, broken-at, first-stays, is-none, is-some, kept5-more, marks-count}
+use Rattle.tables.proofs.Order.{refused, then-first}
 use Rattle.tables.proofs.verdict.reversal_verdict.Statement.{statement}
 use Rattle.tables.proofs.verdict.reversal_verdict.Tie as tie
 
+-- ---- the answers of rules 1 and 2
+module _ (sized : tie.After-map-sized) where
+  abbrev start : tie.Start
+  start = search
+
+  abbrev tables : Tables
+  tables =
+      allTables (start .args .text .now) (start .args .roads .now) (start .args .sections .now)
+      (start .args .junctions .now) (start .args .connections .now) (start .args .pairs .now)
+      (start .args .lanes .now) (start .args .edges .now)
+
+  abbrev marks : List ℕ
+  marks = start .args .marks .now
+
+sizes-are : (asked : tie.After-both2)
+    → asked .both2 .result
+    ≡ (mapSized 16384 (tables (search)) && lanesSized (tables (search)) && edgesSized (tables (search)))
+unfolding mapSized lanesSized edgesSized
+sizes-are asked =
+    let map-sized : tie.After-map-sized = search in
+    let lanes-sized : tie.After-fits2 = search in
+    let map-and-lanes : tie.After-both = search in
+    let edges-sized : tie.After-fits3 = search in
+    both-is (asked .both2 .ensures)
+    (both-is (map-and-lanes .both .ensures) (map-sized .map-sized .ensures) (lanes-sized .fits2 .ensures))
+    (edges-sized .fits3 .ensures)
+
+words-are : (asked : tie.After-both3)
+    → asked .both3 .result ≡ (mapWorded (tables (search)) && lanesWorded (tables (search)))
+unfolding mapWorded lanesWorded
+words-are asked =
+    let map-worded : tie.After-map-worded = search in
+    let lanes-worded : tie.After-lanes-worded = search in
+    both-is (asked .both3 .ensures) (map-worded .map-worded .ensures) (lanes-worded .lanes-worded .ensures)
+
+-- where 1 passes
+module _ (asked : tie.After-both2) (passes : asked .both2 .result ≡ true) where
+  abbrev sized-there : tie.After-map-sized
+  sized-there = search
+
+  map-and-lanes-pass : (mapSized 16384 (tables sized-there) && lanesSized (tables sized-there)) ≡ true
+  map-and-lanes-pass = left-on _ (edgesSized (tables sized-there)) (sym (sizes-are asked) ∙ passes)
+
+  map-passes : mapSized 16384 (tables sized-there) ≡ true
+  map-passes = left-on _ (lanesSized (tables sized-there)) map-and-lanes-pass
+
+  lanes-pass : lanesSized (tables sized-there) ≡ true
+  lanes-pass = right-on (mapSized 16384 (tables sized-there)) _ map-and-lanes-pass
+
+-- ---- the verdict of 1 to 8 and 10
+abbrev asked-by : tie.After-table-verdict → tie.After-map-sized
+asked-by judged = search
+
+module _ (tried : tie.After-admitted) where
+  abbrev judged : tie.After-table-verdict
+  judged = search
+
+  abbrev verdict : Verdict
+  verdict = judged .table-verdict .result
+
+  abbrev t : Tables
+  t = tables (asked-by judged)
+
+  abbrev from-12 : List Rule
+  from-12 = markRules t (marks (asked-by judged))
+
+  first : refusalOf verdict ≡ firstBroken (tableRules t)
+  unfolding tableRules
+  first =
+      judged .table-verdict .ensures .0
+      ∙ ap₂ (λ sizes words. firstBroken (rulesTo5 sizes words t ++ laneRules t ++ (rule 10 (edgesFit t) ∷ [])))
+      (sizes-are (search)) (words-are (search))
+
+-- ---- what its admission leaves
+module _ (past : tie.Else1) where
+  abbrev tried : tie.After-admitted
+  tried = search
+
+  abbrev there : Tables
+  there = t tried
+
+  admitted : refusalOf (verdict tried) ≡ none
+  admitted = is-none _ (sym (tried .admitted .ensures) ∙ not-false _ (past .if1 .left))
+
+  kept : Kept5 (mapSized 16384 there && lanesSized there && edgesSized there)
+      (mapWorded there && lanesWorded there) there
+  unfolding tableRules rulesTo5
+  kept = kept5-more _ _ there (laneRules there ++ (rule 10 (edgesFit there) ∷ [])) (sym admitted ∙ first tried)
+
+  map-sized : mapSized 16384 there ≡ true
+  map-sized = left-on _ (lanesSized there) (left-on _ (edgesSized there) (kept .sized))
+
+  -- 1 to 10 pass, so 12 to 14 decide
+  later : {o : Option ℕ} → o ≡ firstBroken (from-12 tried)
+      → o ≡ firstBroken (reversalRules there (marks (asked-by (judged tried))))
+  unfolding reversalRules
+  later = then-first (tableRules there) (from-12 tried) (sym admitted ∙ first tried)
+
+-- ---- what each test leaves
+module _ (past : tie.Else2) where
+  abbrev before-12 : tie.Else1
+  before-12 = search
+
+  abbrev asked : tie.After-map-sized
+  asked = asked-by (judged (tried before-12))
+
+  marks-fit : marksFit (tables asked .roads) (marks asked) ≡ true
+  unfolding marksFit
+  marks-fit =
+      let tested : tie.After-marks-fit = search in
+      sym (tested .marks-fit .ensures) ∙ not-false _ (past .if2 .left)
+
+  one-each : length (tables asked .roads) / 20 ≡ length (marks asked)
+  one-each = marks-count _ _ marks-fit
+
+numbers-are : (asked : tie.After-both4) → asked .both4 .result ≡ numbersTurn (there (search))
+unfolding numbersFine lanesIn pairsIn
+numbers-are asked =
+    let lanes-turn : tie.After-lanes-turn = search in
+    let pairs-turn : tie.After-pairs-turn = search in
+    both-is (asked .both4 .ensures) (lanes-turn .lanes-turn .ensures) (pairs-turn .pairs-turn .ensures)
+
+numbers-turn : (past : tie.Else3) → numbersTurn (there (search)) ≡ true
+numbers-turn past = sym (numbers-are (search)) ∙ not-false _ (past .if3 .left)
+
+-- ---- the answers
 map-sized-requires : tie.Need-map-sized-requires
 map-sized-requires c κs = search needs
 
@@ -46,30 +177,13 @@ both-requires-3 c κs = search needs
 
 table-verdict-requires : tie.Need-table-verdict-requires
 table-verdict-requires c κs =
-    let after-both2 : tie.After-both2 = search in
-    let after-fits3 : tie.After-fits3 = search in
-    let after-both : tie.After-both = search in
-    let after-fits2 : tie.After-fits2 = search in
-    let after-map-sized : tie.After-map-sized = search in
-    let after-shared-slice-known5 = after-map-sized .before .before .before .before .before .before .before .before .before .before in
-    let start = after-shared-slice-known5 .before .before .before .before .before in
-    let lanes = start .args .lanes .now in
-    let m = (mapTables (start .args .text .now) (start .args .roads .now) (start .args .sections .now)
-    (start .args .junctions .now) (start .args .connections .now) (start .args .pairs .now)) in
-    let sized = both-is (after-both2 .both2 .ensures)
-    (both-is (after-both .both .ensures) (after-map-sized .map-sized .ensures) (after-fits2 .fits2 .ensures))
-    (after-fits3 .fits3 .ensures) in
-    let l = sized10 lanes in
-    let e12 = sized12 (start .args .edges .now) in (
+    let asked : tie.After-both2 = search in
+    let sized : tie.After-map-sized = search in (
       (
-        λ e.
-            few 16384 m (omega arith)
-            (left-on (mapSized 16384 m) l (left-on (mapSized 16384 m && l) e12 (sym sized ∙ e))),
-        λ e.
-            sized-few 10 16384 (length lanes)
-            (right-on (mapSized 16384 m) l (left-on (mapSized 16384 m && l) e12 (sym sized ∙ e))),
+        λ passes. few 16384 (tables sized) (omega arith) (map-passes asked passes),
+        λ passes. lanes-few (tables sized) (lanes-pass asked passes),
       ),
-      start .pre,
+      start sized .pre,
     )
 
 admitted-requires : tie.Need-admitted-requires
@@ -91,36 +205,11 @@ same-length-5 : tie.Need-same-length-5
 same-length-5 c = search needs
 
 returns : tie.Need-returns
-unfolding tableRules mapSized lanesSized edgesSized mapWorded lanesWorded marksFit numbersFine lanesIn pairsIn rulesTo5
+unfolding reversalRules
 returns c =
-    let after-admitted : tie.After-admitted = search in
-    let after-table-verdict : tie.After-table-verdict = search in
-    let after-both3 : tie.After-both3 = search in
-    let after-lanes-worded : tie.After-lanes-worded = search in
-    let after-map-worded : tie.After-map-worded = search in
-    let after-both2 : tie.After-both2 = search in
-    let after-fits3 : tie.After-fits3 = search in
-    let after-both : tie.After-both = search in
-    let after-fits2 : tie.After-fits2 = search in
-    let after-map-sized : tie.After-map-sized = search in
-    let after-shared-slice-known5 = after-map-sized .before .before .before .before .before .before .before .before .before .before in
-    let start = after-shared-slice-known5 .before .before .before .before .before in
-    let t = (allTables (start .args .text .now) (start .args .roads .now) (start .args .sections .now)
-    (start .args .junctions .now) (start .args .connections .now) (start .args .pairs .now)
-    (start .args .lanes .now) (start .args .edges .now)) in
-    let sized = both-is (after-both2 .both2 .ensures)
-    (both-is (after-both .both .ensures) (after-map-sized .map-sized .ensures) (after-fits2 .fits2 .ensures))
-    (after-fits3 .fits3 .ensures) in
-    let worded = both-is (after-both3 .both3 .ensures) (after-map-worded .map-worded .ensures)
-    (after-lanes-worded .lanes-worded .ensures) in
-    let judged = after-table-verdict .table-verdict .ensures .0
-    ∙ ap₂ (λ a b. firstBroken (rulesTo5 a b t ++ laneRules t ++ (rule 10 (edgesFit t) ∷ []))) sized worded in
-    let no : refusalOf (after-table-verdict .table-verdict .result) ≡ none → ⊥ =
-    is-some (refusalOf (after-table-verdict .table-verdict .result))
-    (sym (after-admitted .admitted .ensures) ∙ not-true _ (c .if1 .taken)) in (
-      mark-early t (start .args .marks .now) (refusalOf (after-table-verdict .table-verdict .result)) no judged,
-      λ e. absurd (no e),
-    )
+    let tried : tie.After-admitted = search in
+    let barred = is-some _ (sym (tried .admitted .ensures) ∙ not-true _ (c .if1 .taken)) in
+    (first-stays (tableRules (t tried)) (from-12 tried) _ barred (first tried), λ e. absurd (barred e))
 
 marks-fit-requires : tie.Need-marks-fit-requires
 marks-fit-requires c κs = search needs
@@ -141,39 +230,12 @@ same-length-10 : tie.Need-same-length-10
 same-length-10 c = search needs
 
 returns-2 : tie.Need-returns-2
-unfolding tableRules mapSized lanesSized edgesSized mapWorded lanesWorded marksFit numbersFine lanesIn pairsIn rulesTo5
+unfolding markRules marksFit
 returns-2 c =
-    let after-marks-fit : tie.After-marks-fit = search in
-    let else1 : tie.Else1 = search in
-    let after-admitted : tie.After-admitted = search in
-    let after-table-verdict : tie.After-table-verdict = search in
-    let after-both3 : tie.After-both3 = search in
-    let after-lanes-worded : tie.After-lanes-worded = search in
-    let after-map-worded : tie.After-map-worded = search in
-    let after-both2 : tie.After-both2 = search in
-    let after-fits3 : tie.After-fits3 = search in
-    let after-both : tie.After-both = search in
-    let after-fits2 : tie.After-fits2 = search in
-    let after-map-sized : tie.After-map-sized = search in
-    let after-shared-slice-known5 = after-map-sized .before .before .before .before .before .before .before .before .before .before in
-    let start = after-shared-slice-known5 .before .before .before .before .before in
-    let t = (allTables (start .args .text .now) (start .args .roads .now) (start .args .sections .now)
-    (start .args .junctions .now) (start .args .connections .now) (start .args .pairs .now)
-    (start .args .lanes .now) (start .args .edges .now)) in
-    let sized = both-is (after-both2 .both2 .ensures)
-    (both-is (after-both .both .ensures) (after-map-sized .map-sized .ensures) (after-fits2 .fits2 .ensures))
-    (after-fits3 .fits3 .ensures) in
-    let worded = both-is (after-both3 .both3 .ensures) (after-map-worded .map-worded .ensures)
-    (after-lanes-worded .lanes-worded .ensures) in
-    let judged = after-table-verdict .table-verdict .ensures .0
-    ∙ ap₂ (λ a b. firstBroken (rulesTo5 a b t ++ laneRules t ++ (rule 10 (edgesFit t) ∷ []))) sized worded in
-    let adm = is-none (refusalOf (after-table-verdict .table-verdict .result))
-    (sym (after-admitted .admitted .ensures) ∙ not-false _ (else1 .if1 .left)) in
-    let first = sym adm ∙ judged in (
-      mark-12 t (start .args .marks .now) first
-          (sym (after-marks-fit .marks-fit .ensures) ∙ not-true _ (c .if2 .taken)),
-      refused 12,
-    )
+    let past : tie.Else1 = search in
+    let tested : tie.After-marks-fit = search in
+    let unfit = sym (tested .marks-fit .ensures) ∙ not-true _ (c .if2 .taken) in
+    (later past (broken-at 0 (from-12 (tried past)) tt unfit), refused 12)
 
 lanes-turn-requires : tie.Need-lanes-turn-requires
 lanes-turn-requires c κs = search needs
@@ -200,83 +262,16 @@ same-length-15 : tie.Need-same-length-15
 same-length-15 c = search needs
 
 returns-3 : tie.Need-returns-3
-unfolding tableRules mapSized lanesSized edgesSized mapWorded lanesWorded marksFit numbersFine lanesIn pairsIn rulesTo5
+unfolding markRules
 returns-3 c =
-    let after-both4 : tie.After-both4 = search in
-    let after-pairs-turn : tie.After-pairs-turn = search in
-    let after-lanes-turn : tie.After-lanes-turn = search in
-    let else2 : tie.Else2 = search in
-    let after-marks-fit : tie.After-marks-fit = search in
-    let else1 : tie.Else1 = search in
-    let after-admitted : tie.After-admitted = search in
-    let after-heads = after-admitted .before .before .before .before .before .before .before .before .before .before in
-    let after-table-verdict = after-heads .before in
-    let after-both3 = after-table-verdict .before .before .before .before .before .before in
-    let after-lanes-worded : tie.After-lanes-worded = search in
-    let after-map-worded : tie.After-map-worded = search in
-    let after-both2 : tie.After-both2 = search in
-    let after-fits3 : tie.After-fits3 = search in
-    let after-both : tie.After-both = search in
-    let after-fits2 : tie.After-fits2 = search in
-    let after-map-sized : tie.After-map-sized = search in
-    let after-shared-slice-known5 = after-map-sized .before .before .before .before .before .before .before .before .before .before in
-    let start = after-shared-slice-known5 .before .before .before .before .before in
-    let t = (allTables (start .args .text .now) (start .args .roads .now) (start .args .sections .now)
-    (start .args .junctions .now) (start .args .connections .now) (start .args .pairs .now)
-    (start .args .lanes .now) (start .args .edges .now)) in
-    let sized = both-is (after-both2 .both2 .ensures)
-    (both-is (after-both .both .ensures) (after-map-sized .map-sized .ensures) (after-fits2 .fits2 .ensures))
-    (after-fits3 .fits3 .ensures) in
-    let worded = both-is (after-both3 .both3 .ensures) (after-map-worded .map-worded .ensures)
-    (after-lanes-worded .lanes-worded .ensures) in
-    let judged = after-table-verdict .table-verdict .ensures .0
-    ∙ ap₂ (λ a b. firstBroken (rulesTo5 a b t ++ laneRules t ++ (rule 10 (edgesFit t) ∷ []))) sized worded in
-    let adm = is-none (refusalOf (after-table-verdict .table-verdict .result))
-    (sym (after-admitted .admitted .ensures) ∙ not-false _ (else1 .if1 .left)) in
-    let first = sym adm ∙ judged in (
-      mark-13 t (start .args .marks .now) first
-          (sym (after-marks-fit .marks-fit .ensures) ∙ not-false _ (else2 .if2 .left))
-          (sym (both-is (after-both4 .both4 .ensures) (after-lanes-turn .lanes-turn .ensures)
-          (after-pairs-turn .pairs-turn .ensures))
-          ∙ not-true _ (c .if3 .taken)),
-      refused 13,
-    )
+    let past : tie.Else1 = search in
+    let least = sym (numbers-are (search)) ∙ not-true _ (c .if3 .taken) in
+    (later past (broken-at 1 (from-12 (tried past)) (marks-fit (search), tt) least), refused 13)
 
 one-ended-requires : tie.Need-one-ended-requires
-unfolding tableRules mapSized lanesSized edgesSized mapWorded lanesWorded marksFit numbersFine lanesIn pairsIn rulesTo5
 one-ended-requires c κs =
-    let else2 : tie.Else2 = search in
-    let after-marks-fit : tie.After-marks-fit = search in
-    let else1 : tie.Else1 = search in
-    let after-admitted : tie.After-admitted = search in
-    let after-heads = after-admitted .before .before .before .before .before .before .before .before .before .before in
-    let after-table-verdict = after-heads .before in
-    let after-both3 : tie.After-both3 = search in
-    let after-both2 : tie.After-both2 = search in
-    let after-fits3 : tie.After-fits3 = search in
-    let after-both : tie.After-both = search in
-    let after-fits2 : tie.After-fits2 = search in
-    let after-map-sized : tie.After-map-sized = search in
-    let after-shared-slice-known5 = after-map-sized .before .before .before .before .before .before .before .before .before .before in
-    let start = after-shared-slice-known5 .before .before .before .before .before in
-    let text = start .args .text .now in let roads = start .args .roads .now in
-    let sections = start .args .sections .now in let junctions = start .args .junctions .now in
-    let connections = start .args .connections .now in let pairs = start .args .pairs .now in
-    let lanes = start .args .lanes .now in let edges = start .args .edges .now in
-    let t = (allTables text roads sections junctions connections pairs lanes edges) in
-    let m = (mapTables text roads sections junctions connections pairs) in
-    let sized = both-is (after-both2 .both2 .ensures)
-    (both-is (after-both .both .ensures) (after-map-sized .map-sized .ensures) (after-fits2 .fits2 .ensures))
-    (after-fits3 .fits3 .ensures) in
-    let adm = is-none (refusalOf (after-table-verdict .table-verdict .result))
-    (sym (after-admitted .admitted .ensures) ∙ not-false _ (else1 .if1 .left)) in
-    let kept = kept5-more (after-both2 .both2 .result) (after-both3 .both3 .result) t
-    (laneRules t ++ (rule 10 (edgesFit t) ∷ [])) (sym adm ∙ after-table-verdict .table-verdict .ensures .0) in (
-      marks-count roads (start .args .marks .now)
-          (sym (after-marks-fit .marks-fit .ensures) ∙ not-false _ (else2 .if2 .left)),
-      junctions-few 16384 m (left-on (mapSized 16384 m) (sized10 lanes)
-          (left-on (mapSized 16384 m && sized10 lanes) (sized12 edges) (sym sized ∙ kept .sized))),
-    )
+    let past : tie.Else1 = search in
+    (one-each (search), junctions-few 16384 (there past) (map-sized past))
 
 same-length-16 : tie.Need-same-length-16
 same-length-16 c = search needs
@@ -294,56 +289,14 @@ same-length-20 : tie.Need-same-length-20
 same-length-20 c = search needs
 
 returns-4 : tie.Need-returns-4
-unfolding tableRules mapSized lanesSized edgesSized mapWorded lanesWorded marksFit numbersFine lanesIn pairsIn rulesTo5
+unfolding markRules
 returns-4 c =
-    let after-one-ended : tie.After-one-ended = search in
-    let else3 : tie.Else3 = search in
-    let after-both4 : tie.After-both4 = search in
-    let after-pairs-turn : tie.After-pairs-turn = search in
-    let after-lanes-turn : tie.After-lanes-turn = search in
-    let else2 : tie.Else2 = search in
-    let after-marks-fit : tie.After-marks-fit = search in
-    let else1 : tie.Else1 = search in
-    let after-admitted : tie.After-admitted = search in
-    let after-heads = after-admitted .before .before .before .before .before .before .before .before .before .before in
-    let after-table-verdict = after-heads .before in
-    let after-both3 = after-table-verdict .before .before .before .before .before .before in
-    let after-lanes-worded : tie.After-lanes-worded = search in
-    let after-map-worded : tie.After-map-worded = search in
-    let after-both2 : tie.After-both2 = search in
-    let after-fits3 : tie.After-fits3 = search in
-    let after-both : tie.After-both = search in
-    let after-fits2 : tie.After-fits2 = search in
-    let after-map-sized : tie.After-map-sized = search in
-    let after-shared-slice-known5 = after-map-sized .before .before .before .before .before .before .before .before .before .before in
-    let start = after-shared-slice-known5 .before .before .before .before .before in
-    let text = start .args .text .now in let roads = start .args .roads .now in
-    let sections = start .args .sections .now in let junctions = start .args .junctions .now in
-    let connections = start .args .connections .now in let pairs = start .args .pairs .now in
-    let marks = start .args .marks .now in
-    let t = (allTables text roads sections junctions connections pairs (start .args .lanes .now)
-    (start .args .edges .now)) in
-    let sized = both-is (after-both2 .both2 .ensures)
-    (both-is (after-both .both .ensures) (after-map-sized .map-sized .ensures) (after-fits2 .fits2 .ensures))
-    (after-fits3 .fits3 .ensures) in
-    let worded = both-is (after-both3 .both3 .ensures) (after-map-worded .map-worded .ensures)
-    (after-lanes-worded .lanes-worded .ensures) in
-    let judged = after-table-verdict .table-verdict .ensures .0
-    ∙ ap₂ (λ a b. firstBroken (rulesTo5 a b t ++ laneRules t ++ (rule 10 (edgesFit t) ∷ []))) sized worded in
-    let adm = is-none (refusalOf (after-table-verdict .table-verdict .result))
-    (sym (after-admitted .admitted .ensures) ∙ not-false _ (else1 .if1 .left)) in
-    let first = sym adm ∙ judged in
-    let kept = kept5-more (after-both2 .both2 .result) (after-both3 .both3 .result) t
-    (laneRules t ++ (rule 10 (edgesFit t) ∷ [])) (sym adm ∙ after-table-verdict .table-verdict .ensures .0) in (
-      mark-14 t marks first (sym (after-marks-fit .marks-fit .ensures) ∙ not-false _ (else2 .if2 .left))
-          (sym (both-is (after-both4 .both4 .ensures) (after-lanes-turn .lanes-turn .ensures)
-          (after-pairs-turn .pairs-turn .ensures))
-          ∙ not-false _ (else3 .if3 .left))
-          (one-ended text roads sections junctions connections pairs marks (kept .once)
-          (marks-count roads marks
-          (sym (after-marks-fit .marks-fit .ensures) ∙ not-false _ (else2 .if2 .left)))
-          ∙ sym (after-one-ended .one-ended .ensures)
-          ∙ not-true _ (c .if4 .taken)),
+    let past : tie.Else1 = search in
+    let tested : tie.After-one-ended = search in
+    let two-ended = one-ended _ _ _ _ _ _ _ (kept past .once) (one-each (search))
+    ∙ sym (tested .one-ended .ensures) ∙ not-true _ (c .if4 .taken) in (
+      later past
+          (broken-at 2 (from-12 (tried past)) (marks-fit (search), (numbers-turn (search), tt)) two-ended),
       refused 14,
     )
 
@@ -363,57 +316,15 @@ same-length-25 : tie.Need-same-length-25
 same-length-25 c = search needs
 
 returns-5 : tie.Need-returns-5
-unfolding tableRules mapSized lanesSized edgesSized mapWorded lanesWorded marksFit numbersFine lanesIn pairsIn rulesTo5
+unfolding markRules
 returns-5 c =
-    let after-one-ended : tie.After-one-ended = search in
-    let else3 : tie.Else3 = search in
-    let after-both4 : tie.After-both4 = search in
-    let after-pairs-turn : tie.After-pairs-turn = search in
-    let after-lanes-turn : tie.After-lanes-turn = search in
-    let else2 : tie.Else2 = search in
-    let after-marks-fit : tie.After-marks-fit = search in
-    let else1 : tie.Else1 = search in
-    let after-admitted : tie.After-admitted = search in
-    let after-heads = after-admitted .before .before .before .before .before .before .before .before .before .before in
-    let after-table-verdict = after-heads .before in
-    let after-both3 = after-table-verdict .before .before .before .before .before .before in
-    let after-lanes-worded : tie.After-lanes-worded = search in
-    let after-map-worded : tie.After-map-worded = search in
-    let after-both2 : tie.After-both2 = search in
-    let after-fits3 : tie.After-fits3 = search in
-    let after-both : tie.After-both = search in
-    let after-fits2 : tie.After-fits2 = search in
-    let after-map-sized : tie.After-map-sized = search in
-    let after-shared-slice-known5 = after-map-sized .before .before .before .before .before .before .before .before .before .before in
-    let start = after-shared-slice-known5 .before .before .before .before .before in
-    let text = start .args .text .now in let roads = start .args .roads .now in
-    let sections = start .args .sections .now in let junctions = start .args .junctions .now in
-    let connections = start .args .connections .now in let pairs = start .args .pairs .now in
-    let marks = start .args .marks .now in
-    let t = (allTables text roads sections junctions connections pairs (start .args .lanes .now)
-    (start .args .edges .now)) in
-    let sized = both-is (after-both2 .both2 .ensures)
-    (both-is (after-both .both .ensures) (after-map-sized .map-sized .ensures) (after-fits2 .fits2 .ensures))
-    (after-fits3 .fits3 .ensures) in
-    let worded = both-is (after-both3 .both3 .ensures) (after-map-worded .map-worded .ensures)
-    (after-lanes-worded .lanes-worded .ensures) in
-    let judged = after-table-verdict .table-verdict .ensures .0
-    ∙ ap₂ (λ a b. firstBroken (rulesTo5 a b t ++ laneRules t ++ (rule 10 (edgesFit t) ∷ []))) sized worded in
-    let adm = is-none (refusalOf (after-table-verdict .table-verdict .result))
-    (sym (after-admitted .admitted .ensures) ∙ not-false _ (else1 .if1 .left)) in
-    let first = sym adm ∙ judged in
-    let kept = kept5-more (after-both2 .both2 .result) (after-both3 .both3 .result) t
-    (laneRules t ++ (rule 10 (edgesFit t) ∷ [])) (sym adm ∙ after-table-verdict .table-verdict .ensures .0) in (
-      mark-0 t marks first (sym (after-marks-fit .marks-fit .ensures) ∙ not-false _ (else2 .if2 .left))
-          (sym (both-is (after-both4 .both4 .ensures) (after-lanes-turn .lanes-turn .ensures)
-          (after-pairs-turn .pairs-turn .ensures))
-          ∙ not-false _ (else3 .if3 .left))
-          (one-ended text roads sections junctions connections pairs marks (kept .once)
-          (marks-count roads marks
-          (sym (after-marks-fit .marks-fit .ensures) ∙ not-false _ (else2 .if2 .left)))
-          ∙ sym (after-one-ended .one-ended .ensures)
-          ∙ not-false _ (c .if4 .left)),
-      λ e. after-table-verdict .table-verdict .ensures .1 adm,
+    let past : tie.Else1 = search in
+    let tested : tie.After-one-ended = search in
+    let single = one-ended _ _ _ _ _ _ _ (kept past .once) (one-each (search))
+    ∙ sym (tested .one-ended .ensures) ∙ not-false _ (c .if4 .left) in (
+      later past
+          (sym (pass-all (from-12 (tried past)) (marks-fit (search), (numbers-turn (search), (single, tt))))),
+      λ _. judged (tried past) .table-verdict .ensures .1 (admitted past),
     )
 
 pub reversal-verdict-spec : {M : Type 1} → statement M

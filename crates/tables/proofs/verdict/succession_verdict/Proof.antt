@@ -1,17 +1,46 @@
-use lib.ListN.{length}
-use mathlib.Core.List.{_++_}
-use native.Mathlib.Omega.{arith}
-use mathlib.Core.Path.{sym, ap₂, _∙_}
+-- `succession_verdict` is `lane_verdict` with its own answers of rules 1 and 2.
 use borrow.Author.Needs.{needs}
+use mathlib.Core.Bool.{true, _&&_}
+use mathlib.Core.List.{_++_}
+use mathlib.Core.Path.{_≡_, sym, ap₂, _∙_}
+use native.Mathlib.Omega.{arith}
 use Rattle.model.specs.Calls.{laneRules, rulesTo5, successionRules}
 use Rattle.model.specs.Rules.{firstBroken, lanesSized, lanesWorded, mapSized, mapWorded}
-use Rattle.model.specs.Tables.{laneTables, mapTables}
+use Rattle.model.specs.Tables.{Tables, laneTables}
 use Rattle.words.proofs.Scans.{left-on, right-on}
-use Rattle.rules.proofs.Counts.{few, sized-few, sized10}
+use Rattle.rules.proofs.Counts.{few, lanes-few}
 use Rattle.rules.proofs.Leaves.{both-is}
 use Rattle.tables.proofs.verdict.succession_verdict.Statement.{statement}
 use Rattle.tables.proofs.verdict.succession_verdict.Tie as tie
 
+-- ---- the answers of rules 1 and 2
+module _ (sized : tie.After-map-sized) where
+  abbrev start : tie.Start
+  start = search
+
+  abbrev tables : Tables
+  tables =
+      laneTables (start .args .text .now) (start .args .roads .now) (start .args .sections .now)
+      (start .args .junctions .now) (start .args .connections .now) (start .args .pairs .now)
+      (start .args .lanes .now)
+
+sizes-are : (asked : tie.After-both)
+    → asked .both .result ≡ (mapSized 16384 (tables (search)) && lanesSized (tables (search)))
+unfolding mapSized lanesSized
+sizes-are asked =
+    let map-sized : tie.After-map-sized = search in
+    let lanes-sized : tie.After-fits2 = search in
+    both-is (asked .both .ensures) (map-sized .map-sized .ensures) (lanes-sized .fits2 .ensures)
+
+words-are : (asked : tie.After-both2)
+    → asked .both2 .result ≡ (mapWorded (tables (search)) && lanesWorded (tables (search)))
+unfolding mapWorded lanesWorded
+words-are asked =
+    let map-worded : tie.After-map-worded = search in
+    let lanes-worded : tie.After-lanes-worded = search in
+    both-is (asked .both2 .ensures) (map-worded .map-worded .ensures) (lanes-worded .lanes-worded .ensures)
+
+-- ---- the calls
 map-sized-requires : tie.Need-map-sized-requires
 map-sized-requires c κs = search needs
 
@@ -32,21 +61,16 @@ both-requires-2 c κs = search needs
 
 lane-verdict-requires : tie.Need-lane-verdict-requires
 lane-verdict-requires c κs =
-    let after-both : tie.After-both = search in
-    let after-fits2 : tie.After-fits2 = search in
-    let after-map-sized : tie.After-map-sized = search in
-    let after-shared-slice-known3 = after-map-sized .before .before .before .before .before .before .before .before .before .before in
-    let start = after-shared-slice-known3 .before .before .before in
-    let lanes = start .args .lanes .now in
-    let m = (mapTables (start .args .text .now) (start .args .roads .now) (start .args .sections .now)
-    (start .args .junctions .now) (start .args .connections .now) (start .args .pairs .now)) in
-    let sized = both-is (after-both .both .ensures) (after-map-sized .map-sized .ensures)
-    (after-fits2 .fits2 .ensures) in (
+    let asked : tie.After-both = search in
+    let sized : tie.After-map-sized = search in
+    let t = tables sized in
+    let both-pass : asked .both .result ≡ true → (mapSized 16384 t && lanesSized t) ≡ true =
+    λ passes. sym (sizes-are asked) ∙ passes in (
       (
-        λ e. few 16384 m (omega arith) (left-on (mapSized 16384 m) (sized10 lanes) (sym sized ∙ e)),
-        λ e. sized-few 10 16384 (length lanes) (right-on (mapSized 16384 m) (sized10 lanes) (sym sized ∙ e)),
+        λ passes. few 16384 t (omega arith) (left-on _ (lanesSized t) (both-pass passes)),
+        λ passes. lanes-few t (right-on (mapSized 16384 t) _ (both-pass passes)),
       ),
-      start .pre,
+      start sized .pre,
     )
 
 same-length : tie.Need-same-length
@@ -65,27 +89,15 @@ same-length-5 : tie.Need-same-length-5
 same-length-5 c = search needs
 
 returns : tie.Need-returns
-unfolding successionRules lanesSized mapWorded lanesWorded mapSized
+unfolding successionRules
 returns c =
-    let after-lane-verdict : tie.After-lane-verdict = search in
-    let after-both2 : tie.After-both2 = search in
-    let after-lanes-worded : tie.After-lanes-worded = search in
-    let after-map-worded : tie.After-map-worded = search in
-    let after-both : tie.After-both = search in
-    let after-fits2 : tie.After-fits2 = search in
-    let after-map-sized : tie.After-map-sized = search in
-    let after-shared-slice-known3 = after-map-sized .before .before .before .before .before .before .before .before .before .before in
-    let start = after-shared-slice-known3 .before .before .before in
-    let t = (laneTables (start .args .text .now) (start .args .roads .now) (start .args .sections .now)
-    (start .args .junctions .now) (start .args .connections .now) (start .args .pairs .now)
-    (start .args .lanes .now)) in
-    let sized = both-is (after-both .both .ensures) (after-map-sized .map-sized .ensures)
-    (after-fits2 .fits2 .ensures) in
-    let worded = both-is (after-both2 .both2 .ensures) (after-map-worded .map-worded .ensures)
-    (after-lanes-worded .lanes-worded .ensures) in (
-      after-lane-verdict .lane-verdict .ensures .0
-          ∙ ap₂ (λ a b. firstBroken (rulesTo5 a b t ++ laneRules t)) sized worded,
-      after-lane-verdict .lane-verdict .ensures .1,
+    let judged : tie.After-lane-verdict = search in
+    let sized : tie.After-map-sized = search in
+    let t = tables sized in (
+      judged .lane-verdict .ensures .0
+          ∙ ap₂ (λ sizes words. firstBroken (rulesTo5 sizes words t ++ laneRules t))
+          (sizes-are (search)) (words-are (search)),
+      judged .lane-verdict .ensures .1,
     )
 
 pub succession-verdict-spec : {M : Type 1} → statement M

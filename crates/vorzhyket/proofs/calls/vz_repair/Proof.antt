@@ -1,6 +1,7 @@
-use Rattle.vorzhyket.proofs.Left.{counted, leaves}
-use Rattle.vorzhyket.proofs.CountsFit.{repair-fits}
+-- `vz_repair`: what the call answers, as a number and the rows in `written`.
 use borrow.Author.Needs.{needs}
+use Rattle.vorzhyket.proofs.CountsFit.{repair-counted}
+use Rattle.vorzhyket.proofs.Left.{leaves}
 use Rattle.vorzhyket.proofs.calls.vz_repair.Statement.{statement}
 use Rattle.vorzhyket.proofs.calls.vz_repair.Tie as tie
 
@@ -8,7 +9,9 @@ repair-requires : tie.Need-repair-requires
 repair-requires c κs = search needs
 
 repaired-requires : tie.Need-repaired-requires
-repaired-requires c κs = counted (c .before .before .before .before .before .before .before .before .before .before .before .repair .ensures) (repair-fits _ _)
+repaired-requires c κs =
+    let made : tie.After-repair = search in
+    repair-counted _ _ (made .repair .ensures)
 
 same-length : tie.Need-same-length
 same-length c = search needs
@@ -26,7 +29,9 @@ same-length-5 : tie.Need-same-length-5
 same-length-5 c = search needs
 
 returns : tie.Need-returns
-returns c = leaves (c .before .before .before .before .before .before .before .before .before .before .before .before .repair .ensures) (c .before .before .before .before .before .before .before .before .before .before .before .before .before .before .before .before .before .before .before .before .before .before .before .before .before .before .before .before .before .args .written .now) (c .repaired .ensures)
+returns c =
+    let made : tie.After-repair = search in
+    leaves (made .repair .ensures) _ (c .repaired .ensures)
 
 pub vz-repair-spec : {M : Type 1} → statement M
 vz-repair-spec =

@@ -1,6 +1,7 @@
-use Rattle.vorzhyket.proofs.Left.{counted, leaves}
-use Rattle.vorzhyket.proofs.CountsFit.{reversal-fits}
+-- `vz_reverse`: what the call answers, as a number and the rows in `written`.
 use borrow.Author.Needs.{needs}
+use Rattle.vorzhyket.proofs.CountsFit.{reversal-counted}
+use Rattle.vorzhyket.proofs.Left.{leaves}
 use Rattle.vorzhyket.proofs.calls.vz_reverse.Statement.{statement}
 use Rattle.vorzhyket.proofs.calls.vz_reverse.Tie as tie
 
@@ -8,7 +9,9 @@ reverse-requires : tie.Need-reverse-requires
 reverse-requires c κs = search needs
 
 reversed-requires : tie.Need-reversed-requires
-reversed-requires c κs = counted (c .before .before .before .before .before .before .before .before .before .before .before .before .before .reverse .ensures) (reversal-fits _ _ _)
+reversed-requires c κs =
+    let made : tie.After-reverse = search in
+    reversal-counted _ _ _ (made .reverse .ensures)
 
 same-length : tie.Need-same-length
 same-length c = search needs
@@ -29,7 +32,9 @@ same-length-6 : tie.Need-same-length-6
 same-length-6 c = search needs
 
 returns : tie.Need-returns
-returns c = leaves (c .before .before .before .before .before .before .before .before .before .before .before .before .before .before .reverse .ensures) (c .before .before .before .before .before .before .before .before .before .before .before .before .before .before .before .before .before .before .before .before .before .before .before .before .before .before .before .before .before .before .before .before .before .before .before .before .args .written .now) (c .reversed .ensures)
+returns c =
+    let made : tie.After-reverse = search in
+    leaves (made .reverse .ensures) _ (c .reversed .ensures)
 
 pub vz-reverse-spec : {M : Type 1} → statement M
 vz-reverse-spec =

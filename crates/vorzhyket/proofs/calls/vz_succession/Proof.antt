@@ -1,6 +1,7 @@
-use Rattle.vorzhyket.proofs.Left.{counted, leaves}
-use Rattle.vorzhyket.proofs.CountsFit.{succession-fits}
+-- `vz_succession`: what the call answers, as a number and the rows in `written`.
 use borrow.Author.Needs.{needs}
+use Rattle.vorzhyket.proofs.CountsFit.{succession-counted}
+use Rattle.vorzhyket.proofs.Left.{leaves}
 use Rattle.vorzhyket.proofs.calls.vz_succession.Statement.{statement}
 use Rattle.vorzhyket.proofs.calls.vz_succession.Tie as tie
 
@@ -8,7 +9,9 @@ succession-requires : tie.Need-succession-requires
 succession-requires c κs = search needs
 
 listed-requires : tie.Need-listed-requires
-listed-requires c κs = counted (c .before .before .before .before .before .before .before .before .before .succession .ensures) (succession-fits _ _)
+listed-requires c κs =
+    let made : tie.After-succession = search in
+    succession-counted _ _ (made .succession .ensures)
 
 same-length : tie.Need-same-length
 same-length c = search needs
@@ -23,7 +26,9 @@ same-length-4 : tie.Need-same-length-4
 same-length-4 c = search needs
 
 returns : tie.Need-returns
-returns c = leaves (c .before .before .before .before .before .before .before .before .before .before .succession .ensures) (c .before .before .before .before .before .before .before .before .before .before .before .before .before .before .before .before .before .before .before .before .before .before .before .before .before .before .args .written .now) (c .listed .ensures)
+returns c =
+    let made : tie.After-succession = search in
+    leaves (made .succession .ensures) _ (c .listed .ensures)
 
 pub vz-succession-spec : {M : Type 1} → statement M
 vz-succession-spec =

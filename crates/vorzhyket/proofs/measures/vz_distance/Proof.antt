@@ -1,7 +1,8 @@
+-- `vz_distance`: the distance of the segments between the four points.
+use borrow.Author.Needs.{needs}
 use mathlib.Core.Path.{_∙_}
 use mathlib.Core.List.{[], _∷_}
 use Rattle.geometry.specs.Segment.{distanceOf}
-use borrow.Author.Needs.{needs}
 use Rattle.vorzhyket.proofs.measures.vz_distance.Statement.{statement}
 use Rattle.vorzhyket.proofs.measures.vz_distance.Tie as tie
 
@@ -22,10 +23,14 @@ distance-requires c κs = search needs
 
 returns : tie.Need-returns
 returns c =
-    let p = c .before .before .before .before .before .before .before .point-at .ensures in
-    let q = c .before .before .before .before .before .point-at2 .ensures in
-    let r = c .before .before .before .point-at3 .ensures in
-    let s = c .before .point-at4 .ensures in
+    let fourth : tie.After-point-at4 = search in
+    let third : tie.After-point-at3 = search in
+    let second : tie.After-point-at2 = search in
+    let first : tie.After-point-at = search in
+    let p = first .point-at .ensures in
+    let q = second .point-at2 .ensures in
+    let r = third .point-at3 .ensures in
+    let s = fourth .point-at4 .ensures in
     c .distance .ensures ∙ (λ i. distanceOf (p i ∷ q i ∷ []) (r i ∷ s i ∷ []))
 
 pub vz-distance-spec : {M : Type 1} → statement M

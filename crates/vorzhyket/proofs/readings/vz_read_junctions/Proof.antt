@@ -1,6 +1,7 @@
-use Rattle.vorzhyket.proofs.Left.{counted, leaves}
-use Rattle.vorzhyket.proofs.ReadingFits.{junctions-fit}
+-- `vz_read_junctions`: what the call answers, as a number and the rows in `written`.
 use borrow.Author.Needs.{needs}
+use Rattle.vorzhyket.proofs.ReadingFits.{junctions-counted}
+use Rattle.vorzhyket.proofs.Left.{leaves}
 use Rattle.vorzhyket.proofs.readings.vz_read_junctions.Statement.{statement}
 use Rattle.vorzhyket.proofs.readings.vz_read_junctions.Tie as tie
 
@@ -8,7 +9,9 @@ read-junctions-requires : tie.Need-read-junctions-requires
 read-junctions-requires c κs = search needs
 
 junctions-read-requires : tie.Need-junctions-read-requires
-junctions-read-requires c κs = counted (c .before .before .before .before .before .before .before .before .before .read-junctions .ensures) (junctions-fit _ _ _ _ _)
+junctions-read-requires c κs =
+    let made : tie.After-read-junctions = search in
+    junctions-counted _ _ (made .read-junctions .ensures)
 
 same-length : tie.Need-same-length
 same-length c = search needs
@@ -23,7 +26,9 @@ same-length-4 : tie.Need-same-length-4
 same-length-4 c = search needs
 
 returns : tie.Need-returns
-returns c = leaves (c .before .before .before .before .before .before .before .before .before .before .read-junctions .ensures) (c .before .before .before .before .before .before .before .before .before .before .before .before .before .before .before .before .before .before .before .before .before .before .before .args .written .now) (c .junctions-read .ensures)
+returns c =
+    let made : tie.After-read-junctions = search in
+    leaves (made .read-junctions .ensures) _ (c .junctions-read .ensures)
 
 pub vz-read-junctions-spec : {M : Type 1} → statement M
 vz-read-junctions-spec =

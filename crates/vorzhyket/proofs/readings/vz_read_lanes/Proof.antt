@@ -1,6 +1,7 @@
-use Rattle.vorzhyket.proofs.Left.{counted, leaves}
-use Rattle.vorzhyket.proofs.ReadingFits.{lanes-fit}
+-- `vz_read_lanes`: what the call answers, as a number and the rows in `written`.
 use borrow.Author.Needs.{needs}
+use Rattle.vorzhyket.proofs.ReadingFits.{lanes-counted}
+use Rattle.vorzhyket.proofs.Left.{leaves}
 use Rattle.vorzhyket.proofs.readings.vz_read_lanes.Statement.{statement}
 use Rattle.vorzhyket.proofs.readings.vz_read_lanes.Tie as tie
 
@@ -8,13 +9,17 @@ read-lanes-requires : tie.Need-read-lanes-requires
 read-lanes-requires c κs = search needs
 
 table-read-requires : tie.Need-table-read-requires
-table-read-requires c κs = counted (c .before .before .before .read-lanes .ensures) (lanes-fit _ _ _)
+table-read-requires c κs =
+    let made : tie.After-read-lanes = search in
+    lanes-counted _ _ _ (made .read-lanes .ensures)
 
 same-length : tie.Need-same-length
 same-length c = search needs
 
 returns : tie.Need-returns
-returns c = leaves (c .before .before .before .before .read-lanes .ensures) (c .before .before .before .before .before .before .before .before .before .args .written .now) (c .table-read .ensures)
+returns c =
+    let made : tie.After-read-lanes = search in
+    leaves (made .read-lanes .ensures) _ (c .table-read .ensures)
 
 pub vz-read-lanes-spec : {M : Type 1} → statement M
 vz-read-lanes-spec =

@@ -1,6 +1,7 @@
-use Rattle.vorzhyket.proofs.Left.{counted, leaves}
-use Rattle.vorzhyket.proofs.ReadingFits.{targets-fit}
+-- `vz_read_targets`: what the call answers, as a number and the rows in `written`.
 use borrow.Author.Needs.{needs}
+use Rattle.vorzhyket.proofs.ReadingFits.{targets-counted}
+use Rattle.vorzhyket.proofs.Left.{leaves}
 use Rattle.vorzhyket.proofs.readings.vz_read_targets.Statement.{statement}
 use Rattle.vorzhyket.proofs.readings.vz_read_targets.Tie as tie
 
@@ -8,13 +9,17 @@ read-targets-requires : tie.Need-read-targets-requires
 read-targets-requires c κs = search needs
 
 table-read-requires : tie.Need-table-read-requires
-table-read-requires c κs = counted (c .before .before .before .read-targets .ensures) (targets-fit _ _ _)
+table-read-requires c κs =
+    let made : tie.After-read-targets = search in
+    targets-counted _ _ _ (made .read-targets .ensures)
 
 same-length : tie.Need-same-length
 same-length c = search needs
 
 returns : tie.Need-returns
-returns c = leaves (c .before .before .before .before .read-targets .ensures) (c .before .before .before .before .before .before .before .before .before .args .written .now) (c .table-read .ensures)
+returns c =
+    let made : tie.After-read-targets = search in
+    leaves (made .read-targets .ensures) _ (c .table-read .ensures)
 
 pub vz-read-targets-spec : {M : Type 1} → statement M
 vz-read-targets-spec =

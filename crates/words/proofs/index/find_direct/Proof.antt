@@ -1,8 +1,10 @@
 -- `find_direct` walks the chain of the name's bucket, as `find_key` does; a row passes that is direct and bears the
 -- name.
-use Prim.Native.Nat.{_-_, _<_}
+use Prim.Native.Nat.{_-_, _*_, _<_, _≤_}
 use native.Mathlib.Omega.{arith}
-use mathlib.Core.Path.{sym, _∙_}
+use mathlib.Core.Path.{_≡_, sym, _∙_}
+use lib.ListN.{length}
+use Rattle.words.specs.Chain.{Chained}
 use Rattle.words.specs.Keys.{hashName, isDirectOf, nameHash}
 use Rattle.words.specs.Rows.{span}
 use Rattle.words.proofs.Loops.{Lookup, look-begin, look-hit, look-less, look-none, look-on, look-row}
@@ -27,22 +29,46 @@ Head = tie.At-loop Inv-loop μ-loop
 abbrev Turn : Type 0
 Turn = tie.In-loop Inv-loop μ-loop
 
+-- ---- what is asked
+module _ (start : Start) where
+  rows-inside : start .args .n * 5 ≤ length (start .args .junctions .now)
+  rows-inside = start .pre .0 .0
+
+  few : start .args .n ≤ 16384
+  few = start .pre .0 .1
+
+  buckets : length (start .args .heads .now) ≡ 16384
+  buckets = start .pre .0 .2
+
+  links : start .args .n ≤ length (start .args .next .now)
+  links = start .pre .0 .3
+
+  start-small : start .args .start < 4294967296
+  start-small = start .pre .0 .4
+
+  size-small : start .args .size < 4294967296
+  size-small = start .pre .0 .5
+
+  chained : Chained (nameHash (start .args .text .now) 5 0 (start .args .junctions .now)) (start .args .n)
+      (start .args .heads .now) (start .args .next .now)
+  chained = start .pre .1
+
 bucket-requires : tie.Need-bucket-requires Inv-loop μ-loop
 bucket-requires c κs =
     let start : Start = search in
-    (start .pre .0 .4, start .pre .0 .5)
+    (start-small start, size-small start)
 
 word-requires : tie.Need-word-requires Inv-loop μ-loop
 word-requires c κs =
     let start : Start = search in
-    omega (arith, c .bucket .ensures .1, start .pre .0 .2)
+    omega (arith, c .bucket .ensures .1, buckets start)
 
 loop-holds : tie.Need-loop-holds Inv-loop μ-loop
 loop-holds c =
     let hashed : tie.After-bucket Inv-loop μ-loop = search in
     let start : Start = search in
-    look-begin (start .pre .1) (only-direct _ _ _) (hashed .bucket .ensures .0)
-    (omega (arith, hashed .bucket .ensures .1, start .pre .0 .2)) (c .word .ensures .0)
+    look-begin (chained start) (only-direct _ _ _) (hashed .bucket .ensures .0)
+    (omega (arith, hashed .bucket .ensures .1, buckets start)) (c .word .ensures .0)
 
 sub-r : tie.Need-sub-r Inv-loop μ-loop
 sub-r c = omega arith
@@ -52,10 +78,10 @@ is-direct-requires c κs =
     let head : Head = search in
     let start : Start = search in
     let row : head .loop .at - 1 < start .args .n = look-row (head .loop .inv) (c .loop-test .taken) in (
-      omega (arith, row, start .pre .0 .1),
-      omega (arith, row-in _ 5 4 _ _ row (start .pre .0 .0) (omega arith)),
-      start .pre .0 .4,
-      start .pre .0 .5,
+      omega (arith, row, few start),
+      omega (arith, row-in _ 5 4 _ _ row (rows-inside start) (omega arith)),
+      start-small start,
+      size-small start,
     )
 
 returns : tie.Need-returns Inv-loop μ-loop
@@ -70,7 +96,7 @@ word-requires-2 c κs =
     let turn : Turn = search in
     let head : Head = search in
     let start : Start = search in
-    omega (arith, look-row (head .loop .inv) (turn .loop-test .taken), start .pre .0 .3)
+    omega (arith, look-row (head .loop .inv) (turn .loop-test .taken), links start)
 
 loop-less : tie.Need-loop-less Inv-loop μ-loop
 loop-less c =

@@ -1,10 +1,11 @@
 -- `find_id` walks the chain of the identity's bucket, as `find_key` does.
-use Prim.Native.Nat.{_+_, _-_, _*_, _%_, _<_}
+use Prim.Native.Nat.{_+_, _-_, _*_, _%_, _<_, _≤_}
 use native.Mathlib.Omega.{arith}
 use borrow.Author.Needs.{needs}
 use borrow.Author.Tests.{eq-eqb, ne-eqb}
-use mathlib.Core.Path.{refl}
+use mathlib.Core.Path.{_≡_, refl}
 use lib.ListN.{length}
+use Rattle.words.specs.Chain.{Chained}
 use Rattle.words.specs.Keys.{idHash, isId}
 use Rattle.words.proofs.Loops.{Lookup, look-begin, look-hit, look-less, look-none, look-on, look-row}
 use Rattle.words.proofs.KeyLaws.{only-id, row-in}
@@ -26,6 +27,21 @@ Head = tie.At-loop Inv-loop μ-loop
 abbrev Turn : Type 0
 Turn = tie.In-loop Inv-loop μ-loop
 
+-- ---- what is asked
+module _ (start : Start) where
+  rows-inside : start .args .n * 10 ≤ length (start .args .lanes .now)
+  rows-inside = start .pre .0 .0
+
+  buckets : length (start .args .heads .now) ≡ 16384
+  buckets = start .pre .0 .1
+
+  links : start .args .n ≤ length (start .args .next .now)
+  links = start .pre .0 .2
+
+  chained : Chained (idHash (start .args .lanes .now)) (start .args .n) (start .args .heads .now)
+      (start .args .next .now)
+  chained = start .pre .1
+
 -- the row that `at` leads to has all its words
 module _ (turn : Turn) where
   abbrev head : Head
@@ -35,7 +51,7 @@ module _ (turn : Turn) where
   start = search
 
   row-fits : (head .loop .at - 1) * 10 + 9 < length (start .args .lanes .now)
-  row-fits = row-in _ 10 9 _ _ (look-row (head .loop .inv) (turn .loop-test .taken)) (start .pre .0 .0) (omega arith)
+  row-fits = row-in _ 10 9 _ _ (look-row (head .loop .inv) (turn .loop-test .taken)) (rows-inside start) (omega arith)
 
 cast-word : tie.Need-cast-word Inv-loop μ-loop
 cast-word c = omega arith
@@ -43,12 +59,12 @@ cast-word c = omega arith
 word-requires : tie.Need-word-requires Inv-loop μ-loop
 word-requires c κs =
     let start : Start = search in
-    omega (arith, start .pre .0 .1)
+    omega (arith, buckets start)
 
 loop-holds : tie.Need-loop-holds Inv-loop μ-loop
 loop-holds c =
     let start : Start = search in
-    look-begin (start .pre .1) (only-id _ _) refl (omega (arith, start .pre .0 .1)) (c .word .ensures .0)
+    look-begin (chained start) (only-id _ _) refl (omega (arith, buckets start)) (c .word .ensures .0)
 
 sub-r : tie.Need-sub-r Inv-loop μ-loop
 sub-r c = omega arith
@@ -74,7 +90,7 @@ word-requires-2 c κs =
     let turn : Turn = search in
     let head : Head = search in
     let start : Start = search in
-    omega (arith, look-row (head .loop .inv) (turn .loop-test .taken), start .pre .0 .2)
+    omega (arith, look-row (head .loop .inv) (turn .loop-test .taken), links start)
 
 loop-less : tie.Need-loop-less Inv-loop μ-loop
 loop-less c =

@@ -1,8 +1,10 @@
 -- `find_key` walks one bucket's chain back from its head. At the loop's head no row from `at` on has the key,
 -- which is what `Lookup` says: each need is a law of `Chains` about it.
-use Prim.Native.Nat.{_-_, _<_}
+use Prim.Native.Nat.{_-_, _*_, _<_, _≤_}
 use native.Mathlib.Omega.{arith}
-use mathlib.Core.Path.{sym, _∙_}
+use mathlib.Core.Path.{_≡_, sym, _∙_}
+use lib.ListN.{length}
+use Rattle.words.specs.Chain.{Chained}
 use Rattle.words.specs.Keys.{isKey, keyHash, laneHash}
 use Rattle.words.proofs.Loops.{Lookup, look-begin, look-hit, look-less, look-none, look-on, look-row}
 use Rattle.words.proofs.KeyLaws.{only-key, row-in}
@@ -25,22 +27,46 @@ Head = tie.At-loop Inv-loop μ-loop
 abbrev Turn : Type 0
 Turn = tie.In-loop Inv-loop μ-loop
 
+-- ---- what is asked
+module _ (start : Start) where
+  rows-inside : start .args .n * 10 ≤ length (start .args .lanes .now)
+  rows-inside = start .pre .0 .0
+
+  few : start .args .n ≤ 16384
+  few = start .pre .0 .1
+
+  owners : start .args .n ≤ length (start .args .owner .now)
+  owners = start .pre .0 .2
+
+  buckets : length (start .args .heads .now) ≡ 16384
+  buckets = start .pre .0 .3
+
+  links : start .args .n ≤ length (start .args .next .now)
+  links = start .pre .0 .4
+
+  road-small : start .args .road < 4294967296
+  road-small = start .pre .0 .5
+
+  chained : Chained (laneHash (start .args .lanes .now) (start .args .owner .now)) (start .args .n)
+      (start .args .heads .now) (start .args .next .now)
+  chained = start .pre .1
+
 key-bucket-requires : tie.Need-key-bucket-requires Inv-loop μ-loop
 key-bucket-requires c κs =
     let start : Start = search in
-    start .pre .0 .5
+    road-small start
 
 word-requires : tie.Need-word-requires Inv-loop μ-loop
 word-requires c κs =
     let start : Start = search in
-    omega (arith, c .key-bucket .ensures .1, start .pre .0 .3)
+    omega (arith, c .key-bucket .ensures .1, buckets start)
 
 loop-holds : tie.Need-loop-holds Inv-loop μ-loop
 loop-holds c =
     let hashed : tie.After-key-bucket Inv-loop μ-loop = search in
     let start : Start = search in
-    look-begin (start .pre .1) (only-key _ _ _ _ _) (hashed .key-bucket .ensures .0)
-    (omega (arith, hashed .key-bucket .ensures .1, start .pre .0 .3)) (c .word .ensures .0)
+    look-begin (chained start) (only-key _ _ _ _ _) (hashed .key-bucket .ensures .0)
+    (omega (arith, hashed .key-bucket .ensures .1, buckets start)) (c .word .ensures .0)
 
 sub-r : tie.Need-sub-r Inv-loop μ-loop
 sub-r c = omega arith
@@ -50,9 +76,9 @@ has-key-requires c κs =
     let head : Head = search in
     let start : Start = search in
     let row : head .loop .at - 1 < start .args .n = look-row (head .loop .inv) (c .loop-test .taken) in (
-      omega (arith, row, start .pre .0 .1),
-      omega (arith, row-in _ 10 9 _ _ row (start .pre .0 .0) (omega arith)),
-      omega (arith, row, start .pre .0 .2),
+      omega (arith, row, few start),
+      omega (arith, row-in _ 10 9 _ _ row (rows-inside start) (omega arith)),
+      omega (arith, row, owners start),
     )
 
 returns : tie.Need-returns Inv-loop μ-loop
@@ -67,7 +93,7 @@ word-requires-2 c κs =
     let turn : Turn = search in
     let head : Head = search in
     let start : Start = search in
-    omega (arith, look-row (head .loop .inv) (turn .loop-test .taken), start .pre .0 .4)
+    omega (arith, look-row (head .loop .inv) (turn .loop-test .taken), links start)
 
 loop-less : tie.Need-loop-less Inv-loop μ-loop
 loop-less c =

@@ -1,8 +1,9 @@
 -- `find_name` walks the chain of the name's bucket, as `find_key` does.
-use Prim.Native.Nat.{_+_, _-_, _*_, _<_}
+use Prim.Native.Nat.{_+_, _-_, _*_, _<_, _≤_}
 use native.Mathlib.Omega.{arith}
-use mathlib.Core.Path.{sym, _∙_}
+use mathlib.Core.Path.{_≡_, sym, _∙_}
 use lib.ListN.{length}
+use Rattle.words.specs.Chain.{Chained}
 use Rattle.words.specs.Keys.{bears, hashName, nameHash}
 use Rattle.words.specs.Rows.{span}
 use Rattle.words.proofs.Loops.{Lookup, look-begin, look-hit, look-less, look-none, look-on, look-row}
@@ -27,6 +28,30 @@ Head = tie.At-loop Inv-loop μ-loop
 abbrev Turn : Type 0
 Turn = tie.In-loop Inv-loop μ-loop
 
+-- ---- what is asked
+module _ (start : Start) where
+  name-inside : start .args .k + 1 < start .args .w
+  name-inside = start .pre .0 .1
+
+  rows-inside : start .args .n * start .args .w ≤ length (start .args .ws .now)
+  rows-inside = start .pre .0 .2
+
+  buckets : length (start .args .heads .now) ≡ 16384
+  buckets = start .pre .0 .4
+
+  links : start .args .n ≤ length (start .args .next .now)
+  links = start .pre .0 .5
+
+  start-small : start .args .start < 4294967296
+  start-small = start .pre .0 .6
+
+  size-small : start .args .size < 4294967296
+  size-small = start .pre .0 .7
+
+  chained : Chained (nameHash (start .args .text .now) (start .args .w) (start .args .k) (start .args .ws .now))
+      (start .args .n) (start .args .heads .now) (start .args .next .now)
+  chained = start .pre .1
+
 -- the row that `last` leads to has both words of its name
 module _ (turn : Turn) where
   abbrev head : Head
@@ -37,24 +62,24 @@ module _ (turn : Turn) where
 
   row-fits : (head .loop .last - 1) * start .args .w + (start .args .k + 1) < length (start .args .ws .now)
   row-fits =
-      row-in _ _ _ _ _ (look-row (head .loop .inv) (turn .loop-test .taken)) (start .pre .0 .2) (start .pre .0 .1)
+      row-in _ _ _ _ _ (look-row (head .loop .inv) (turn .loop-test .taken)) (rows-inside start) (name-inside start)
 
 bucket-requires : tie.Need-bucket-requires Inv-loop μ-loop
 bucket-requires c κs =
     let start : Start = search in
-    (start .pre .0 .6, start .pre .0 .7)
+    (start-small start, size-small start)
 
 word-requires : tie.Need-word-requires Inv-loop μ-loop
 word-requires c κs =
     let start : Start = search in
-    omega (arith, c .bucket .ensures .1, start .pre .0 .4)
+    omega (arith, c .bucket .ensures .1, buckets start)
 
 loop-holds : tie.Need-loop-holds Inv-loop μ-loop
 loop-holds c =
     let hashed : tie.After-bucket Inv-loop μ-loop = search in
     let start : Start = search in
-    look-begin (start .pre .1) (only-name _ _ _ _ _) (hashed .bucket .ensures .0)
-    (omega (arith, hashed .bucket .ensures .1, start .pre .0 .4)) (c .word .ensures .0)
+    look-begin (chained start) (only-name _ _ _ _ _) (hashed .bucket .ensures .0)
+    (omega (arith, hashed .bucket .ensures .1, buckets start)) (c .word .ensures .0)
 
 sub-r : tie.Need-sub-r Inv-loop μ-loop
 sub-r c = omega arith
@@ -63,7 +88,7 @@ word-requires-2 : tie.Need-word-requires-2 Inv-loop μ-loop
 word-requires-2 c κs =
     let head : Head = search in
     let start : Start = search in
-    omega (arith, look-row (head .loop .inv) (c .loop-test .taken), start .pre .0 .5)
+    omega (arith, look-row (head .loop .inv) (c .loop-test .taken), links start)
 
 mul-named : tie.Need-mul-named Inv-loop μ-loop
 mul-named c = omega (arith, row-fits (search))
@@ -74,7 +99,7 @@ add-named c = omega (arith, row-fits (search))
 named-requires : tie.Need-named-requires Inv-loop μ-loop
 named-requires c κs =
     let start : Start = search in
-    (omega (arith, row-fits (search)), start .pre .0 .6, start .pre .0 .7)
+    (omega (arith, row-fits (search)), start-small start, size-small start)
 
 returns : tie.Need-returns Inv-loop μ-loop
 unfolding bears

@@ -1,9 +1,10 @@
 -- `link_ids` puts each lane in front of its bucket's chain, as `link_names` does.
 use lib.ListN.{length}
-use Prim.Native.Nat.{ℕ, _+_, _*_, _-_, _<_}
+use Prim.Native.Nat.{_+_, _*_, _-_, _<_, _≤_}
 use native.Mathlib.Omega.{arith}
 use borrow.Author.Needs.{needs}
 use mathlib.Core.Path.{refl}
+use Rattle.words.specs.Chain.{Empty}
 use Rattle.words.specs.Keys.{idBefore, idHash}
 use Rattle.words.proofs.KeyLaws.{row-in, rows-le}
 use Rattle.words.proofs.Loops.{Linking, all-linked, linking-more, linking-none}
@@ -27,31 +28,48 @@ Head = tie.At-loop Inv-loop μ-loop
 abbrev Turn : Type 0
 Turn = tie.In-loop Inv-loop μ-loop
 
+-- ---- what is asked
+module _ (start : Start) where
+  rows-inside : start .args .n * 10 ≤ length (start .args .lanes .now)
+  rows-inside = start .pre .0 .0
+
+  few : start .args .n ≤ 16384
+  few = start .pre .0 .1
+
+  empty : Empty (start .args .heads .now) (start .args .next .now)
+  empty = start .pre .1
+
 -- lane i has all its words
-row-fits : (start : Start) (i : ℕ) → i < start .args .n → i * 10 + 9 < length (start .args .lanes .now)
-row-fits start i h = row-in _ 10 9 _ _ h (start .pre .0 .0) (omega arith)
+module _ (turn : Turn) where
+  abbrev head : Head
+  head = search
+
+  abbrev start : Start
+  start = search
+
+  row-fits : head .loop .i * 10 + 9 < length (start .args .lanes .now)
+  row-fits = row-in _ 10 9 _ _ (turn .loop-test .taken) (rows-inside start) (omega arith)
 
 loop-holds : tie.Need-loop-holds Inv-loop μ-loop
 loop-holds c =
     let start : Start = search in
-    linking-none (start .pre .1)
+    linking-none (empty start)
 
 mul-id : tie.Need-mul-id Inv-loop μ-loop
-mul-id c = let turn : Turn = search in omega (arith, row-fits (search) _ (turn .loop-test .taken))
+mul-id c = omega (arith, row-fits (search))
 
 mul-id-2 : tie.Need-mul-id-2 Inv-loop μ-loop
 mul-id-2 c = search needs
 
 shared-slice-read-id : tie.Need-shared-slice-read-id Inv-loop μ-loop
-shared-slice-read-id c = let turn : Turn = search in omega (arith, row-fits (search) _ (turn .loop-test .taken))
+shared-slice-read-id c = omega (arith, row-fits (search))
 
 find-id-requires : tie.Need-find-id-requires Inv-loop μ-loop
 find-id-requires c κs =
     let head : Head = search in
     let start : Start = search in
-    let pre = start .pre .0 in
     let inv = head .loop .inv in (
-      (rows-le _ _ _ _ (inv .below) (pre .0), inv .buckets, omega (arith, pre .1, inv .rows, inv .below)),
+      (rows-le _ _ _ _ (inv .below) (rows-inside start), inv .buckets, omega (arith, few start, inv .rows, inv .below)),
       inv .chains,
     )
 
@@ -68,8 +86,8 @@ link-requires c κs =
     let start : Start = search in
     let inv = head .loop .inv in (
       omega (arith, inv .buckets),
-      omega (arith, start .pre .0 .1, inv .rows, turn .loop-test .taken),
-      omega (arith, start .pre .0 .1, turn .loop-test .taken),
+      omega (arith, few start, inv .rows, turn .loop-test .taken),
+      omega (arith, few start, turn .loop-test .taken),
     )
 
 add-i : tie.Need-add-i Inv-loop μ-loop
@@ -87,7 +105,7 @@ loop-again c =
     let turn : Turn = search in
     let head : Head = search in
     let start : Start = search in
-    linking-more (head .loop .inv) _ (turn .loop-test .taken) (start .pre .0 .1) (met .met .ensures)
+    linking-more (head .loop .inv) _ (turn .loop-test .taken) (few start) (met .met .ensures)
     (found .find-id .ensures) refl refl (omega arith) (linked .link .ensures .0) (linked .link .ensures .1)
 
 same-length : tie.Need-same-length Inv-loop μ-loop

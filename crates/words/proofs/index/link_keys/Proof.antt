@@ -1,9 +1,10 @@
 -- `link_keys` puts each lane in front of its bucket's chain, as `link_names` does.
 use lib.ListN.{length, getD}
-use Prim.Native.Nat.{ℕ, _+_, _*_, _-_, _<_}
+use Prim.Native.Nat.{ℕ, _+_, _*_, _-_, _<_, _≤_}
 use native.Mathlib.Omega.{arith}
 use borrow.Author.Needs.{needs}
 use mathlib.Core.Path.{_≡_, refl, ap, _∙_}
+use Rattle.words.specs.Chain.{Empty}
 use Rattle.words.specs.Keys.{isKey, keyBefore, keyHash, laneHash}
 use Rattle.words.specs.Rows.{lastOf}
 use Rattle.words.proofs.KeyLaws.{row-in, rows-le}
@@ -28,58 +29,78 @@ Head = tie.At-loop Inv-loop μ-loop
 abbrev Turn : Type 0
 Turn = tie.In-loop Inv-loop μ-loop
 
+-- ---- what is asked
+module _ (start : Start) where
+  rows-inside : start .args .n * 10 ≤ length (start .args .lanes .now)
+  rows-inside = start .pre .0 .0
+
+  few : start .args .n ≤ 16384
+  few = start .pre .0 .1
+
+  owners : start .args .n ≤ length (start .args .owner .now)
+  owners = start .pre .0 .2
+
+  empty : Empty (start .args .heads .now) (start .args .next .now)
+  empty = start .pre .1
+
 -- lane i has all its words
-row-fits : (start : Start) (i : ℕ) → i < start .args .n → i * 10 + 9 < length (start .args .lanes .now)
-row-fits start i h = row-in _ 10 9 _ _ h (start .pre .0 .0) (omega arith)
+module _ (turn : Turn) where
+  abbrev head : Head
+  head = search
+
+  abbrev start : Start
+  start = search
+
+  row-fits : head .loop .i * 10 + 9 < length (start .args .lanes .now)
+  row-fits = row-in _ 10 9 _ _ (turn .loop-test .taken) (rows-inside start) (omega arith)
 
 loop-holds : tie.Need-loop-holds Inv-loop μ-loop
 loop-holds c =
     let start : Start = search in
-    linking-none (start .pre .1)
+    linking-none (empty start)
 
 word-requires : tie.Need-word-requires Inv-loop μ-loop
 word-requires c κs =
     let turn : Turn = search in
     let start : Start = search in
-    omega (arith, start .pre .0 .2, turn .loop-test .taken)
+    omega (arith, owners start, turn .loop-test .taken)
 
 mul-section : tie.Need-mul-section Inv-loop μ-loop
-mul-section c = let turn : Turn = search in omega (arith, row-fits (search) _ (turn .loop-test .taken))
+mul-section c = omega (arith, row-fits (search))
 
 add-section : tie.Need-add-section Inv-loop μ-loop
-add-section c = let turn : Turn = search in omega (arith, row-fits (search) _ (turn .loop-test .taken))
+add-section c = omega (arith, row-fits (search))
 
 mul-section-2 : tie.Need-mul-section-2 Inv-loop μ-loop
 mul-section-2 c = search needs
 
 shared-slice-read-section : tie.Need-shared-slice-read-section Inv-loop μ-loop
-shared-slice-read-section c = let turn : Turn = search in omega (arith, row-fits (search) _ (turn .loop-test .taken))
+shared-slice-read-section c = omega (arith, row-fits (search))
 
 mul-number : tie.Need-mul-number Inv-loop μ-loop
-mul-number c = let turn : Turn = search in omega (arith, row-fits (search) _ (turn .loop-test .taken))
+mul-number c = omega (arith, row-fits (search))
 
 add-number : tie.Need-add-number Inv-loop μ-loop
-add-number c = let turn : Turn = search in omega (arith, row-fits (search) _ (turn .loop-test .taken))
+add-number c = omega (arith, row-fits (search))
 
 mul-number-2 : tie.Need-mul-number-2 Inv-loop μ-loop
 mul-number-2 c = search needs
 
 shared-slice-read-number : tie.Need-shared-slice-read-number Inv-loop μ-loop
-shared-slice-read-number c = let turn : Turn = search in omega (arith, row-fits (search) _ (turn .loop-test .taken))
+shared-slice-read-number c = omega (arith, row-fits (search))
 
 find-key-requires : tie.Need-find-key-requires Inv-loop μ-loop
 find-key-requires c κs =
     let read : tie.After-word Inv-loop μ-loop = search in
     let head : Head = search in
     let start : Start = search in
-    let pre = start .pre .0 in
     let inv = head .loop .inv in (
       (
-        rows-le _ _ _ _ (inv .below) (pre .0),
-        omega (arith, pre .1, inv .below),
-        omega (arith, pre .2, inv .below),
+        rows-le _ _ _ _ (inv .below) (rows-inside start),
+        omega (arith, few start, inv .below),
+        omega (arith, owners start, inv .below),
         inv .buckets,
-        omega (arith, pre .1, inv .rows, inv .below),
+        omega (arith, few start, inv .rows, inv .below),
         read .word .ensures .1,
       ),
       inv .chains,
@@ -101,8 +122,8 @@ link-requires c κs =
     let start : Start = search in
     let inv = head .loop .inv in (
       omega (arith, bucket .key-bucket .ensures .1, inv .buckets),
-      omega (arith, start .pre .0 .1, inv .rows, turn .loop-test .taken),
-      omega (arith, start .pre .0 .1, turn .loop-test .taken),
+      omega (arith, few start, inv .rows, turn .loop-test .taken),
+      omega (arith, few start, turn .loop-test .taken),
     )
 
 add-i : tie.Need-add-i Inv-loop μ-loop
@@ -131,7 +152,7 @@ loop-again c =
     let bucket-is = bucket .key-bucket .ensures .0 ∙ ap (λ (r : ℕ). keyHash r section number) road-is in
     let last-is = found .find-key .ensures
     ∙ ap (λ (r : ℕ). lastOf i (isKey lanes owner r section number)) road-is in
-    linking-more (head .loop .inv) _ (turn .loop-test .taken) (start .pre .0 .1) (met .met .ensures) last-is refl
+    linking-more (head .loop .inv) _ (turn .loop-test .taken) (few start) (met .met .ensures) last-is refl
     bucket-is (bucket .key-bucket .ensures .1) (linked .link .ensures .0) (linked .link .ensures .1)
 
 same-length : tie.Need-same-length Inv-loop μ-loop

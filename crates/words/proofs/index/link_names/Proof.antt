@@ -4,8 +4,10 @@ use borrow.Author.Needs.{needs}
 use lib.ListN.{length}
 use native.Mathlib.Omega.{arith}
 use mathlib.Core.Bool.{Bool}
-use mathlib.Core.Path.{refl, ap₂, _∙_}
-use Prim.Native.Nat.{ℕ, _+_, _*_, _-_, _<_}
+use mathlib.Core.Path.{refl, ap, ap₂, _∙_}
+use Prim.Native.Nat.{ℕ, _+_, _*_, _-_, _<_, _≤_}
+use Rattle.model.specs.Records.{Span}
+use Rattle.words.specs.Chain.{Empty}
 use Rattle.words.specs.Keys.{bears, hashName, nameBefore, nameHash}
 use Rattle.words.specs.Rows.{lastOf, span}
 use Rattle.words.proofs.KeyLaws.{row-in, rows-le}
@@ -30,41 +32,59 @@ Head = tie.At-loop Inv-loop μ-loop
 abbrev Turn : Type 0
 Turn = tie.In-loop Inv-loop μ-loop
 
--- ---- what a turn is about: row i's name, its bucket, and who bears a name
+-- ---- what is asked
 module _ (start : Start) where
-  abbrev bearers : ℕ → ℕ → ℕ → Bool
-  bearers s l = bears (start .args .text .now) (start .args .w) (start .args .k) (start .args .ws .now) (span s l)
+  narrow : start .args .w ≤ 20
+  narrow = start .pre .0 .0
 
-  -- row i has both words of its name
-  row-fits : (i : ℕ) → i < start .args .n
-      → i * (start .args .w) + (start .args .k + 1) < length (start .args .ws .now)
-  row-fits i h = row-in _ _ _ _ _ h (start .pre .0 .2) (start .pre .0 .1)
+  name-inside : start .args .k + 1 < start .args .w
+  name-inside = start .pre .0 .1
+
+  rows-inside : start .args .n * start .args .w ≤ length (start .args .ws .now)
+  rows-inside = start .pre .0 .2
+
+  few : start .args .n ≤ 16384
+  few = start .pre .0 .3
+
+  empty : Empty (start .args .heads .now) (start .args .next .now)
+  empty = start .pre .1
+
+-- row i has both words of its name
+module _ (turn : Turn) where
+  abbrev head : Head
+  head = search
+
+  abbrev start : Start
+  start = search
+
+  row-fits : head .loop .i * start .args .w + (start .args .k + 1) < length (start .args .ws .now)
+  row-fits = row-in _ _ _ _ _ (turn .loop-test .taken) (rows-inside start) (name-inside start)
 
 loop-holds : tie.Need-loop-holds Inv-loop μ-loop
 loop-holds c =
     let start : Start = search in
-    linking-none (start .pre .1)
+    linking-none (empty start)
 
 mul-word : tie.Need-mul-word Inv-loop μ-loop
-mul-word c = let turn : Turn = search in omega (arith, row-fits (search) _ (turn .loop-test .taken))
+mul-word c = omega (arith, row-fits (search))
 
 add-word : tie.Need-add-word Inv-loop μ-loop
-add-word c = let turn : Turn = search in omega (arith, row-fits (search) _ (turn .loop-test .taken))
+add-word c = omega (arith, row-fits (search))
 
 word-requires : tie.Need-word-requires Inv-loop μ-loop
-word-requires c κs = let turn : Turn = search in omega (arith, row-fits (search) _ (turn .loop-test .taken))
+word-requires c κs = omega (arith, row-fits (search))
 
 mul-word-2 : tie.Need-mul-word-2 Inv-loop μ-loop
-mul-word-2 c = let turn : Turn = search in omega (arith, row-fits (search) _ (turn .loop-test .taken))
+mul-word-2 c = omega (arith, row-fits (search))
 
 add-word-2 : tie.Need-add-word-2 Inv-loop μ-loop
-add-word-2 c = let turn : Turn = search in omega (arith, row-fits (search) _ (turn .loop-test .taken))
+add-word-2 c = omega (arith, row-fits (search))
 
 add-word-3 : tie.Need-add-word-3 Inv-loop μ-loop
-add-word-3 c = let turn : Turn = search in omega (arith, row-fits (search) _ (turn .loop-test .taken))
+add-word-3 c = omega (arith, row-fits (search))
 
 word-requires-2 : tie.Need-word-requires-2 Inv-loop μ-loop
-word-requires-2 c κs = let turn : Turn = search in omega (arith, row-fits (search) _ (turn .loop-test .taken))
+word-requires-2 c κs = omega (arith, row-fits (search))
 
 find-name-requires : tie.Need-find-name-requires Inv-loop μ-loop
 find-name-requires c κs =
@@ -72,15 +92,14 @@ find-name-requires c κs =
     let first : tie.After-word Inv-loop μ-loop = search in
     let head : Head = search in
     let start : Start = search in
-    let pre = start .pre .0 in
     let inv = head .loop .inv in (
       (
-        pre .0,
-        pre .1,
-        rows-le _ _ _ _ (inv .below) (pre .2),
-        omega (arith, pre .3, inv .below),
+        narrow start,
+        name-inside start,
+        rows-le _ _ _ _ (inv .below) (rows-inside start),
+        omega (arith, few start, inv .below),
         inv .buckets,
-        omega (arith, pre .3, inv .rows, inv .below),
+        omega (arith, few start, inv .rows, inv .below),
         first .word .ensures .1,
         second .word2 .ensures .1,
       ),
@@ -104,8 +123,8 @@ link-requires c κs =
     let start : Start = search in
     let inv = head .loop .inv in (
       omega (arith, bucket .bucket .ensures .1, inv .buckets),
-      omega (arith, start .pre .0 .3, inv .rows, turn .loop-test .taken),
-      omega (arith, start .pre .0 .3, turn .loop-test .taken),
+      omega (arith, few start, inv .rows, turn .loop-test .taken),
+      omega (arith, few start, turn .loop-test .taken),
     )
 
 add-i : tie.Need-add-i Inv-loop μ-loop
@@ -126,10 +145,12 @@ loop-again c =
     let turn : Turn = search in
     let head : Head = search in
     let start : Start = search in
-    let words : (f : ℕ → ℕ → ℕ) → _ = λ f. ap₂ f (first .word .ensures .0) (second .word2 .ensures .0) in
-    let bucket-is = bucket .bucket .ensures .0 ∙ words (λ s l. hashName (start .args .text .now) (span s l)) in
-    let last-is = found .find-name .ensures ∙ words (λ s l. lastOf (head .loop .i) (bearers start s l)) in
-    linking-more (head .loop .inv) _ (turn .loop-test .taken) (start .pre .0 .3) (met .met .ensures) last-is refl
+    let name-is = ap₂ span (first .word .ensures .0) (second .word2 .ensures .0) in
+    let bucket-is = bucket .bucket .ensures .0 ∙ ap (hashName _) name-is in
+    let bearers : Span → ℕ → Bool =
+    bears (start .args .text .now) (start .args .w) (start .args .k) (start .args .ws .now) in
+    let last-is = found .find-name .ensures ∙ ap (λ n. lastOf (head .loop .i) (bearers n)) name-is in
+    linking-more (head .loop .inv) _ (turn .loop-test .taken) (few start) (met .met .ensures) last-is refl
     bucket-is (bucket .bucket .ensures .1) (linked .link .ensures .0) (linked .link .ensures .1)
 
 same-length : tie.Need-same-length Inv-loop μ-loop

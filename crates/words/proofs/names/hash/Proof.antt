@@ -1,7 +1,8 @@
-use lib.ListN.{length, drop}
+-- Byte after byte: at the loop's head `h` and the bytes from `i` on come to the whole's hash.
+use Prim.Native.Nat.{_-_, _<_, _≤_}
 use native.Mathlib.Omega.{arith}
 use mathlib.Core.Path.{_≡_, refl, _∙_}
-use Prim.Native.Nat.{_-_, _<_, _≤_}
+use lib.ListN.{length, drop}
 use Rattle.words.specs.Keys.{hashFrom}
 use Rattle.words.proofs.KeyLaws.{hash-end, hash-turn}
 use Rattle.words.proofs.names.hash.Statement.{statement}
@@ -12,6 +13,12 @@ Inv-loop bytes h₀ i₀ h i = (i ≤ length bytes) × (h < 16384) × (hashFrom 
 
 abbrev μ-loop : tie.MeasureT-loop
 μ-loop bytes h₀ i₀ h i = length bytes - i
+
+abbrev Head : Type 0
+Head = tie.At-loop Inv-loop μ-loop
+
+abbrev Turn : Type 0
+Turn = tie.In-loop Inv-loop μ-loop
 
 loop-holds : tie.Need-loop-holds Inv-loop μ-loop
 loop-holds c = (omega arith, omega arith, refl)
@@ -24,13 +31,13 @@ shared-slice-read-h c = omega arith
 
 cast-h : tie.Need-cast-h Inv-loop μ-loop
 cast-h c =
-    let at-loop : tie.At-loop Inv-loop μ-loop = search in
-    omega (arith, c .shared-slice-known .given (at-loop .loop .i))
+    let head : Head = search in
+    omega (arith, c .shared-slice-known .given (head .loop .i))
 
 add-h : tie.Need-add-h Inv-loop μ-loop
 add-h c =
-    let at-loop : tie.At-loop Inv-loop μ-loop = search in
-    omega (arith, c .shared-slice-known .given (at-loop .loop .i))
+    let head : Head = search in
+    omega (arith, c .shared-slice-known .given (head .loop .i))
 
 add-i : tie.Need-add-i Inv-loop μ-loop
 add-i c = omega arith
@@ -40,20 +47,15 @@ loop-less c = omega arith
 
 loop-again : tie.Need-loop-again Inv-loop μ-loop
 loop-again c =
-    let at-loop : tie.At-loop Inv-loop μ-loop = search in
-    let start : tie.Start Inv-loop μ-loop = search in
-    let bytes = start .args .bytes .now in
-    let l = at-loop .loop in
-    let h : l .i < length bytes = omega arith in
-    (omega arith, omega arith, hash-turn bytes (l .i) (l .h) h ∙ l .inv .2)
+    let turn : Turn = search in
+    let head : Head = search in
+    let turned = hash-turn _ (head .loop .i) (head .loop .h) (turn .loop-test .taken) in
+    (omega arith, omega arith, turned ∙ head .loop .inv .2)
 
 returns : tie.Need-returns Inv-loop μ-loop
 returns c =
-    let at-loop : tie.At-loop Inv-loop μ-loop = search in
-    let start : tie.Start Inv-loop μ-loop = search in
-    let bytes = start .args .bytes .now in
-    let l = at-loop .loop in
-    let past : length bytes ≤ l .i = omega arith in (hash-end bytes (l .i) (l .h) past ∙ l .inv .2, l .inv .1)
+    let head : Head = search in
+    (hash-end _ _ (head .loop .h) (c .loop-test .left) ∙ head .loop .inv .2, head .loop .inv .1)
 
 pub hash-spec : {M : Type 1} → statement M
 hash-spec =

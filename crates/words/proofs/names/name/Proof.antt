@@ -1,52 +1,46 @@
-use lib.ListN.{drop, take}
+-- The ends are cut down to the text's length; `name-any` says that this is `bytesOf`, whatever the name's words are.
 use native.Mathlib.Omega.{arith}
-use mathlib.Core.Path.{ap₂, _∙_}
-use Prim.Native.Nat.{ℕ, _-_}
+use Prim.Native.Nat.{_≤_}
+use lib.ListN.{length}
 use borrow.Author.Needs.{needs}
 use Rattle.words.proofs.KeyLaws.{name-any}
 use Rattle.words.proofs.names.name.Statement.{statement}
 use Rattle.words.proofs.names.name.Tie as tie
 
-least-requires : tie.Need-least-requires
-least-requires c κs = search needs
+-- the part's ends are in order, and in the text
+module _ (second : tie.After-least2) where
+  abbrev first : tie.After-least
+  first = search
 
-add-least : tie.Need-add-least
-add-least c = omega arith
+  abbrev start : tie.Start
+  start = search
 
-least-requires-2 : tie.Need-least-requires-2
-least-requires-2 c κs = search needs
+  in-order : (first .least .result ≤ second .least2 .result)
+      × (second .least2 .result ≤ length (start .args .text .now))
+  in-order = (omega (arith, first .least .ensures, second .least2 .ensures), omega (arith, second .least2 .ensures))
 
 sub-result : tie.Need-sub-result
-sub-result c =
-    let after-least : tie.After-least = search in
-    omega (arith, after-least .least .ensures, c .least2 .ensures)
+sub-result c = in-order c .0
 
 part-result-start : tie.Need-part-result-start
-part-result-start c =
-    let after-least : tie.After-least = search in
-    omega (arith, after-least .least .ensures, c .least2 .ensures)
+part-result-start c = omega (arith, in-order (search))
 
 part-result-end : tie.Need-part-result-end
-part-result-end c =
-    let after-least : tie.After-least = search in
-    omega (arith, after-least .least .ensures, c .least2 .ensures)
+part-result-end c = omega (arith, in-order (search))
 
 returns : tie.Need-returns
 returns c =
-    let after-least2 : tie.After-least2 = search in
-    let after-least : tie.After-least = search in
+    let second : tie.After-least2 = search in
+    let first : tie.After-least = search in
     let start : tie.Start = search in
-    let text = start .args .text .now in
-    ap₂ (λ (i j : ℕ). take (j - i) (drop i text)) (after-least .least .ensures) (after-least2 .least2 .ensures)
-    ∙ name-any text (start .args .start) (start .args .size)
+    rw (first .least .ensures, second .least2 .ensures) (name-any _ (start .args .start) (start .args .size))
 
 pub name-spec : {M : Type 1} → statement M
 name-spec =
     tie.close
     (tie.spec
-    least-requires
-    add-least
-    least-requires-2
+    (λ c κs. search needs)
+    (λ c. search needs) (λ c κs. search needs)
     sub-result
     part-result-start
     part-result-end

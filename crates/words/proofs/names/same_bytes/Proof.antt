@@ -1,3 +1,4 @@
+-- Byte after byte: before turn `i` the bytes below `i` are equal.
 use borrow.Author.Count.{below-none, below-more}
 use lib.Seq.{ext-getD}
 use lib.ListN.{length, getD}
@@ -15,9 +16,15 @@ Inv-loop a b i₀ i = (i ≤ length a) × ((k : ℕ) → k < i → getD a k 0 �
 abbrev μ-loop : tie.MeasureT-loop
 μ-loop a b i₀ i = length a - i
 
+abbrev Start : Type 0
+Start = tie.Start Inv-loop μ-loop
+
+abbrev Head : Type 0
+Head = tie.At-loop Inv-loop μ-loop
+
 returns : tie.Need-returns Inv-loop μ-loop
 returns c =
-    let start : tie.Start Inv-loop μ-loop = search in
+    let start : Start = search in
     sym (equal-off (start .args .a .now) (start .args .b .now) (λ e. c .if1 .taken (ap length e)))
 
 loop-holds : tie.Need-loop-holds Inv-loop μ-loop
@@ -31,10 +38,10 @@ shared-slice-read-if2-2 c = omega arith
 
 returns-2 : tie.Need-returns-2 Inv-loop μ-loop
 returns-2 c =
-    let at-loop : tie.At-loop Inv-loop μ-loop = search in
-    let start : tie.Start Inv-loop μ-loop = search in
+    let head : Head = search in
+    let start : Start = search in
     sym (equal-off (start .args .a .now) (start .args .b .now)
-    (λ e. c .if2 .taken (ap (λ (l : List ℕ). getD l (at-loop .loop .i) 0) e)))
+    (λ e. c .if2 .taken (ap (λ (l : List ℕ). getD l (head .loop .i) 0) e)))
 
 add-i : tie.Need-add-i Inv-loop μ-loop
 add-i c = omega arith
@@ -44,18 +51,18 @@ loop-less c = omega arith
 
 loop-again : tie.Need-loop-again Inv-loop μ-loop
 loop-again c =
-    let at-loop : tie.At-loop Inv-loop μ-loop = search in
-    (omega arith, below-more _ _ (at-loop .loop .inv .1) (c .if2 .left))
+    let head : Head = search in
+    (omega arith, below-more _ _ (head .loop .inv .1) (c .if2 .left))
 
 returns-3 : tie.Need-returns-3 Inv-loop μ-loop
 returns-3 c =
-    let at-loop : tie.At-loop Inv-loop μ-loop = search in
-    let else1 : tie.Else1 Inv-loop μ-loop = search in
-    let start : tie.Start Inv-loop μ-loop = search in
-    let a = start .args .a .now in let b = start .args .b .now in
-    let l = at-loop .loop in
-    let past : l .i ≡ length a = omega arith in
-    sym (equal-on a b (ext-getD 0 a b (else1 .if1 .left) (λ k h. l .inv .1 k (omega arith))))
+    let head : Head = search in
+    let alike : tie.Else1 Inv-loop μ-loop = search in
+    let start : Start = search in
+    let a = start .args .a .now in
+    let b = start .args .b .now in
+    let past : head .loop .i ≡ length a = omega arith in
+    sym (equal-on a b (ext-getD 0 a b (alike .if1 .left) (λ k h. head .loop .inv .1 k (omega arith))))
 
 pub same-bytes-spec : {M : Type 1} → statement M
 same-bytes-spec =

@@ -1,23 +1,29 @@
--- `table::put_floats` meets its contract: after k turns the output is what it was, with the first k words of the row in place.
-use Prim.Native.Nat.{_+_, _-_, _<_, _≤_}
-use mathlib.Core.Path.{_≡_, refl}
-use native.Mathlib.Numerals.{add-one}
+-- `put_floats` writes one float after another: before turn `k` the first `k` floats of the row are in place.
+use Prim.Native.Nat.{_-_}
 use native.Mathlib.Omega.{arith}
-use lib.ListN.{length, length-set}
-use lib.Seq.{paste, paste-zero, paste-suc, take-length}
+use lib.ListN.{length}
 use borrow.Author.Needs.{needs}
-use Rattle.words.specs.Rows.{spliced}
+use Rattle.words.proofs.Laws.{Putting, all-put, putting-more, putting-none}
 use Rattle.words.proofs.rows.put_floats.Statement.{statement}
 use Rattle.words.proofs.rows.put_floats.Tie as tie
 
 abbrev Inv-loop : tie.InvT-loop
-Inv-loop out₀ at row k₀ out k = (out ≡ paste out₀ at row k) × (k ≤ length row) × (length out ≡ length out₀)
+Inv-loop out₀ at row k₀ out k = Putting at row out₀ k out
 
 abbrev μ-loop : tie.MeasureT-loop
 μ-loop out₀ at row k₀ out k = length row - k
 
+abbrev Start : Type 0
+Start = tie.Start Inv-loop μ-loop
+
+abbrev Head : Type 0
+Head = tie.At-loop Inv-loop μ-loop
+
+abbrev Turn : Type 0
+Turn = tie.In-loop Inv-loop μ-loop
+
 loop-holds : tie.Need-loop-holds Inv-loop μ-loop
-loop-holds c = (paste-zero (c .args .out .now) (c .args .at) (c .args .row .now), omega arith, refl)
+loop-holds c = putting-none
 
 mul-out : tie.Need-mul-out Inv-loop μ-loop
 mul-out c = search needs
@@ -42,31 +48,18 @@ loop-less c = omega arith
 
 loop-again : tie.Need-loop-again Inv-loop μ-loop
 loop-again c =
-    let in-loop : tie.In-loop Inv-loop μ-loop = search in
-    let at-loop : tie.At-loop Inv-loop μ-loop = search in
-    let start : tie.Start Inv-loop μ-loop = search in
-    let s = start .args in
-    let l = at-loop .loop in
-    let fit : s .at + l .k < length (s .out .now) = omega arith in (
-      rw (
-        l .inv .0,
-        add-one,
-        paste-suc (s .out .now) (s .at) (s .row .now) (l .k) _ fit (in-loop .loop-test .taken),
-      ),
-      omega arith,
-      simp length-set (l .inv .2),
-    )
+    let turn : Turn = search in
+    let head : Head = search in
+    let start : Start = search in
+    putting-more (head .loop .inv) _ (turn .loop-test .taken) (start .pre)
 
 same-length : tie.Need-same-length Inv-loop μ-loop
 same-length c = search needs
 
 returns : tie.Need-returns Inv-loop μ-loop
-unfolding spliced
 returns c =
-    let at-loop : tie.At-loop Inv-loop μ-loop = search in
-    let start : tie.Start Inv-loop μ-loop = search in
-    let l = at-loop .loop in
-    let past : l .k ≡ length (start .args .row .now) = omega arith in rw (l .inv .0, past, take-length)
+    let head : Head = search in
+    all-put (head .loop .inv) (c .loop-test .left)
 
 pub put-floats-spec : {M : Type 1} → statement M
 put-floats-spec =

@@ -4,12 +4,6 @@ use borrow.Author.Needs.{needs}
 use Rattle.words.proofs.rows.word.Statement.{statement}
 use Rattle.words.proofs.rows.word.Tie as tie
 
-mul-result : tie.Need-mul-result
-mul-result c = search needs
-
-shared-slice-read-result : tie.Need-shared-slice-read-result
-shared-slice-read-result c = search needs
-
 cast-result : tie.Need-cast-result
 cast-result c =
     let start : tie.Start = search in
@@ -21,4 +15,9 @@ returns c =
     (refl, c .shared-slice-known .given (start .args .at) .fits)
 
 pub word-spec : {M : Type 1} → statement M
-word-spec = tie.close (tie.spec mul-result shared-slice-read-result cast-result returns)
+word-spec =
+    tie.close
+    (tie.spec
+    (λ c. search needs) (λ c. search needs)
+    cast-result
+    returns)
