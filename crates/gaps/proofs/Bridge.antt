@@ -172,30 +172,30 @@ module _ (lanes : List ℕ) (edges : List Float) (offsets ids : List ℕ)
         → gather gapWords (rowsOf (all lanes edges once) (edgedAt lanes edges 0) i (edgedAt lanes edges i)
         (getD (listsIn offsets ids) i [])) ≡ rowsAt lanes edges offsets ids i
     unfolding rowsOf rowsAt laneRows
-    lane-is i h =
-        let a = getD offsets i 0 in
-        let n = getD offsets (i + 1) 0 - a in
-        let r = right-at lanes offsets ids right i h in
-        let r0 = r .0 in
-        let r1 = r .1 in
-        let here = part a n ids in
-        let f : ℕ → List ℕ =
-        λ k.
-        gather gapWords
-        (listO (rowOfIdentity k 0 (all lanes edges once)) (gapRow i (edgedAt lanes edges i))) in
-        let len : length here ≡ n = length-take-le n (drop a ids) (let z = length-drop a ids in omega arith) in
-        ap (λ (l : List ℕ).
-        gather gapWords
-        (gather (λ k. listO (rowOfIdentity k 0 (all lanes edges once)) (gapRow i (edgedAt lanes edges i))) l))
-        (list-at offsets ids i (let c = right-count lanes offsets ids right in omega arith))
-        ∙ gather-gather (λ k. listO (rowOfIdentity k 0 (all lanes edges once)) (gapRow i (edgedAt lanes edges i)))
-        gapWords here
-        ∙ gather-all f 0 here
-        ∙ ap (λ (m : ℕ). joined m (λ k. f (getD here k 0))) len
-        ∙ joined-same n (λ k. f (getD here k 0)) (λ k. linkRow lanes edges i (getD ids (a + k) 0))
-        (λ k l. let e : getD here k 0 ≡ getD ids (a + k) 0 = getD-take n (drop a ids) k 0 l ∙ getD-drop a ids k 0 in
-        let b = bearer lanes ids (right-borne lanes offsets ids right) (a + k) (omega arith) in
-        ap f e ∙ link-is lanes edges once i (getD ids (a + k) 0) (b .0) (b .1))
+    lane-is i in-table =
+        let first = getD offsets i 0 in
+        let count = getD offsets (i + 1) 0 - first in
+        let climb = right-at lanes offsets ids right i in-table in
+        let rises = climb .0 in
+        let within = climb .1 in
+        let counted = right-count lanes offsets ids right in
+        let here = part first count ids in
+        let found : ℕ → List GapRow =
+        λ k. listO (rowOfIdentity k 0 (all lanes edges once)) (gapRow i (edgedAt lanes edges i)) in
+        let words : ℕ → List ℕ = λ k. gather gapWords (found k) in
+        let long : length here ≡ count =
+        length-take-le count (drop first ids) (let left = length-drop first ids in omega arith) in
+        let link : (k : ℕ) → k < count → words (getD here k 0) ≡ linkRow lanes edges i (getD ids (first + k) 0) =
+        λ k below.
+        let same-id : getD here k 0 ≡ getD ids (first + k) 0 =
+        getD-take count (drop first ids) k 0 below ∙ getD-drop first ids k 0 in
+        let bears = bearer lanes ids (right-borne lanes offsets ids right) (first + k) (omega arith) in
+        ap words same-id ∙ link-is lanes edges once i (getD ids (first + k) 0) (bears .0) (bears .1) in
+        ap (λ (l : List ℕ). gather gapWords (gather found l)) (list-at offsets ids i (omega arith))
+        ∙ gather-gather found gapWords here
+        ∙ gather-all words 0 here
+        ∙ ap (λ (m : ℕ). joined m (λ k. words (getD here k 0))) long
+        ∙ joined-same count (λ k. words (getD here k 0)) (λ k. linkRow lanes edges i (getD ids (first + k) 0)) link
 
 -- THE GAP ROWS of the tables, as the loops write them
 pub content-is : (t : Tables) (offsets ids : List ℕ) → length (t .edges) ≡ 12 * (length (t .lanes) / 10)

@@ -7,7 +7,7 @@ use mathlib.Core.Option.{Option, none}
 use native.Mathlib.Omega.{arith}
 use lib.Dec.{eqb, leb}
 use lib.ListN.{length, take, take-append-drop}
-use borrow.Author.Tests.{eqb-true, leb-true}
+use borrow.Author.Tests.{eqb-true, leb-true, not-true}
 use Rattle.model.specs.Calls.{gapRules, laneRules, rulesTo5}
 use Rattle.model.specs.Rules.{Rule, edgesEven, edgesSized, firstBroken, lanesSized, listsFit, listsSized, mapSized}
 use Rattle.model.specs.Rules.{rule, sized}
@@ -18,7 +18,7 @@ use Rattle.words.specs.Rows.{any}
 use Rattle.words.proofs.Scans.{left-on, right-on}
 use Rattle.rules.proofs.Counts.{lanes-few}
 use Rattle.rules.proofs.Forms.{identities-once}
-use Rattle.tables.proofs.Order.{first-stays, not-none, passes-at, then-first}
+use Rattle.tables.proofs.Order.{first-stays, passes-at, then-first}
 use Rattle.gaps.specs.Links.{listsRight}
 
 -- what an admission by the first nine rules says
@@ -67,7 +67,7 @@ module _ (t : Tables) (offsets ids : List ℕ) where
         few = lanes-few t lanes-sized;
         short = omega arith;
         even = eqb-true (length (t .edges)) (12 * (length (t .lanes) / 10)) (passes-at 8 first-nine pass);
-        once = not-none (any (length (t .lanes) / 10) (idBefore (t .lanes)))
+        once = not-true (any (length (t .lanes) / 10) (idBefore (t .lanes)))
             (sym (identities-once (t .lanes)) ∙ passes-at 5 first-nine pass);
       }
 

@@ -9,7 +9,7 @@ use native.Mathlib.Omega.{arith}
 use lib.ListN.{length, getD, drop}
 use lib.Seq.{drop-cons, getD-drop}
 use lib.Dec.{eqb, leb}
-use borrow.Author.Tests.{eqb-true, leb-true, lt-leb, le-leb, ne-eqb, eqb-false}
+use borrow.Author.Tests.{eqb-false, eqb-true, le-leb, leb-true, lt-leb, ne-eqb, not-true}
 use Rattle.model.specs.Lists.{every, some?}
 use Rattle.model.specs.Rules.{borne, climbs, climbsTo}
 use Rattle.model.specs.Tables.{laneIn, lanesIn}
@@ -129,19 +129,11 @@ module _ (p : ℕ → Bool) where
 pub bearer : (lanes ids : List ℕ) → every (borne (lanesIn lanes)) ids ≡ true → (k : ℕ) → k < length ids
     → (0 < lastOf (length lanes / 10) (isId lanes (getD ids k 0)))
     × (lastOf (length lanes / 10) (isId lanes (getD ids k 0)) ≤ length lanes / 10)
-bearer lanes ids e k h =
-    let b = sym (borne-is lanes (getD ids k 0)) ∙ every-at (borne (lanesIn lanes)) ids k e h in
-    let n =
-    eqb-false (lastOf (length lanes / 10) (isId lanes (getD ids k 0))) 0
-    (off (eqb (lastOf (length lanes / 10) (isId lanes (getD ids k 0))) 0) b) in (
-      above (lastOf (length lanes / 10) (isId lanes (getD ids k 0))) n,
-      last-le (length lanes / 10) (isId lanes (getD ids k 0)),
-    )
+bearer lanes ids all-borne k there =
+    let last = lastOf (length lanes / 10) (isId lanes (getD ids k 0)) in
+    let found = sym (borne-is lanes (getD ids k 0)) ∙ every-at (borne (lanesIn lanes)) ids k all-borne there in
+    (above last (eqb-false last 0 (not-true _ found)), last-le (length lanes / 10) (isId lanes (getD ids k 0)))
   where
-    off : (b : Bool) → not b ≡ true → b ≡ false
-    off true e = sym e
-    off false e = refl
-
     above : (m : ℕ) → (m ≡ 0 → ⊥) → 0 < m
     above zero n = absurd (n refl)
     above (suc m) n = omega arith

@@ -90,13 +90,13 @@ module _ (lanes : List ℕ) (edges : List Float) where
       pub below-most : (i : ℕ) → i ≤ length lanes / 10
           → length (rowsBelow lanes edges offsets ids i) ≤ 3 * getD offsets i 0
       below-most zero h =
-          let e : length (rowsBelow lanes edges offsets ids 0) ≡ 0 = ap length (sym below-none) in omega arith
+          let empty : length (rowsBelow lanes edges offsets ids 0) ≡ 0 = ap length (sym below-none) in omega arith
       below-most (suc i) h =
-          let ih = below-most i (omega arith) in
-          let e = below-step i in
-          let m = lane-most ids i (getD offsets i 0) (getD offsets (suc i) 0 - getD offsets i 0) in
-          let r = rw (add-one i) at (right-at lanes offsets ids right i (omega arith)) in
-          let r0 = r .0 in
+          let below = below-most i (omega arith) in
+          let step = below-step i in
+          let added = lane-most ids i (getD offsets i 0) (getD offsets (suc i) 0 - getD offsets i 0) in
+          let climb = rw (add-one i) at (right-at lanes offsets ids right i (omega arith)) in
+          let rises = climb .0 in
           omega arith
 
       -- the words of all links, three for each at most
@@ -105,10 +105,10 @@ module _ (lanes : List ℕ) (edges : List Float) where
         where
           go : (i : ℕ) → i ≤ length lanes / 10 → length (rowsBelow lanes edges offsets ids i) ≤ 3 * length ids
           go zero h =
-              let e : length (rowsBelow lanes edges offsets ids 0) ≡ 0 = ap length (sym below-none) in
+              let empty : length (rowsBelow lanes edges offsets ids 0) ≡ 0 = ap length (sym below-none) in
               omega arith
           go (suc i) h =
-              let m = below-most (suc i) h in
-              let r = rw (add-one i) at (right-at lanes offsets ids right i h) in
-              let r1 = r .1 in
+              let most = below-most (suc i) h in
+              let climb = rw (add-one i) at (right-at lanes offsets ids right i h) in
+              let within = climb .1 in
               omega arith

@@ -1,21 +1,24 @@
 -- The order of the refusals: which rule is the first that is broken, and what an admission says.
-use Prim.Native.Nat.{ℕ, zero, suc, _/_}
+use Prim.Native.Nat.{ℕ, zero, suc, _/_, _≤_}
 use mathlib.Core.Path.{_≡_, refl, sym, ap, _∙_}
 use mathlib.Core.List.{List, [], _∷_, _++_}
 use mathlib.Core.Bool.{Bool, true, false, not, _&&_, cond, true≢false}
 use mathlib.Core.Option.{Option, none, some}
+use native.Mathlib.Omega.{arith}
 use lib.ListN.{length, getD, take}
 use lib.Dec.{eqb, leb}
 use borrow.Author.Tests.{eqb-true}
 use Rattle.model.specs.Calls.{rulesTo5}
 use Rattle.model.specs.Lists.{every, isSome}
 use Rattle.model.specs.Rows.{partsFit, table}
-use Rattle.model.specs.Rules.{Rule, connectionsFit, firstBroken, marksFit, roadsOnce, rule, sectionPartsFit}
-use Rattle.model.specs.Rules.{sectionsFit}
+use Rattle.model.specs.Rules.{Rule, connectionsFit, firstBroken, lanesSized, mapSized, marksFit, roadsOnce, rule}
+use Rattle.model.specs.Rules.{sectionPartsFit, sectionsFit}
 use Rattle.model.specs.Tables.{Tables}
 use Rattle.laws.proofs.Basics.{no-some}
 use Rattle.laws.proofs.RulesReversed.{Passes, all-pass, broken-append, unbroken-append}
-use Rattle.words.proofs.Scans.{left-on}
+use Rattle.words.proofs.Scans.{left-on, right-on}
+use Rattle.rules.specs.ByRow.{Few}
+use Rattle.rules.proofs.Counts.{few, junctions-few, lanes-few}
 
 -- ---- the first rule that is broken
 -- the rule in place k; one that passes past the end
@@ -43,19 +46,19 @@ passes-at k rules none-broken = go k rules (all-pass rules (sym none-broken))
 -- ---- rules after others
 -- a refusal by the first of them stays
 pub first-stays : (xs ys : List Rule) (o : Option ℕ) → (o ≡ none → ⊥) → o ≡ firstBroken xs → o ≡ firstBroken (xs ++ ys)
-first-stays [] ys o n e = absurd (n e)
-first-stays (x ∷ xs) ys o n e = go (x .passes) e (first-stays xs ys o n)
+first-stays [] ys o some-number first = absurd (some-number first)
+first-stays (x ∷ xs) ys o some-number first = go (x .passes) first (first-stays xs ys o some-number)
   where
     go : (b : Bool) → o ≡ cond b (firstBroken xs) (some (x .number))
         → (o ≡ firstBroken xs → o ≡ firstBroken (xs ++ ys))
         → o ≡ cond b (firstBroken (xs ++ ys)) (some (x .number))
-    go true e ih = ih e
-    go false e ih = e
+    go true first rest = rest first
+    go false first rest = first
 
 -- where they all pass, those after them decide
 pub then-first : (xs ys : List Rule) {o : Option ℕ} → none ≡ firstBroken xs → o ≡ firstBroken ys
     → o ≡ firstBroken (xs ++ ys)
-then-first xs ys e f = f ∙ sym (broken-append xs ys (sym e))
+then-first xs ys pass first = first ∙ sym (broken-append xs ys (sym pass))
 
 -- ---- a verdict
 -- a refusal is no admission
@@ -73,6 +76,17 @@ is-some (some k) e z = no-some k (sym z)
 pub not-none : (b : Bool) → not b ≡ true → b ≡ false
 not-none true e = absurd (true≢false (sym e))
 not-none false e = refl
+
+-- ---- what rule 1 says of the map and its lanes
+module _ (t : Tables) (sized : (mapSized 16384 t && lanesSized t) ≡ true) where
+  pub few-map : Few (t .roads) (t .sections) (t .connections) (t .pairs)
+  few-map = few 16384 t (omega arith) (left-on (mapSized 16384 t) (lanesSized t) sized)
+
+  pub few-junctions : length (t .junctions) / 5 ≤ 16384
+  few-junctions = junctions-few 16384 t (left-on (mapSized 16384 t) (lanesSized t) sized)
+
+  pub few-lanes : length (t .lanes) / 10 ≤ 16384
+  few-lanes = lanes-few t (right-on (mapSized 16384 t) (lanesSized t) sized)
 
 -- ---- what an admission says
 pub record Kept5 (sizes words : Bool) (t : Tables) : Type 0 where

@@ -4,16 +4,15 @@ use lib.ListN.{length-replicate}
 use mathlib.Core.Bool.{true, _&&_}
 use mathlib.Core.List.{List, [], _∷_, _++_}
 use mathlib.Core.Path.{_≡_, sym, ap₂, _∙_}
-use native.Mathlib.Omega.{arith}
 use Prim.Native.Nat.{ℕ}
 use Rattle.model.specs.Calls.{gapRules, laneRules, rulesTo5}
 use Rattle.model.specs.Rules.{edgesFit, edgesSized, firstBroken, lanesSized, lanesWorded, listsSized, mapSized}
 use Rattle.model.specs.Rules.{mapWorded, rule}
 use Rattle.model.specs.Tables.{Tables, allTables}
 use Rattle.words.proofs.Chains.{fresh}
-use Rattle.words.proofs.Scans.{left-on, right-on}
-use Rattle.rules.proofs.Counts.{few, lanes-few}
+use Rattle.words.proofs.Scans.{left-on}
 use Rattle.rules.proofs.Leaves.{both-is}
+use Rattle.tables.proofs.Order.{few-lanes, few-map}
 use Rattle.gaps.proofs.call.first_verdict.Statement.{statement}
 use Rattle.gaps.proofs.call.first_verdict.Tie as tie
 
@@ -54,16 +53,9 @@ module _ (asked : tie.After-both4) where
       (edges-sized .fits3 .ensures))
       (both-is (lists .both3 .ensures) (offsets-sized .fits4 .ensures) (ids-sized .fits5 .ensures))
 
-  -- where 1 passes
-  module _ (passes : asked .both4 .result ≡ true) where
-    map-and-lanes-pass : (mapSized 16384 t && lanesSized t) ≡ true
-    map-and-lanes-pass = left-on _ (edgesSized t) (left-on _ (listsSized _ _) (sym sizes-are ∙ passes))
-
-    map-passes : mapSized 16384 t ≡ true
-    map-passes = left-on _ (lanesSized t) map-and-lanes-pass
-
-    lanes-pass : lanesSized t ≡ true
-    lanes-pass = right-on (mapSized 16384 t) _ map-and-lanes-pass
+  -- where 1 passes, it passes for the map and its lanes
+  said : asked .both4 .result ≡ true → (mapSized 16384 t && lanesSized t) ≡ true
+  said passes = left-on _ (edgesSized t) (left-on _ (listsSized _ _) (sym sizes-are ∙ passes))
 
 words-are : (asked : tie.After-both5)
     → asked .both5 .result ≡ (mapWorded (tables (search)) && lanesWorded (tables (search)))
@@ -128,10 +120,7 @@ slice-aggregate-table-verdict-5 c = search needs
 table-verdict-requires : tie.Need-table-verdict-requires
 table-verdict-requires c κs =
     let asked : tie.After-both4 = search in (
-      (
-        λ passes. few 16384 (t asked) (omega arith) (map-passes asked passes),
-        λ passes. lanes-few (t asked) (lanes-pass asked passes),
-      ),
+      (λ passes. few-map (t asked) (said asked passes), λ passes. few-lanes (t asked) (said asked passes)),
       (fresh, (length-replicate {A = ℕ} 16384 0, fresh)),
     )
 

@@ -53,6 +53,7 @@ module _ (counted : tie.After-all-rows2) where
   abbrev start : tie.Start
   start = search
 
+  -- the output after it
   abbrev after : List ℕ
   after = counted .all-rows2 .last .1 .1 .1 .1 .1 .1 .0
 

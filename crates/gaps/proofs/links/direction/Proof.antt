@@ -1,3 +1,4 @@
+-- `direction`: a word that is neither 0 nor 1 is both ways.
 use borrow.Author.Needs.{needs}
 use Rattle.gaps.proofs.RowLaws.{other-word}
 use Rattle.gaps.proofs.links.direction.Statement.{statement}

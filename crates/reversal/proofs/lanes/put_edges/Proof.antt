@@ -1,5 +1,6 @@
 -- Before turn `i` the edges of the lanes below `i` are written, reversed.
 use Prim.Native.Nat.{_-_}
+use mathlib.Core.Path.{_≡_}
 use native.Mathlib.Nat.{le-refl}
 use native.Mathlib.Omega.{arith}
 use lib.ListN.{length}
@@ -27,6 +28,23 @@ Head = tie.At-loop Inv-loop μ-loop
 
 abbrev Turn : Type 0
 Turn = tie.In-loop Inv-loop μ-loop
+
+-- ---- the row of lane i, reversed
+module _ (laid : tie.After-floats Inv-loop μ-loop) where
+  abbrev head : Head
+  head = search
+
+  abbrev start : Start
+  start = search
+
+  turned : let a = start .args in
+      laid .floats .result ≡ turnedEdges (a .owner .now) (a .marks .now) (a .edges .now) (head .loop .i)
+  turned =
+      let ends : tie.After-turned-ends Inv-loop μ-loop = search in
+      let mark : tie.After-mark-at Inv-loop μ-loop = search in
+      let owner : tie.After-word Inv-loop μ-loop = search in
+      edges-turned _ _ _ _ (laid .floats .ensures) (ends .turned-ends .ensures) (mark .mark-at .ensures)
+      (owner .word .ensures .0)
 
 loop-holds : tie.Need-loop-holds Inv-loop μ-loop
 loop-holds c = wrote-none
@@ -58,15 +76,8 @@ slice-aggregate-put-floats c = search needs
 put-floats-requires : tie.Need-put-floats-requires Inv-loop μ-loop
 put-floats-requires c κs =
     let laid : tie.After-floats Inv-loop μ-loop = search in
-    let ends : tie.After-turned-ends Inv-loop μ-loop = search in
-    let mark : tie.After-mark-at Inv-loop μ-loop = search in
-    let owner : tie.After-word Inv-loop μ-loop = search in
     let turn : Turn = search in
-    let head : Head = search in
-    let start : Start = search in
-    let row = edges-turned _ _ _ _ (laid .floats .ensures) (ends .turned-ends .ensures) (mark .mark-at .ensures)
-    (owner .word .ensures .0) in
-    row-fits 12 (edges-12 _ _ _) (start .pre .room) (head .loop .inv) (turn .loop-test .taken) row
+    row-fits 12 (edges-12 _ _ _) (start laid .pre .room) (head laid .loop .inv) (turn .loop-test .taken) (turned laid)
 
 add-i : tie.Need-add-i Inv-loop μ-loop
 add-i c = let turn : Turn = search in omega (arith, turn .loop-test .taken)
@@ -78,15 +89,8 @@ loop-again : tie.Need-loop-again Inv-loop μ-loop
 loop-again c =
     let written : tie.After-put-floats Inv-loop μ-loop = search in
     let laid : tie.After-floats Inv-loop μ-loop = search in
-    let ends : tie.After-turned-ends Inv-loop μ-loop = search in
-    let mark : tie.After-mark-at Inv-loop μ-loop = search in
-    let owner : tie.After-word Inv-loop μ-loop = search in
     let turn : Turn = search in
-    let head : Head = search in
-    let start : Start = search in
-    let row = edges-turned _ _ _ _ (laid .floats .ensures) (ends .turned-ends .ensures) (mark .mark-at .ensures)
-    (owner .word .ensures .0) in
-    wrote-row 12 (edges-12 _ _ _) (start .pre .room) (head .loop .inv) (turn .loop-test .taken) row
+    wrote-row 12 (edges-12 _ _ _) (start laid .pre .room) (head laid .loop .inv) (turn .loop-test .taken) (turned laid)
     (written .put-floats .ensures) (written .put-floats .kept .0)
 
 same-length : tie.Need-same-length Inv-loop μ-loop

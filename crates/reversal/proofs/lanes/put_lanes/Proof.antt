@@ -1,5 +1,6 @@
 -- Before turn `i` the lanes below `i` are written, reversed.
 use Prim.Native.Nat.{_-_}
+use mathlib.Core.Path.{_≡_}
 use native.Mathlib.Omega.{arith}
 use borrow.Author.Needs.{needs}
 use Rattle.reversal.specs.Turned.{Kept, turnedLane}
@@ -36,6 +37,22 @@ module _ (turn : Turn) where
 
   known : let a = start .args in Kept (a .roads .now) (a .sections .now) (a .lanes .now) (a .owner .now) (head .loop .i)
   known = start .pre .1 .kept _ (turn .loop-test .taken)
+
+-- its row, reversed
+module _ (laid : tie.After-lane-on Inv-loop μ-loop) where
+  abbrev turn : Turn
+  turn = search
+
+  turned : let a = start turn .args in
+      laid .lane-on .result
+      ≡ turnedLane (a .text .now) (a .roads .now) (a .sections .now) (a .marks .now) (a .lanes .now) (a .owner .now)
+      (head turn .loop .i)
+  turned =
+      let part : tie.After-numbers Inv-loop μ-loop = search in
+      let mark : tie.After-mark-at Inv-loop μ-loop = search in
+      let owner : tie.After-word Inv-loop μ-loop = search in
+      lane-turned _ _ _ _ _ _ _ (laid .lane-on .ensures) (mark .mark-at .ensures) (part .numbers .ensures)
+      (owner .word .ensures .0)
 
 loop-holds : tie.Need-loop-holds Inv-loop μ-loop
 loop-holds c = wrote-none
@@ -89,14 +106,10 @@ slice-aggregate-put c = search needs
 
 put-requires : tie.Need-put-requires Inv-loop μ-loop
 put-requires c κs =
-    let lane : tie.After-lane-on Inv-loop μ-loop = search in
-    let part : tie.After-numbers Inv-loop μ-loop = search in
-    let mark : tie.After-mark-at Inv-loop μ-loop = search in
-    let owner : tie.After-word Inv-loop μ-loop = search in
-    let turn : Turn = search in
-    let row = lane-turned _ _ _ _ _ _ _ (lane .lane-on .ensures) (mark .mark-at .ensures) (part .numbers .ensures)
-    (owner .word .ensures .0) in
-    row-fits 10 (lane-10 _ _ _ _ _ _) (start turn .pre .1 .room) (head turn .loop .inv) (turn .loop-test .taken) row
+    let laid : tie.After-lane-on Inv-loop μ-loop = search in
+    let here = turn laid in
+    row-fits 10 (lane-10 _ _ _ _ _ _) (start here .pre .1 .room) (head here .loop .inv) (here .loop-test .taken)
+    (turned laid)
 
 add-i : tie.Need-add-i Inv-loop μ-loop
 add-i c = let turn : Turn = search in omega (arith, turn .loop-test .taken, start turn .pre .1 .few)
@@ -107,15 +120,10 @@ loop-less c = let turn : Turn = search in omega (arith, turn .loop-test .taken)
 loop-again : tie.Need-loop-again Inv-loop μ-loop
 loop-again c =
     let written : tie.After-put Inv-loop μ-loop = search in
-    let lane : tie.After-lane-on Inv-loop μ-loop = search in
-    let part : tie.After-numbers Inv-loop μ-loop = search in
-    let mark : tie.After-mark-at Inv-loop μ-loop = search in
-    let owner : tie.After-word Inv-loop μ-loop = search in
-    let turn : Turn = search in
-    let row = lane-turned _ _ _ _ _ _ _ (lane .lane-on .ensures) (mark .mark-at .ensures) (part .numbers .ensures)
-    (owner .word .ensures .0) in
-    wrote-row 10 (lane-10 _ _ _ _ _ _) (start turn .pre .1 .room) (head turn .loop .inv) (turn .loop-test .taken) row
-    (written .put .ensures) (written .put .kept .0)
+    let laid : tie.After-lane-on Inv-loop μ-loop = search in
+    let here = turn laid in
+    wrote-row 10 (lane-10 _ _ _ _ _ _) (start here .pre .1 .room) (head here .loop .inv) (here .loop-test .taken)
+    (turned laid) (written .put .ensures) (written .put .kept .0)
 
 same-length : tie.Need-same-length Inv-loop μ-loop
 same-length c = let head : Head = search in head .loop .inv .as-long

@@ -1,3 +1,4 @@
+-- `check_repair` is `repair_verdict` over arrays of its own.
 use borrow.Author.Needs.{needs}
 use Rattle.words.proofs.Chains.{fresh}
 use Rattle.tables.proofs.check.check_repair.Statement.{statement}

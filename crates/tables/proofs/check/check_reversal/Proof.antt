@@ -1,3 +1,4 @@
+-- `check_reversal` is `reversal_verdict` over arrays of its own.
 use lib.ListN.{length-replicate}
 use Prim.Native.Nat.{ℕ}
 use borrow.Author.Needs.{needs}

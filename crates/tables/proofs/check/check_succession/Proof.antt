@@ -1,3 +1,4 @@
+-- `check_succession` is `succession_verdict` over arrays of its own.
 use lib.ListN.{length-replicate}
 use Prim.Native.Nat.{ℕ}
 use borrow.Author.Needs.{needs}

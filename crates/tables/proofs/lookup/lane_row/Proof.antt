@@ -1,3 +1,4 @@
+-- `lane_row` is `find_id` with its word as a row.
 use borrow.Author.Needs.{needs}
 use lib.ListN.{length}
 use native.Mathlib.Omega.{arith}

@@ -9,7 +9,7 @@ use mathlib.Core.Path.{_≡_, sym, ap, _∙_}
 use native.Mathlib.Omega.{arith}
 use Prim.Native.Nat.{ℕ, _/_, _≤_}
 use Rattle.model.specs.Calls.{laneRules, rulesTo5}
-use Rattle.model.specs.Rules.{Rule, firstBroken, identitiesOnce, lanesListed}
+use Rattle.model.specs.Rules.{Rule, firstBroken, identitiesOnce, keysOnce, lanesListed}
 use Rattle.model.specs.Tables.{Tables, laneTables}
 use Rattle.laws.proofs.RulesReversed.{pass-all}
 use Rattle.words.specs.Chain.{Empty}
@@ -20,7 +20,7 @@ use Rattle.rules.proofs.Forms.{identities-once, lanes-listed, roads-once}
 use Rattle.rules.proofs.Places.{keys-once}
 use Rattle.tables.specs.Verdicts.{refusalOf}
 use Rattle.tables.specs.declared.verdict.Verdict.{Verdict}
-use Rattle.tables.proofs.Order.{Kept5, broken-at, first-stays, is-none, is-some, kept5, not-none, parts-of}
+use Rattle.tables.proofs.Order.{Kept5, broken-at, first-stays, is-none, is-some, kept5, parts-of}
 use Rattle.tables.proofs.Order.{refused, then-first}
 use Rattle.tables.proofs.verdict.lane_verdict.Statement.{statement}
 use Rattle.tables.proofs.verdict.lane_verdict.Tie as tie
@@ -47,12 +47,15 @@ module _ (start : tie.Start) where
   keys-empty = start .pre .1 .1 .1
 
 -- ---- the verdict on the map
+abbrev begin : tie.After-map-verdict → tie.Start
+begin judged = search
+
 module _ (tried : tie.After-admitted) where
   abbrev judged : tie.After-map-verdict
   judged = search
 
   abbrev start : tie.Start
-  start = let near = judged in search
+  start = begin judged
 
   abbrev verdict : Verdict
   verdict = judged .map-verdict .result
@@ -108,6 +111,12 @@ module _ (past : tie.Else3) where
   listed : lanesListed tables-there ≡ true
   listed = lanes-listed _ _ _ _ ∙ listed-rows
 
+keys-are : (linked : tie.After-link-keys) → keysOnce (tables (begun (search))) ≡ not (linked .link-keys .result)
+keys-are linked =
+    let past : tie.Else3 = search in
+    keys-once _ _ _ _ _ (listed-rows past) (tested past .lanes-listed .ensures .1)
+    ∙ ap not (sym (linked .link-keys .ensures .0))
+
 -- ---- the answers
 map-verdict-requires : tie.Need-map-verdict-requires
 map-verdict-requires c κs = search needs
@@ -159,7 +168,7 @@ lanes-listed-requires c κs =
       ),
       (
         parts-of _ _ _ (kept past .sections),
-        (not-none _ (sym (roads-once _ _ _) ∙ kept past .once), judged-map .map-verdict .ensures .1 (admitted past)),
+        (not-true _ (sym (roads-once _ _ _) ∙ kept past .once), judged-map .map-verdict .ensures .1 (admitted past)),
       ),
     )
 
@@ -211,11 +220,8 @@ returns-4 : tie.Need-returns-4
 unfolding laneRules
 returns-4 c =
     let past : tie.Else1 = search in
-    let all-listed : tie.Else3 = search in
-    let linked : tie.After-link-keys = search in
-    let twice = keys-once _ _ _ _ _ (listed-rows all-listed) (tested all-listed .lanes-listed .ensures .1)
-    ∙ ap not (sym (linked .link-keys .ensures .0) ∙ c .if4 .taken) in
-    (later past (broken-at 2 (from-6 past) (identified (search), (listed all-listed, tt)) twice), refused 8)
+    let twice = keys-are (search) ∙ ap not (c .if4 .taken) in
+    (later past (broken-at 2 (from-6 past) (identified (search), (listed (search), tt)) twice), refused 8)
 
 same-length-13 : tie.Need-same-length-13
 same-length-13 c = search needs
@@ -238,8 +244,7 @@ returns-5 c =
     let past : tie.Else1 = search in
     let all-listed : tie.Else3 = search in
     let linked : tie.After-link-keys = search in
-    let single = keys-once _ _ _ _ _ (listed-rows all-listed) (tested all-listed .lanes-listed .ensures .1)
-    ∙ ap not (sym (linked .link-keys .ensures .0) ∙ c .if4 .left) in (
+    let single = keys-are linked ∙ ap not (c .if4 .left) in (
       later past (sym (pass-all (from-6 past) (identified (search), (listed all-listed, (single, tt))))),
       λ _.
           record {

@@ -41,10 +41,11 @@ module _ (past : tie.Else1) where
 worded : (past : tie.Else2) → start (search) .args .words ≡ true
 worded past = not-false _ (past .if2 .left)
 
+once-is : (linked : tie.After-link-names) → roadsOnce (tables (start (search))) ≡ not (linked .link-names .result)
+once-is linked = roads-once _ _ _ ∙ ap not (sym (linked .link-names .ensures .0))
+
 once : (past : tie.Else3) → roadsOnce (tables (start (search))) ≡ true
-once past =
-    let linked : tie.After-link-names = search in
-    roads-once _ _ _ ∙ ap not (sym (linked .link-names .ensures .0) ∙ past .if3 .left)
+once past = once-is (search) ∙ ap not (past .if3 .left)
 
 sections-fit : (past : tie.Else4) → sectionsFit (tables (start (search))) ≡ true
 sections-fit past =
@@ -76,8 +77,7 @@ same-length-2 c = search needs
 returns-3 : tie.Need-returns-3
 unfolding rulesTo5
 returns-3 c =
-    let linked : tie.After-link-names = search in
-    let twice = roads-once _ _ _ ∙ ap not (sym (linked .link-names .ensures .0) ∙ c .if3 .taken) in
+    let twice = once-is (search) ∙ ap not (c .if3 .taken) in
     (broken-at 2 (rules (start (search))) (sized (search), (worded (search), tt)) twice, refused 3)
 
 sections-fit-requires : tie.Need-sections-fit-requires

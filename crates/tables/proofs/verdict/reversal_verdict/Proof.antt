@@ -7,21 +7,19 @@ use mathlib.Core.Bool.{true, _&&_}
 use mathlib.Core.List.{List, [], _∷_, _++_}
 use mathlib.Core.Option.{Option, none}
 use mathlib.Core.Path.{_≡_, sym, ap₂, _∙_}
-use native.Mathlib.Omega.{arith}
 use Prim.Native.Nat.{ℕ, _/_}
 use Rattle.model.specs.Calls.{laneRules, markRules, reversalRules, rulesTo5, tableRules}
 use Rattle.model.specs.Rules.{Rule, edgesFit, edgesSized, firstBroken, lanesSized, lanesWorded, mapSized, mapWorded}
-use Rattle.model.specs.Rules.{marksFit, numbersFine, numbersTurn, rule}
+use Rattle.model.specs.Rules.{marksFit, numbersFine, numbersTurn, oneEnded, rule}
 use Rattle.model.specs.Tables.{Tables, allTables, lanesIn, pairsIn}
 use Rattle.laws.proofs.RulesReversed.{pass-all}
-use Rattle.words.proofs.Scans.{left-on, right-on}
-use Rattle.rules.proofs.Counts.{few, junctions-few, lanes-few}
+use Rattle.words.proofs.Scans.{left-on}
 use Rattle.rules.proofs.Leaves.{both-is}
 use Rattle.rules.proofs.OneEnd.{one-ended}
 use Rattle.tables.specs.Verdicts.{refusalOf}
 use Rattle.tables.specs.declared.verdict.Verdict.{Verdict}
-use Rattle.tables.proofs.Order.{Kept5, broken-at, first-stays, is-none, is-some, kept5-more, marks-count}
-use Rattle.tables.proofs.Order.{refused, then-first}
+use Rattle.tables.proofs.Order.{Kept5, broken-at, few-junctions, few-lanes, few-map, first-stays}
+use Rattle.tables.proofs.Order.{is-none, is-some, kept5-more, marks-count, refused, then-first}
 use Rattle.tables.proofs.verdict.reversal_verdict.Statement.{statement}
 use Rattle.tables.proofs.verdict.reversal_verdict.Tie as tie
 
@@ -59,20 +57,6 @@ words-are asked =
     let map-worded : tie.After-map-worded = search in
     let lanes-worded : tie.After-lanes-worded = search in
     both-is (asked .both3 .ensures) (map-worded .map-worded .ensures) (lanes-worded .lanes-worded .ensures)
-
--- where 1 passes
-module _ (asked : tie.After-both2) (passes : asked .both2 .result ≡ true) where
-  abbrev sized-there : tie.After-map-sized
-  sized-there = search
-
-  map-and-lanes-pass : (mapSized 16384 (tables sized-there) && lanesSized (tables sized-there)) ≡ true
-  map-and-lanes-pass = left-on _ (edgesSized (tables sized-there)) (sym (sizes-are asked) ∙ passes)
-
-  map-passes : mapSized 16384 (tables sized-there) ≡ true
-  map-passes = left-on _ (lanesSized (tables sized-there)) map-and-lanes-pass
-
-  lanes-pass : lanesSized (tables sized-there) ≡ true
-  lanes-pass = right-on (mapSized 16384 (tables sized-there)) _ map-and-lanes-pass
 
 -- ---- the verdict of 1 to 8 and 10
 abbrev asked-by : tie.After-table-verdict → tie.After-map-sized
@@ -114,9 +98,6 @@ module _ (past : tie.Else1) where
   unfolding tableRules rulesTo5
   kept = kept5-more _ _ there (laneRules there ++ (rule 10 (edgesFit there) ∷ [])) (sym admitted ∙ first tried)
 
-  map-sized : mapSized 16384 there ≡ true
-  map-sized = left-on _ (lanesSized there) (left-on _ (edgesSized there) (kept .sized))
-
   -- 1 to 10 pass, so 12 to 14 decide
   later : {o : Option ℕ} → o ≡ firstBroken (from-12 tried)
       → o ≡ firstBroken (reversalRules there (marks (asked-by (judged tried))))
@@ -150,6 +131,12 @@ numbers-are asked =
 numbers-turn : (past : tie.Else3) → numbersTurn (there (search)) ≡ true
 numbers-turn past = sym (numbers-are (search)) ∙ not-false _ (past .if3 .left)
 
+ends-are : (tested : tie.After-one-ended)
+    → tested .one-ended .result ≡ oneEnded (there (search)) (marks (asked (search)))
+ends-are tested =
+    let past : tie.Else1 = search in
+    tested .one-ended .ensures ∙ sym (one-ended _ _ _ _ _ _ _ (kept past .once) (one-each (search)))
+
 -- ---- the answers
 map-sized-requires : tie.Need-map-sized-requires
 map-sized-requires c κs = search needs
@@ -178,13 +165,11 @@ both-requires-3 c κs = search needs
 table-verdict-requires : tie.Need-table-verdict-requires
 table-verdict-requires c κs =
     let asked : tie.After-both2 = search in
-    let sized : tie.After-map-sized = search in (
-      (
-        λ passes. few 16384 (tables sized) (omega arith) (map-passes asked passes),
-        λ passes. lanes-few (tables sized) (lanes-pass asked passes),
-      ),
-      start sized .pre,
-    )
+    let sized : tie.After-map-sized = search in
+    let t = tables sized in
+    let said : asked .both2 .result ≡ true → (mapSized 16384 t && lanesSized t) ≡ true =
+    λ passes. left-on _ (edgesSized t) (sym (sizes-are asked) ∙ passes) in
+    ((λ passes. few-map t (said passes), λ passes. few-lanes t (said passes)), start sized .pre)
 
 admitted-requires : tie.Need-admitted-requires
 admitted-requires c κs = search needs
@@ -271,7 +256,7 @@ returns-3 c =
 one-ended-requires : tie.Need-one-ended-requires
 one-ended-requires c κs =
     let past : tie.Else1 = search in
-    (one-each (search), junctions-few 16384 (there past) (map-sized past))
+    (one-each (search), few-junctions (there past) (left-on _ (edgesSized (there past)) (kept past .sized)))
 
 same-length-16 : tie.Need-same-length-16
 same-length-16 c = search needs
@@ -292,9 +277,7 @@ returns-4 : tie.Need-returns-4
 unfolding markRules
 returns-4 c =
     let past : tie.Else1 = search in
-    let tested : tie.After-one-ended = search in
-    let two-ended = one-ended _ _ _ _ _ _ _ (kept past .once) (one-each (search))
-    ∙ sym (tested .one-ended .ensures) ∙ not-true _ (c .if4 .taken) in (
+    let two-ended = sym (ends-are (search)) ∙ not-true _ (c .if4 .taken) in (
       later past
           (broken-at 2 (from-12 (tried past)) (marks-fit (search), (numbers-turn (search), tt)) two-ended),
       refused 14,
@@ -319,9 +302,7 @@ returns-5 : tie.Need-returns-5
 unfolding markRules
 returns-5 c =
     let past : tie.Else1 = search in
-    let tested : tie.After-one-ended = search in
-    let single = one-ended _ _ _ _ _ _ _ (kept past .once) (one-each (search))
-    ∙ sym (tested .one-ended .ensures) ∙ not-false _ (c .if4 .left) in (
+    let single = sym (ends-are (search)) ∙ not-false _ (c .if4 .left) in (
       later past
           (sym (pass-all (from-12 (tried past)) (marks-fit (search), (numbers-turn (search), (single, tt))))),
       λ _. judged (tried past) .table-verdict .ensures .1 (admitted past),

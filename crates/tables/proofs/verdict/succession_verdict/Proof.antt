@@ -1,15 +1,13 @@
 -- `succession_verdict` is `lane_verdict` with its own answers of rules 1 and 2.
 use borrow.Author.Needs.{needs}
-use mathlib.Core.Bool.{true, _&&_}
+use mathlib.Core.Bool.{_&&_}
 use mathlib.Core.List.{_++_}
 use mathlib.Core.Path.{_≡_, sym, ap₂, _∙_}
-use native.Mathlib.Omega.{arith}
 use Rattle.model.specs.Calls.{laneRules, rulesTo5, successionRules}
 use Rattle.model.specs.Rules.{firstBroken, lanesSized, lanesWorded, mapSized, mapWorded}
 use Rattle.model.specs.Tables.{Tables, laneTables}
-use Rattle.words.proofs.Scans.{left-on, right-on}
-use Rattle.rules.proofs.Counts.{few, lanes-few}
 use Rattle.rules.proofs.Leaves.{both-is}
+use Rattle.tables.proofs.Order.{few-lanes, few-map}
 use Rattle.tables.proofs.verdict.succession_verdict.Statement.{statement}
 use Rattle.tables.proofs.verdict.succession_verdict.Tie as tie
 
@@ -64,14 +62,8 @@ lane-verdict-requires c κs =
     let asked : tie.After-both = search in
     let sized : tie.After-map-sized = search in
     let t = tables sized in
-    let both-pass : asked .both .result ≡ true → (mapSized 16384 t && lanesSized t) ≡ true =
-    λ passes. sym (sizes-are asked) ∙ passes in (
-      (
-        λ passes. few 16384 t (omega arith) (left-on _ (lanesSized t) (both-pass passes)),
-        λ passes. lanes-few t (right-on (mapSized 16384 t) _ (both-pass passes)),
-      ),
-      start sized .pre,
-    )
+    let said = sym (sizes-are asked) in
+    ((λ passes. few-map t (said ∙ passes), λ passes. few-lanes t (said ∙ passes)), start sized .pre)
 
 same-length : tie.Need-same-length
 same-length c = search needs
