@@ -53,8 +53,8 @@ module _ (start : Start) where
   parts-fit : partsFit 18 19 0 (length (start .args .sections .now)) (table 20 (start .args .roads .now)) ≡ true
   parts-fit = start .pre .1 .0
 
-  once : any (length (start .args .roads .now) / 20) (nameBefore (start .args .text .now) 20 0 (start .args .roads .now))
-      ≡ false
+  once : any (length (start .args .roads .now) / 20)
+      (nameBefore (start .args .text .now) 20 0 (start .args .roads .now)) ≡ false
   once = start .pre .1 .1 .0
 
   chained : Chained (nameHash (start .args .text .now) 20 0 (start .args .roads .now))
@@ -179,8 +179,8 @@ loop-again : tie.Need-loop-again Inv-loop μ-loop
 loop-again c =
     let known : tie.After-section-known Inv-loop μ-loop = search in
     let turn : Turn = search in
-    listing-more (head turn .loop .inv) (turn .loop-test .taken) (few-lanes (start turn)) (once (start turn)) (road-is (search))
-    (known .section-known .ensures) (c .both .ensures) refl
+    listing-more (head turn .loop .inv) (turn .loop-test .taken) (few-lanes (start turn)) (once (start turn))
+    (road-is (search)) (known .section-known .ensures) (c .both .ensures) refl
 
 same-length : tie.Need-same-length Inv-loop μ-loop
 same-length c =

@@ -1,6 +1,8 @@
 -- `sameIn` says that the two names' bytes are equal.
 use borrow.Author.Needs.{needs}
-use Rattle.model.specs.Text.{sameIn}
+use mathlib.Core.Path.{ap, ap₂, _∙_}
+use Rattle.model.specs.Text.{bytesOf, equalBytes, sameIn}
+use Rattle.words.specs.Rows.{span}
 use Rattle.words.proofs.names.named.Statement.{statement}
 use Rattle.words.proofs.names.named.Tie as tie
 
@@ -11,7 +13,14 @@ name-requires c κs =
 
 returns : tie.Need-returns
 unfolding sameIn
-returns c = cc
+returns c =
+    let asked : tie.After-name2 = search in
+    let own : tie.After-name = search in
+    let second : tie.After-word2 = search in
+    let first : tie.After-word = search in
+    let name-is = ap₂ span (first .word .ensures .0) (second .word2 .ensures .0) in
+    let own-is = own .name .ensures ∙ ap (bytesOf _) name-is in
+    c .same-bytes .ensures ∙ ap₂ equalBytes own-is (asked .name2 .ensures)
 
 pub named-spec : {M : Type 1} → statement M
 named-spec =
