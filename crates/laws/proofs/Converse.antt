@@ -36,8 +36,15 @@ length-keep n (y ∷ ys) = go (eqb n y) (length-keep n ys)
     go true ih = ap suc ih
     go false ih = ih
 
+abbrev idOf : Lane → ℕ
+idOf l = l .identity
+
+abbrev sameId : Lane → Lane → Bool
+sameId a b = eqb (a .identity) (b .identity)
+
+-- no two lanes of the list have one identity
 abbrev pub OneEach : List Lane → Type 0
-OneEach ls = distinct (λ a b. eqb (a .identity) (b .identity)) ls ≡ true
+OneEach ls = distinct sameId ls ≡ true
 
 -- an identity that no lane of a list has
 absent-count : (n : ℕ) (g : Lane → List ℕ) (ls : List Lane) → some? (λ b. eqb n (b .identity)) ls ≡ false
@@ -61,11 +68,11 @@ some-of p {a} {ls} h q = go ls h
         one (inr k) f = either-right (p l) (some? p ls) (f k)
 
 -- the first of lanes with one identity each: no other bears its identity
-alone : (l : Lane) (ls : List Lane) → OneEach (l ∷ ls) → some? (λ b. eqb (l .identity) (b .identity)) ls ≡ false
+alone : (l : Lane) (ls : List Lane) → OneEach (l ∷ ls) → some? (sameId l) ls ≡ false
 alone l ls u =
-    not-true (some? (λ b. eqb (l .identity) (b .identity)) ls)
-    (and-left (not (some? (λ b. eqb (l .identity) (b .identity)) ls))
-    (distinct (λ a b. eqb (a .identity) (b .identity)) ls) u)
+    not-true (some? (sameId l) ls)
+    (and-left (not (some? (sameId l) ls))
+    (distinct sameId ls) u)
 
 unlike : (l : Lane) (ls : List Lane) → OneEach (l ∷ ls) → {a : Lane} → List·Memᴰ a ls
     → eqb (a .identity) (l .identity) ≡ false
@@ -75,7 +82,7 @@ unlike l ls u {a} k = go (eqb (a .identity) (l .identity)) refl
     go false q = refl
     go true q =
         sym (sym (alone l ls u)
-        ∙ some-of (λ b. eqb (l .identity) (b .identity)) k
+        ∙ some-of (sameId l) k
         (eq-eqb (l .identity) (a .identity) (sym (eqb-true (a .identity) (l .identity) q))))
 
 -- the lane of an identity counts alone
@@ -86,8 +93,8 @@ own-count g a (l ∷ ls) u h =
     count-append (a .identity) (map (λ i. l .identity) (g l)) rest
     ∙ ap (λ x. x + count (a .identity) rest) (count-constant (a .identity) (l .identity) (g l))
     ∙ one (List·Memᴰ·cases-cons h)
-    (own-count g a ls (and-right (not (some? (λ b. eqb (l .identity) (b .identity)) ls))
-    (distinct (λ a b. eqb (a .identity) (b .identity)) ls) u))
+    (own-count g a ls (and-right (not (some? (sameId l) ls))
+    (distinct sameId ls) u))
   where
     rest : List ℕ
     rest = gather (λ a. map (λ i. a .identity) (g a)) ls
@@ -108,57 +115,57 @@ own-count g a (l ∷ ls) u h =
         plus : (n : ℕ) → 0 + n ≡ n
         plus n = omega arith
 
-module _ (same : Span → Span → Bool) (m : Map) (u : OneEach (m .lanes)) where
+module _ (same : Span → Span → Bool) (m : Map) (once : OneEach (m .lanes)) where
   -- b stands in a's successors as often as a in b's predecessors
   pub converse : (a b : Lane) → List·Memᴰ a (m .lanes)
       → count (b .identity) (successors same m a) ≡ count (a .identity) (predecessors same m b)
   unfolding predecessors
-  converse a b h =
-      sym (count-sort (a .identity)
-      (gather (λ a. map (λ i. a .identity) (keep (eqb (b .identity)) (successors same m a))) (m .lanes))
-      ∙ own-count (λ a. keep (eqb (b .identity)) (successors same m a)) a (m .lanes) u h
+  converse a b a-in =
+      let naming : Lane → List ℕ = λ l. keep (eqb (b .identity)) (successors same m l) in
+      sym (count-sort (a .identity) (gather (λ l. map (λ i. l .identity) (naming l)) (m .lanes))
+      ∙ own-count naming a (m .lanes) once a-in
       ∙ length-keep (b .identity) (successors same m a))
 
   -- a lane of the list, by its identity
   keep-member : (p : Lane → Bool) (b : Lane) (ls : List Lane) → OneEach ls → List·Memᴰ b ls
-      → member (b .identity) (map (λ x. x .identity) (keep p ls)) ≡ p b
+      → member (b .identity) (map idOf (keep p ls)) ≡ p b
   keep-member p b [] v h = absurd (mathlib.Core.List.List·Memᴰ·not-nil h)
   keep-member p b (l ∷ ls) v h =
       one (List·Memᴰ·cases-cons h)
-      (keep-member p b ls (and-right (not (some? (λ b. eqb (l .identity) (b .identity)) ls))
-      (distinct (λ a b. eqb (a .identity) (b .identity)) ls) v))
+      (keep-member p b ls (and-right (not (some? (sameId l) ls))
+      (distinct sameId ls) v))
     where
       less : (p : Lane → Bool) (n : ℕ) (ls : List Lane) → some? (λ b. eqb n (b .identity)) ls ≡ false
-          → member n (map (λ x. x .identity) (keep p ls)) ≡ false
+          → member n (map idOf (keep p ls)) ≡ false
       less p n [] q = refl
       less p n (x ∷ xs) q = go (p x) (eqb n (x .identity)) refl q (less p n xs)
         where
           go : (b c : Bool) → eqb n (x .identity) ≡ c → c || some? (λ b. eqb n (b .identity)) xs ≡ false
               → (some? (λ b. eqb n (b .identity)) xs ≡ false
-              → member n (map (λ x. x .identity) (keep p xs)) ≡ false) →
-              member n (map (λ x. x .identity) (cond b (x ∷ keep p xs) (keep p xs))) ≡ false
+              → member n (map idOf (keep p xs)) ≡ false) →
+              member n (map idOf (cond b (x ∷ keep p xs) (keep p xs))) ≡ false
           go b true w q ih = absurd (true≢false q)
-          go true false w q ih = ap (λ c. c || member n (map (λ x. x .identity) (keep p xs))) w ∙ ih q
+          go true false w q ih = ap (λ c. c || member n (map idOf (keep p xs))) w ∙ ih q
           go false false w q ih = ih q
 
-      found : (c : Bool) → member (l .identity) (map (λ x. x .identity) (cond c (l ∷ keep p ls) (keep p ls))) ≡ c
+      found : (c : Bool) → member (l .identity) (map idOf (cond c (l ∷ keep p ls) (keep p ls))) ≡ c
       found true =
-          ap (λ c. c || member (l .identity) (map (λ x. x .identity) (keep p ls)))
+          ap (λ c. c || member (l .identity) (map idOf (keep p ls)))
           (eq-eqb (l .identity) (l .identity) refl)
       found false = less p (l .identity) ls (alone l ls v)
 
       skip : (c : Bool) → eqb (b .identity) (l .identity) ≡ false
-          → member (b .identity) (map (λ x. x .identity) (cond c (l ∷ keep p ls) (keep p ls)))
-          ≡ member (b .identity) (map (λ x. x .identity) (keep p ls))
-      skip true q = ap (λ c. c || member (b .identity) (map (λ x. x .identity) (keep p ls))) q
+          → member (b .identity) (map idOf (cond c (l ∷ keep p ls) (keep p ls)))
+          ≡ member (b .identity) (map idOf (keep p ls))
+      skip true q = ap (λ c. c || member (b .identity) (map idOf (keep p ls))) q
       skip false q = refl
 
       one : (b ≡ l) ⊎ List·Memᴰ b ls
-          → (List·Memᴰ b ls → member (b .identity) (map (λ x. x .identity) (keep p ls)) ≡ p b)
-          → member (b .identity) (map (λ x. x .identity) (cond (p l) (l ∷ keep p ls) (keep p ls))) ≡ p b
+          → (List·Memᴰ b ls → member (b .identity) (map idOf (keep p ls)) ≡ p b)
+          → member (b .identity) (map idOf (cond (p l) (l ∷ keep p ls) (keep p ls))) ≡ p b
       one (inl e) f =
           ap
-          (λ (x : Lane). member (x .identity) (map (λ x. x .identity) (cond (p l) (l ∷ keep p ls) (keep p ls))))
+          (λ (x : Lane). member (x .identity) (map idOf (cond (p l) (l ∷ keep p ls) (keep p ls))))
           e
           ∙ found (p l)
           ∙ ap p (sym e)
@@ -168,17 +175,17 @@ module _ (same : Span → Span → Bool) (m : Map) (u : OneEach (m .lanes)) wher
       → member (b .identity) (successors same m a)
       ≡ member (b .identity) (successorsOf same m a) || member (a .identity) (successorsOf same m b)
   unfolding successors backLinks findsBack
-  either a b h p q =
+  either a b b-in a-both b-both =
       member-sort (b .identity) (successorsOf same m a ++ backLinks same m a)
       ∙ member-append (b .identity) (successorsOf same m a) (backLinks same m a)
       ∙ ap (λ c.
       member (b .identity) (successorsOf same m a) || member (b .identity)
-      (cond c (map (λ x. x .identity) (keep (findsBack same m a) (m .lanes))) [])) p
+      (cond c (map idOf (keep (findsBack same m a) (m .lanes))) [])) a-both
       ∙ ap (λ c. member (b .identity) (successorsOf same m a) || c)
-      (keep-member (findsBack same m a) b (m .lanes) u h
+      (keep-member (findsBack same m a) b (m .lanes) once b-in
       ∙ ap (λ c.
       c && member (a .identity) (successorsOf same m b) && not (member (b .identity) (successorsOf same m a)))
-      q)
+      b-both)
       ∙ absorb (member (b .identity) (successorsOf same m a)) (member (a .identity) (successorsOf same m b))
     where
       absorb : (x y : Bool) → x || (y && not x) ≡ x || y
@@ -190,7 +197,7 @@ module _ (same : Span → Span → Bool) (m : Map) (u : OneEach (m .lanes)) wher
   pub both-or-neither : (a b : Lane) → List·Memᴰ a (m .lanes) → List·Memᴰ b (m .lanes)
       → isBoth (a .direction) ≡ true → isBoth (b .direction) ≡ true →
       member (b .identity) (successors same m a) ≡ member (a .identity) (successors same m b)
-  both-or-neither a b h k p q =
-      either a b k p q
+  both-or-neither a b a-in b-in a-both b-both =
+      either a b b-in a-both b-both
       ∙ or-comm (member (b .identity) (successorsOf same m a)) (member (a .identity) (successorsOf same m b))
-      ∙ sym (either b a h q p)
+      ∙ sym (either b a a-in b-both a-both)

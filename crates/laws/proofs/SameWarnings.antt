@@ -69,36 +69,41 @@ warnings-of text m xs h =
     ∙ (unfold repairedOf in table-even 4 (warnRow text (m .roads)) (warnings (sameIn text) m) (omega arith)
     (each (warn-width text (m .roads)) (warnings (sameIn text) m)))
 
-pub warned-reversed : (text : List ℕ) (m : Map) (xs : List EdgedLane) (h : Sound text m xs) (set : List ℕ)
-    → markFor (m .roads) set ≡ true →
-    table 4 (repairContent (tablesOf text (reverseMap (sameIn text) (marked (sameIn text) (m .roads) set) m)
-    (map (reverseEdged (sameIn text) (marked (sameIn text) (m .roads) set) (m .roads)) xs)) .warnings)
-    ≡ map (reversedWarning set) (table 4 (repairContent (tablesOf text m xs) .warnings))
-warned-reversed text m xs h set k =
-    warnings-of text (reverseMap (sameIn text) s m) (map (reverseEdged (sameIn text) s (m .roads)) xs)
-    (sound-reversed text s (marked-steady (sameIn text) (alike-in text) (m .roads) set) m xs h)
-    ∙ ap (map (warnRow text (reverseMap (sameIn text) s m .roads)))
-    (warnings-reversed (sameIn text) (alike-in text) s
-    (marked-steady (sameIn text) (alike-in text) (m .roads) set) m)
-    ∙ map-map (warnRow text (reverseMap (sameIn text) s m .roads)) (reverseWarning s) (warnings (sameIn text) m)
-    ∙ map-ext (λ w. warnRow text (reverseMap (sameIn text) s m .roads) (reverseWarning s w))
-    (λ w. reversedWarning set (warnRow text (m .roads) w)) (warnings (sameIn text) m)
-    (each one (warnings (sameIn text) m))
-    ∙ sym (map-map (reversedWarning set) (warnRow text (m .roads)) (warnings (sameIn text) m))
-    ∙ ap (map (reversedWarning set)) (sym (warnings-of text m xs h))
-  where
-    s : Span → Bool
-    s = marked (sameIn text) (m .roads) set
+-- ---- a sound map, reversed by a set of marks
+module _ (text : List ℕ) (m : Map) (xs : List EdgedLane) (h : Sound text m xs) (set : List ℕ) where
+  abbrev inSet : Span → Bool
+  inSet = marked (sameIn text) (m .roads) set
 
-    one : (w : Warning)
-        → warnRow text (reverseMap (sameIn text) (marked (sameIn text) (m .roads) set) m .roads)
-        (reverseWarning (marked (sameIn text) (m .roads) set) w)
-        ≡ reversedWarning set (warnRow text (m .roads) w)
-    one w =
-        unfold warnRow reverseWarning reversedWarning reverseMap in λ i. 3 ∷ w .junctionRow
-        ∷ rows-reversed (sameIn text) (marked (sameIn text) (m .roads) set) (m .roads) (w .road) i
-        ∷ sym (toggled-bit (w .atEnd) (word set (rowNamed (sameIn text) (m .roads) (w .road)))
-        ∙ ap (λ b. bit (b ⊕ w .atEnd)) (marked-at (sameIn text) (m .roads) set (w .road) k)) i ∷ []
+  abbrev turnedMap : Map
+  turnedMap = reverseMap (sameIn text) inSet m
+
+  abbrev turnedLanes : List EdgedLane
+  turnedLanes = map (reverseEdged (sameIn text) inSet (m .roads)) xs
+
+  -- the row of a warning on the reversed map
+  row-reversed : markFor (m .roads) set ≡ true → (w : Warning)
+      → warnRow text (turnedMap .roads) (reverseWarning inSet w) ≡ reversedWarning set (warnRow text (m .roads) w)
+  unfolding warnRow reverseWarning reversedWarning reverseMap
+  row-reversed marks-for w =
+      let row = rowNamed (sameIn text) (m .roads) (w .road) in
+      let row-same = rows-reversed (sameIn text) inSet (m .roads) (w .road) in
+      let mark = marked-at (sameIn text) (m .roads) set (w .road) marks-for in
+      let end = toggled-bit (w .atEnd) (word set row) ∙ ap (λ b. bit (b ⊕ w .atEnd)) mark in
+      λ i. 3 ∷ w .junctionRow ∷ row-same i ∷ sym end i ∷ []
+
+  pub warned-reversed : markFor (m .roads) set ≡ true →
+      table 4 (repairContent (tablesOf text turnedMap turnedLanes) .warnings)
+      ≡ map (reversedWarning set) (table 4 (repairContent (tablesOf text m xs) .warnings))
+  warned-reversed marks-for =
+      let steady = marked-steady (sameIn text) (alike-in text) (m .roads) set in
+      let ws = warnings (sameIn text) m in
+      warnings-of text turnedMap turnedLanes (sound-reversed text inSet steady m xs h)
+      ∙ ap (map (warnRow text (turnedMap .roads))) (warnings-reversed (sameIn text) (alike-in text) inSet steady m)
+      ∙ map-map (warnRow text (turnedMap .roads)) (reverseWarning inSet) ws
+      ∙ map-ext (λ w. warnRow text (turnedMap .roads) (reverseWarning inSet w))
+      (λ w. reversedWarning set (warnRow text (m .roads) w)) ws (each (row-reversed marks-for) ws)
+      ∙ sym (map-map (reversedWarning set) (warnRow text (m .roads)) ws)
+      ∙ ap (map (reversedWarning set)) (sym (warnings-of text m xs h))
 
 -- an empty set leaves every warning row
 zero-at : (rs : List Road) (k : ℕ) → word (map (λ r. 0) rs) k ≡ 0

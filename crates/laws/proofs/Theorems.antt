@@ -49,7 +49,7 @@ use Rattle.laws.proofs.Sequences as seq
 pub encode-decoded : (t : Tables) → firstBroken (tableRules t) ≡ none →
     tablesOf (t .text) (mapOf t) (edgedLanesOf t) ≡ t
 unfolding modelOf
-encode-decoded t h = fine-words t (fine t h)
+encode-decoded t admitted = fine-words t (fine t admitted)
 
 -- encode then decode: the words of a map mean that map, where a junction name's words mean absent just where it
 -- is absent, and each lane has six floats at each end
@@ -60,30 +60,34 @@ pub decode-encoded : (text : List ℕ) (m : Map) (xs : List EdgedLane)
     map (λ x. x .lane) xs ≡ m .lanes
     → Each (λ (x : EdgedLane). (length (x .atStart) ≡ 6) × (length (x .atEnd) ≡ 6)) xs →
     (mapOf (tablesOf text m xs) ≡ m) × (edgedLanesOf (tablesOf text m xs) ≡ xs)
-decode-encoded text m xs p e six = (map-back text m xs (plain-names (m .roads) p), edged-whole text m xs e six)
+decode-encoded text m xs absent-just-there same-lanes six = (
+  map-back text m xs (plain-names (m .roads) absent-just-there),
+  edged-whole text m xs same-lanes six,
+)
 
 -- what reversal writes means the map reversed
 pub reversal-means : (t : Tables) → firstBroken (tableRules t) ≡ none → (marks : List ℕ) →
     mapOf (reversedOnceBy marks t) ≡ reversedMap t marks
-reversal-means t h marks = reversed-means t (fine t h) marks
+reversal-means t admitted marks = reversed-means t (fine t admitted) marks
 
 -- what repair writes means the map repaired
 pub repair-means : (t : Tables) → firstBroken (tableRules t) ≡ none →
     mapOf (repairedTables t) ≡ repairedMap t
-repair-means t h = repaired-means t (fine t h)
+repair-means t admitted = repaired-means t (fine t admitted)
 
 -- ---- reversal
 -- reversal composes: by one set and then by another is once by the roads that are in just one of them
 pub reversal-composes : (t : Tables) → firstBroken (tableRules t) ≡ none → (set marks : List ℕ)
     → marksFit (t .roads) set ≡ true → marksFit (t .roads) marks ≡ true →
     reversedOnceBy marks (reversedOnceBy set t) ≡ reversedOnceBy (toggledMarks set marks) t
-reversal-composes t h set marks p q =
-    seq.reversed-twice t (fine t h) set marks (marks-each t (fine t h) set p) (marks-each t (fine t h) marks q)
+reversal-composes t admitted set marks set-fits marks-fit =
+    let f = fine t admitted in
+    seq.reversed-twice t f set marks (marks-each t f set set-fits) (marks-each t f marks marks-fit)
 
 -- the empty set changes nothing
 pub empty-changes-nothing : (t : Tables) → firstBroken (tableRules t) ≡ none → (set : List ℕ) → isEmpty set ≡ true →
     reversedOnceBy set t ≡ t
-empty-changes-nothing t h set e = seq.empty-reversed t (fine t h) set e
+empty-changes-nothing t admitted set empty = seq.empty-reversed t (fine t admitted) set empty
 
 -- ---- what reversal leaves as it was
 -- on a map reversed and then repaired every lane has the lists that it has on the map repaired, successors and
@@ -91,14 +95,15 @@ empty-changes-nothing t h set e = seq.empty-reversed t (fine t h) set e
 pub same-lists : (t : Tables) (marks lengths : List ℕ) → reversalRefusal t marks lengths ≡ none →
     (successorLists (same t) (repairedMap (reversedOnceBy marks t)) ≡ successorLists (same t) (repairedMap t))
     × (predecessorLists (same t) (repairedMap (reversedOnceBy marks t)) ≡ predecessorLists (same t) (repairedMap t))
-same-lists t marks lengths q = (successors-over t marks lengths q, predecessors-over t marks lengths q)
+same-lists t marks lengths accepted =
+    (successors-over t marks lengths accepted, predecessors-over t marks lengths accepted)
 
 -- the gap rows are the same, to the bit
 pub same-gap-rows : (t : Tables) (marks lengths : List ℕ) → reversalRefusal t marks lengths ≡ none →
     linkGaps (edgedLanesOf (reversedOnceBy marks t))
     (successorLists (same t) (repairedMap (reversedOnceBy marks t)))
     ≡ linkGaps (edgedLanesOf t) (successorLists (same t) (repairedMap t))
-same-gap-rows t marks lengths q = gaps-over t marks lengths q
+same-gap-rows t marks lengths accepted = gaps-over t marks lengths accepted
 
 -- repair's warnings differ only in the end of a marked road: each row has its first three words, and the fourth
 -- is the other end where the road is marked
@@ -106,26 +111,27 @@ pub same-warnings : (t : Tables) → firstBroken (tableRules t) ≡ none → (ma
     → marksFit (t .roads) marks ≡ true →
     table warningWidth (repairContent (reversedOnceBy marks t) .warnings)
     ≡ map (reversedWarning marks) (table warningWidth (repairContent t .warnings))
-same-warnings t h marks k = warnings-over t (fine t h) marks k
+same-warnings t admitted marks marks-fit = warnings-over t (fine t admitted) marks marks-fit
 
 -- ---- the lists
 -- converse: b stands in a's successors as often as a in b's predecessors, where no identity is borne twice (rule 6)
 pub converse : (t : Tables) → identitiesOnce t ≡ true → (a b : Lane) → List·Memᴰ a (lanesOf t) →
     count (b .identity) (successors (same t) (mapOf t) a) ≡ count (a .identity) (predecessors (same t) (mapOf t) b)
 unfolding idsOnce mapOf
-converse t u a b p = conv.converse (same t) (mapOf t) u a b p
+converse t once a b a-in = conv.converse (same t) (mapOf t) once a b a-in
 
 -- of two two-way lanes each lists the other or neither does
 pub both-or-neither : (t : Tables) → identitiesOnce t ≡ true → (a b : Lane) → List·Memᴰ a (lanesOf t)
     → List·Memᴰ b (lanesOf t) → isBoth (a .direction) ≡ true → isBoth (b .direction) ≡ true →
     member (b .identity) (successors (same t) (mapOf t) a) ≡ member (a .identity) (successors (same t) (mapOf t) b)
 unfolding idsOnce mapOf
-both-or-neither t u a b p q x y = conv.both-or-neither (same t) (mapOf t) u a b p q x y
+both-or-neither t once a b a-in b-in a-both b-both =
+    conv.both-or-neither (same t) (mapOf t) once a b a-in b-in a-both b-both
 
 -- both, of the words: the lists that an accepted succession wrote, on any tables
 pub converse-written : (t : Tables) (o : ListOutputs) (counts : List ℕ) → successionCall t o .answer ≡ wrote counts →
     Mutual (t .lanes) (listRows counts (successionCall t o .outs))
-converse-written t o counts a = mutual-lists t o counts a
+converse-written t o counts accepted = mutual-lists t o counts accepted
 
 -- list lookup on what succession writes finds the lane's list, onward or before
 pub lookup-finds : (t : Tables) (row : ℕ) (before : Bool) → row < length (lanesOf t) →
@@ -133,7 +139,7 @@ pub lookup-finds : (t : Tables) (row : ℕ) (before : Bool) → row < length (la
     (listContent t .predecessorOffsets) (listContent t .predecessorIds) row before
     ≡ pick before (getD (successorLists (same t) (mapOf t)) row [])
     (getD (predecessorLists (same t) (mapOf t)) row [])
-lookup-finds t row before h = listContent-looked t row before h
+lookup-finds t row before row-in = listContent-looked t row before row-in
 
 -- ---- one call after another
 -- a call looks at no table but those that it reads: repair comes to the same with no lanes and no edges,
@@ -153,7 +159,7 @@ succession-reads t o = successionCall-reads t o
 -- by 9 alone
 pub gap-check-passes : (t : Tables) → firstBroken (successionRules t) ≡ none → edgesFit t ≡ true →
     firstBroken (gapRules t (listContent t .successorOffsets) (listContent t .successorIds)) ≡ none
-gap-check-passes t h e = through t h e
+gap-check-passes t succession-passes edges-fit = through t succession-passes edges-fit
 
 -- ---- warnings
 -- the Rust's list of warnings, from what reading and then repair, on the junctions that reading wrote, warn of:

@@ -14,9 +14,9 @@ use Rattle.model.specs.Reading.{virtualText}
 use Rattle.model.specs.Records.{Connection, JunctionKind, Pair, Span, common, direct, virtual}
 use Rattle.model.specs.Repair.{isVirtual}
 use Rattle.model.specs.Rules.{isDirect}
-use Rattle.model.specs.Tables.{bit, connectionRow, isAbsent, kindWord, nameIn, spanIn}
+use Rattle.model.specs.Tables.{connectionRow, isAbsent, kindWord, nameIn, spanIn}
 use Rattle.words.proofs.Scans.{left-on, right-on}
-use Rattle.reading.specs.Laid.{ConnectionOuts, ConnectionsRead, LinkOuts, LinksRead, PutIf}
+use Rattle.reading.specs.Laid.{ConnectionOuts, ConnectionsRead, LinksRead, PutIf}
 use Rattle.reading.specs.Laid.{connectionOuts, connectionRead, dropsAt, linkOuts, output, pairsAt, rawTables}
 use Rattle.reading.proofs.LinkLaws.{nothing}
 use Rattle.reading.proofs.NameLaws.{name-of, word-of}
@@ -89,7 +89,7 @@ module _ (text junctions connections links : List ℕ) (j c : ℕ) where
   abbrev attribute : ℕ → Option Span
   attribute k = nameIn connections (c * 14 + k)
 
-  -- whether it is virtual or main road's own, in a virtual junction
+  -- what a virtual junction passes over: a virtual connection, and one that comes from the main road
   abbrev aside : Bool
   aside = reads text virtualText (attribute 2) || sameNames text (attribute 4) (nameIn junctions (j * 8 + 4))
 
@@ -116,7 +116,7 @@ module _ (text junctions connections links : List ℕ) (j c : ℕ) where
   unfolding passedOver
   passed-any = refl
 
-  -- what connection c gives, by whether it is passed over and what it reads as
+  -- the warnings of a connection that is not passed over, by what it reads as
   abbrev warnedBy : Option Connection → List ReadWarning
   warnedBy o =
       cond (isSome o) (gather (laneLinkWarnings t j c) (laneLinksAt t c)) (connectionDropped j c ∷ [])

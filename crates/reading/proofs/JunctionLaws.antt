@@ -1,9 +1,9 @@
 -- A junction read: dropped with a warning for each connection, or kept with those that it keeps.
-use Prim.Native.Nat.{ℕ, zero, suc, _+_, _*_, _≤_}
+use Prim.Native.Nat.{ℕ, zero, suc, _+_, _*_}
 use mathlib.Core.Path.{_≡_, refl, sym, ap, ap₂, _∙_, subst}
 use mathlib.Core.List.{List, [], _∷_, append-nil, map}
 use mathlib.Core.Bool.{true, false, cond}
-use mathlib.Core.Option.{Option, none, some}
+use mathlib.Core.Option.{Option}
 use native.Mathlib.Nat.{add-assoc, add-zero}
 use native.Mathlib.Omega.{arith}
 use lib.ListN.{length, getD, length-map}
@@ -12,7 +12,7 @@ use Rattle.model.specs.Reading.{RawTables, ReadWarning, connectionDropped, conn
 use Rattle.model.specs.Reading.{connectionsAt, keptConnections, kindAt, kindRead, partRows, readJunction}
 use Rattle.model.specs.Reading.{readWarningRow, rowAt, toList}
 use Rattle.model.specs.Records.{Junction, Span}
-use Rattle.model.specs.Tables.{isAbsent, junctionRow, kindWord, nameIn, spanIn}
+use Rattle.model.specs.Tables.{isAbsent, junctionRow, kindWord, nameIn}
 use Rattle.laws.proofs.Basics.{gather-map}
 use Rattle.reading.specs.Laid.{ConnectionsRead, JunctionOuts, JunctionsRead, PutIf, Run}
 use Rattle.reading.specs.Laid.{connectionOuts, junctionOuts, output, rawTables}

@@ -22,14 +22,16 @@ use Rattle.reading.specs.declared.numbers.Link.{Link}
 use Rattle.reading.proofs.NameLaws.{name-of}
 use Rattle.reading.proofs.RowLaws.{numbered-rows, part-even}
 
-pub lane-row : (text raw : List ℕ) (i : ℕ) {a b : Link} → a ≡ linkRead (numberOf text (nameIn raw (i * 4)))
-    → b ≡ linkRead (numberOf text (nameIn raw (i * 4 + 2))) →
-    a .flag ∷ a .number ∷ b .flag ∷ b .number ∷ [] ≡ readLane text (rowAt 4 raw i)
+pub lane-row : (text raw : List ℕ) (i : ℕ) {before after : Link}
+    → before ≡ linkRead (numberOf text (nameIn raw (i * 4)))
+    → after ≡ linkRead (numberOf text (nameIn raw (i * 4 + 2)))
+    → before .flag ∷ before .number ∷ after .flag ∷ after .number ∷ [] ≡ readLane text (rowAt 4 raw i)
 unfolding readLane
-lane-row text raw i {a} {b} e f = ap₂ (λ (x y : Link). x .flag ∷ x .number ∷ y .flag ∷ y .number ∷ []) e f
-    ∙ ap₂ (λ (x y : Option Span). linkWords (numberOf text x) ++ linkWords (numberOf text y))
-    (ap (nameIn raw) (sym (add-zero (i * 4))) ∙ sym (name-of 4 i raw 0 (omega arith)))
-    (sym (name-of 4 i raw 2 (omega arith)))
+lane-row text raw i before-is after-is =
+    let first = ap (nameIn raw) (sym (add-zero (i * 4))) ∙ sym (name-of 4 i raw 0 (omega arith)) in
+    let second = sym (name-of 4 i raw 2 (omega arith)) in
+    ap₂ (λ (x y : Link). x .flag ∷ x .number ∷ y .flag ∷ y .number ∷ []) before-is after-is
+    ∙ ap₂ (λ (x y : Option Span). linkWords (numberOf text x) ++ linkWords (numberOf text y)) first second
 
 -- the row of lane k
 abbrev pub laneAt : (text raw : List ℕ) → ℕ → List ℕ

@@ -33,42 +33,37 @@ target-local text l = simp (short 9 l)
 abbrev absentFrom : List ℕ → ℕ → Bool
 absentFrom ws a = isAbsent (getD ws a 0) (getD ws (a + 1) 0)
 
+-- flag and names, and that all four names are absent
+abbrev known : (text ws : List ℕ) → ℕ → Bool
+known text ws at = leb (getD ws at 0) 1 && namesWorded text 4 ws (at + 1)
+
+abbrev allAbsent : List ℕ → ℕ → Bool
+allAbsent ws at =
+    absentFrom ws (at + 1) && absentFrom ws (at + 3) && absentFrom ws (at + 5) && absentFrom ws (at + 7)
+
 target-words : (text ws : List ℕ) (at : ℕ)
-    → rawTargetWorded text (drop at ws) ≡ leb (getD ws at 0) 1 && namesWorded text 4 ws (at + 1)
-    && (flag (getD ws at 0) ||
-    (absentFrom ws (at + 1) && absentFrom ws (at + 3) && absentFrom ws (at + 5) && absentFrom ws (at + 7)))
+    → rawTargetWorded text (drop at ws) ≡ known text ws at && (flag (getD ws at 0) || allAbsent ws at)
 unfolding rawTargetWorded
 target-words text ws at = simp (getD-drop at ws, add-zero, add-assoc)
 
-pub target-fits-on : (text ws : List ℕ) (at : ℕ) {r : Bool} → getD ws at 0 ≡ 1
-    → r ≡ leb (getD ws at 0) 1 && namesWorded text 4 ws (at + 1) → r ≡ rawTargetWorded text (drop at ws)
-target-fits-on text ws at e f =
-    f
+pub target-fits-on : (text ws : List ℕ) (at : ℕ) {r : Bool} → getD ws at 0 ≡ 1 → r ≡ known text ws at
+    → r ≡ rawTargetWorded text (drop at ws)
+target-fits-on text ws at set fits =
+    fits
     ∙ sym (target-words text ws at
-    ∙ ap (λ (b : Bool).
-    leb (getD ws at 0) 1 && namesWorded text 4 ws (at + 1) &&
-    (b ||
-    (absentFrom ws (at + 1) && absentFrom ws (at + 3) && absentFrom ws (at + 5) && absentFrom ws (at + 7))))
-    (eq-eqb (getD ws at 0) 1 e)
-    ∙ on (leb (getD ws at 0) 1 && namesWorded text 4 ws (at + 1)))
+    ∙ ap (λ (b : Bool). known text ws at && (b || allAbsent ws at)) (eq-eqb (getD ws at 0) 1 set)
+    ∙ on (known text ws at))
   where
     on : (b : Bool) → b && true ≡ b
     on true = refl
     on false = refl
 
 pub target-fits-off : (text ws : List ℕ) (at : ℕ) {r : Bool} → (getD ws at 0 ≡ 1 → ⊥)
-    → r
-    ≡ leb (getD ws at 0) 1 && namesWorded text 4 ws (at + 1) &&
-    (absentFrom ws (at + 1) && absentFrom ws (at + 3) && absentFrom ws (at + 5) && absentFrom ws (at + 7)) →
-    r ≡ rawTargetWorded text (drop at ws)
-target-fits-off text ws at n f =
-    f
+    → r ≡ known text ws at && allAbsent ws at → r ≡ rawTargetWorded text (drop at ws)
+target-fits-off text ws at unset fits =
+    fits
     ∙ sym (target-words text ws at
-    ∙ ap (λ (b : Bool).
-    leb (getD ws at 0) 1 && namesWorded text 4 ws (at + 1) &&
-    (b ||
-    (absentFrom ws (at + 1) && absentFrom ws (at + 3) && absentFrom ws (at + 5) && absentFrom ws (at + 7))))
-    (ne-eqb (getD ws at 0) 1 n))
+    ∙ ap (λ (b : Bool). known text ws at && (b || allAbsent ws at)) (ne-eqb (getD ws at 0) 1 unset))
 
 -- ---- rows
 -- a target by its flag and its four attributes
@@ -86,42 +81,46 @@ abbrev pub targetAt : (text raw : List ℕ) → ℕ → List ℕ
 targetAt text raw k = targetWords (readTarget text (rowAt 9 raw k))
 
 module _ (text raw : List ℕ) (i : ℕ) where
+  -- its flag, and its attributes at their words of the table
+  abbrev element : ℕ
+  element = getD raw (i * 9) 0
+
+  abbrev attribute : ℕ → Option Span
+  attribute k = nameIn raw (i * 9 + k)
+
   target-is : readTarget text (rowAt 9 raw i)
-      ≡ targetBy text (getD raw (i * 9) 0) (nameIn raw (i * 9 + 1)) (nameIn raw (i * 9 + 3))
-      (nameIn raw (i * 9 + 5)) (nameIn raw (i * 9 + 7))
+      ≡ targetBy text element (attribute 1) (attribute 3) (attribute 5) (attribute 7)
   unfolding readTarget
   target-is =
-      let p0 = word-of 9 i raw 0 (omega arith) ∙ ap (λ (m : ℕ). getD raw m 0) (add-zero (i * 9)) in
-      let p1 = name-of 9 i raw 1 (omega arith) in
-      let p3 = name-of 9 i raw 3 (omega arith) in
-      let p5 = name-of 9 i raw 5 (omega arith) in
-      let p7 = name-of 9 i raw 7 (omega arith) in
-      λ z. targetBy text (p0 z) (p1 z) (p3 z) (p5 z) (p7 z)
+      let there = word-of 9 i raw 0 (omega arith) ∙ ap (λ (m : ℕ). getD raw m 0) (add-zero (i * 9)) in
+      let kind = name-of 9 i raw 1 (omega arith) in
+      let name = name-of 9 i raw 3 (omega arith) in
+      let contact = name-of 9 i raw 5 (omega arith) in
+      let along = name-of 9 i raw 7 (omega arith) in
+      λ z. targetBy text (there z) (kind z) (name z) (contact z) (along z)
 
-  pub target-off : (getD raw (i * 9) 0 ≡ 1 → ⊥) → 0 ∷ 0 ∷ 0 ∷ 0 ∷ 0 ∷ 0 ∷ 0 ∷ [] ≡ targetAt text raw i
-  target-off n =
+  -- its words, once the flag and the name are known
+  words-by : {n : ℕ} {name : Option Span} → element ≡ n → attribute 3 ≡ name
+      → targetWords (targetBy text n (attribute 1) name (attribute 5) (attribute 7)) ≡ targetAt text raw i
+  words-by set named =
       sym (ap targetWords (target-is
-      ∙ ap (λ (b : Bool).
-      cond b (targetBy text 1 (nameIn raw (i * 9 + 1)) (nameIn raw (i * 9 + 3)) (nameIn raw (i * 9 + 5))
-      (nameIn raw (i * 9 + 7))) none) (ne-eqb (getD raw (i * 9) 0) 1 n)))
+      ∙ (λ z. targetBy text (set z) (attribute 1) (named z) (attribute 5) (attribute 7))))
 
-  pub target-unnamed : getD raw (i * 9) 0 ≡ 1 → nameIn raw (i * 9 + 3) ≡ none
-      → 0 ∷ 0 ∷ 0 ∷ 0 ∷ 0 ∷ 0 ∷ 0 ∷ [] ≡ targetAt text raw i
-  target-unnamed e f =
-      sym (ap targetWords (target-is
-      ∙ (λ z.
-      targetBy text (e z) (nameIn raw (i * 9 + 1)) (f z) (nameIn raw (i * 9 + 5)) (nameIn raw (i * 9 + 7)))))
+  pub target-off : (element ≡ 1 → ⊥) → 0 ∷ 0 ∷ 0 ∷ 0 ∷ 0 ∷ 0 ∷ 0 ∷ [] ≡ targetAt text raw i
+  target-off unset =
+      let read = targetBy text 1 (attribute 1) (attribute 3) (attribute 5) (attribute 7) in
+      sym (ap targetWords (target-is ∙ ap (λ (b : Bool). cond b read none) (ne-eqb element 1 unset)))
 
-  pub target-named : {kind contact given along s n : ℕ} → getD raw (i * 9) 0 ≡ 1
-      → nameIn raw (i * 9 + 3) ≡ some (record { start = s; size = n })
-      → kind ≡ bit (reads text junctionText (nameIn raw (i * 9 + 1)))
-      → contact ≡ bit (reads text endText (nameIn raw (i * 9 + 5))) →
-      given ≡ bit (isSome (nameIn raw (i * 9 + 5))) → along ≡ bit (isSome (nameIn raw (i * 9 + 7)))
+  pub target-unnamed : element ≡ 1 → attribute 3 ≡ none → 0 ∷ 0 ∷ 0 ∷ 0 ∷ 0 ∷ 0 ∷ 0 ∷ [] ≡ targetAt text raw i
+  target-unnamed set unnamed = words-by set unnamed
+
+  pub target-named : {kind contact given along s n : ℕ} → element ≡ 1
+      → attribute 3 ≡ some (record { start = s; size = n })
+      → kind ≡ bit (reads text junctionText (attribute 1)) → contact ≡ bit (reads text endText (attribute 5))
+      → given ≡ bit (isSome (attribute 5)) → along ≡ bit (isSome (attribute 7))
       → 1 ∷ kind ∷ s ∷ n ∷ contact ∷ given ∷ along ∷ [] ≡ targetAt text raw i
-  target-named {kind} {contact} {given} {along} {s} {n} e f k c g a = (λ z. 1 ∷ k z ∷ s ∷ n ∷ c z ∷ g z ∷ a z ∷ [])
-      ∙ sym (ap targetWords (target-is
-      ∙ (λ z.
-      targetBy text (e z) (nameIn raw (i * 9 + 1)) (f z) (nameIn raw (i * 9 + 5)) (nameIn raw (i * 9 + 7)))))
+  target-named {s = s} {n = n} set named kind contact given along =
+      (λ z. 1 ∷ kind z ∷ s ∷ n ∷ contact z ∷ given z ∷ along z ∷ []) ∙ words-by set named
 
 pub target-seven : (text raw : List ℕ) (k : ℕ) → length (targetAt text raw k) ≡ 7
 target-seven text raw k = refl

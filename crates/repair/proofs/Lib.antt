@@ -7,3 +7,4 @@ pub mod Steps
 pub mod Virtual
 pub mod RoadWords
 pub mod Outcomes
+pub mod Walks

@@ -170,74 +170,82 @@ pub record Ready (t : Tables) : Type 0 where
 
 sizes : (t : Tables) → mapSized 8192 t ≡ true → (length (t .connections) / 7 ≤ 8192) × (length (t .pairs) / 2 ≤ 8192)
 unfolding mapSized
-sizes t e =
-    let a = leb (length (t .text)) 1048576 in
-    let r = sized 20 16384 (length (t .roads)) in
-    let s = sized 1 16384 (length (t .sections)) in
-    let j = sized 5 16384 (length (t .junctions)) in
-    let c = sized 7 8192 (length (t .connections)) in
-    let p = sized 2 8192 (length (t .pairs)) in (
-      sized-few 7 8192 (length (t .connections))
-          (right-on (a && r && s && j) c (left-on (a && r && s && j && c) p e)),
-      sized-few 2 8192 (length (t .pairs)) (right-on (a && r && s && j && c) p e),
+sizes t sized-all =
+    let text = leb (length (t .text)) 1048576 in
+    let roads = sized 20 16384 (length (t .roads)) in
+    let sections = sized 1 16384 (length (t .sections)) in
+    let junctions = sized 5 16384 (length (t .junctions)) in
+    let connections = sized 7 8192 (length (t .connections)) in
+    let pairs = sized 2 8192 (length (t .pairs)) in
+    let before = text && roads && sections && junctions in (
+      sized-few 7 8192 _ (right-on before connections (left-on (before && connections) pairs sized-all)),
+      sized-few 2 8192 _ (right-on (before && connections) pairs sized-all),
     )
 
 kinds-of : (text junctions : List ℕ) → every (junctionWorded text) (table 5 junctions) ≡ true → (k : ℕ)
     → k < length junctions / 5 → getD junctions (k * 5 + 2) 0 ≤ 2
 unfolding junctionWorded
-kinds-of text junctions e k h =
-    let w : junctionWorded text (from 5 junctions k) ≡ true =
+kinds-of text junctions worded k inside =
+    let row = from 5 junctions k in
+    let row-worded : junctionWorded text row ≡ true =
     all-at (length junctions / 5) k (λ i. junctionWorded text (from 5 junctions i))
-    (sym (every-rows 5 junctions (junctionWorded text) (junction-local text)) ∙ e) h in
-    let l =
-    leb-true (word (from 5 junctions k) 2) 2
-    (right-on (placed text (spanIn (from 5 junctions k) 0)) (leb (word (from 5 junctions k) 2) 2) w) in
-    let g = getD-drop (k * 5) junctions 2 0 in
-    omega arith
+    (sym (every-rows 5 junctions (junctionWorded text) (junction-local text)) ∙ worded) inside in
+    let small = leb-true (word row 2) 2 (right-on (placed text (spanIn row 0)) (leb (word row 2) 2) row-worded) in
+    let word-is = getD-drop (k * 5) junctions 2 0 in
+    omega (arith, small, word-is)
 
 pub ready : (t : Tables) → none ≡ firstBroken (repairRules t) → Ready t
 unfolding repairRules rulesTo5 mapWorded connectionPartsFit pairPartsFit
-ready t e =
-    let p = all-pass (repairRules t) (sym e) in
-    let z = sizes t (p .0) in
-    let r = every (roadWorded (t .text)) (table 20 (t .roads)) in
-    let j = every (junctionWorded (t .text)) (table 5 (t .junctions)) in
-    let c = every (connectionWorded (t .text)) (table 7 (t .connections)) in
-    let rj = left-on (r && j) c (p .1 .0) in
-    let cp = partsFit 3 4 0 (length (t .connections) / 7) (table 5 (t .junctions)) in
-    let pp = partsFit 5 6 0 (length (t .pairs) / 2) (table 7 (t .connections)) in
+ready t unbroken =
+    let rules = all-pass (repairRules t) (sym unbroken) in
+    let sized-all = rules .0 in
+    let worded-all = rules .1 .0 in
+    let once = rules .1 .1 .0 in
+    let sections-fit = rules .1 .1 .1 .0 in
+    let parts-fit = rules .1 .1 .1 .1 .0 in
+    let few-rows = sizes t sized-all in
+    let roads = every (roadWorded (t .text)) (table 20 (t .roads)) in
+    let junctions = every (junctionWorded (t .text)) (table 5 (t .junctions)) in
+    let connections = every (connectionWorded (t .text)) (table 7 (t .connections)) in
+    let both-worded = left-on (roads && junctions) connections worded-all in
+    let own-connections = partsFit 3 4 0 (length (t .connections) / 7) (table 5 (t .junctions)) in
+    let own-pairs = partsFit 5 6 0 (length (t .pairs) / 2) (table 7 (t .connections)) in
     record {
-      few-roads = few 8192 t (omega arith) (p .0) .few-roads;
-      once = not-none _ (sym (roads-once (t .text) (t .roads) (t .sections)) ∙ p .1 .1 .0);
+      few-roads = few 8192 t (omega arith) sized-all .few-roads;
+      once = not-none _ (sym (roads-once (t .text) (t .roads) (t .sections)) ∙ once);
       small = record {
-        few = z .0;
-        few-pairs = z .1;
+        few = few-rows .0;
+        few-pairs = few-rows .1;
         fit = fit-of 7 5 6 (length (t .pairs) / 2) (t .connections) (omega arith) (omega arith)
-            (right-on cp pp (p .1 .1 .1 .1 .0));
+            (right-on own-connections own-pairs parts-fit);
       };
       joined = record {
-        few = junctions-few 8192 t (p .0);
+        few = junctions-few 8192 t sized-all;
         fit = fit-of 5 3 4 (length (t .connections) / 7) (t .junctions) (omega arith) (omega arith)
-            (left-on cp pp (p .1 .1 .1 .1 .0));
-        kinds = kinds-of (t .text) (t .junctions) (right-on r j rj);
+            (left-on own-connections own-pairs parts-fit);
+        kinds = kinds-of (t .text) (t .junctions) (right-on roads junctions both-worded);
       };
-      worded = left-on r j rj;
+      worded = left-on roads junctions both-worded;
       fit = fit-of 20 18 19 (length (t .sections)) (t .roads) (omega arith) (omega arith)
-          (parts-of (t .sections) (t .roads) _ (p .1 .1 .1 .0));
+          (parts-of (t .sections) (t .roads) _ sections-fit);
     }
 
 -- five contents that fit
-pub fits-five : (a b c d e a′ b′ c′ d′ e′ : ℕ)
-    → fits (a ∷ b ∷ c ∷ d ∷ e ∷ []) (a′ ∷ b′ ∷ c′ ∷ d′ ∷ e′ ∷ []) ≡ true
-    → (a ≤ a′) × (b ≤ b′) × (c ≤ c′) × (d ≤ d′) × (e ≤ e′)
-fits-five a b c d e a′ b′ c′ d′ e′ h =
-    let h1 = right-on (leb a a′) (leb b b′ && (leb c c′ && (leb d d′ && (leb e e′ && true)))) h in
-    let h2 = right-on (leb b b′) (leb c c′ && (leb d d′ && (leb e e′ && true))) h1 in
-    let h3 = right-on (leb c c′) (leb d d′ && (leb e e′ && true)) h2 in
-    let h4 = right-on (leb d d′) (leb e e′ && true) h3 in (
-      leb-true a a′ (left-on (leb a a′) (leb b b′ && (leb c c′ && (leb d d′ && (leb e e′ && true)))) h),
-      leb-true b b′ (left-on (leb b b′) (leb c c′ && (leb d d′ && (leb e e′ && true))) h1),
-      leb-true c c′ (left-on (leb c c′) (leb d d′ && (leb e e′ && true)) h2),
-      leb-true d d′ (left-on (leb d d′) (leb e e′ && true) h3),
-      leb-true e e′ (left-on (leb e e′) true h4),
+pub fits-five : (a b c d e roads junctions connections pairs warnings : ℕ)
+    → fits (a ∷ b ∷ c ∷ d ∷ e ∷ []) (roads ∷ junctions ∷ connections ∷ pairs ∷ warnings ∷ []) ≡ true
+    → (a ≤ roads) × (b ≤ junctions) × (c ≤ connections) × (d ≤ pairs) × (e ≤ warnings)
+fits-five a b c d e roads junctions connections pairs warnings all =
+    let from-warnings = leb e warnings && true in
+    let from-pairs = leb d pairs && from-warnings in
+    let from-connections = leb c connections && from-pairs in
+    let from-junctions = leb b junctions && from-connections in
+    let rest-1 = right-on (leb a roads) from-junctions all in
+    let rest-2 = right-on (leb b junctions) from-connections rest-1 in
+    let rest-3 = right-on (leb c connections) from-pairs rest-2 in
+    let rest-4 = right-on (leb d pairs) from-warnings rest-3 in (
+      leb-true a roads (left-on (leb a roads) from-junctions all),
+      leb-true b junctions (left-on (leb b junctions) from-connections rest-1),
+      leb-true c connections (left-on (leb c connections) from-pairs rest-2),
+      leb-true d pairs (left-on (leb d pairs) from-warnings rest-3),
+      leb-true e warnings (left-on (leb e warnings) true rest-4),
     )

@@ -27,7 +27,7 @@ use Rattle.words.proofs.Scans.{all-at, every-rows}
 use Rattle.rules.proofs.Locals.{road-local}
 use Rattle.repair.specs.Now.{endNow, nowWords, roadNow, roadsNow, targetNow, wordsNow}
 use Rattle.rules.specs.Parts.{Fit, counts}
-use Rattle.repair.specs.Along.{roadNowWords}
+use Rattle.repair.specs.Along.{roadNowWords, roadsNowWords}
 use Rattle.repair.proofs.Lays.{rows-append}
 use Rattle.rules.proofs.Fits.{fit-in}
 
@@ -90,12 +90,12 @@ module _ (roads junctions ends : List ℕ) where
   unfolding tab
   roads-width zero = refl
   roads-width (suc i) =
-      let a =
+      let both =
       ap length (gather-append (roadNowWords roads junctions ends) (tab i (λ r. r)) (i ∷ []))
       ∙ length-append (gather (roadNowWords roads junctions ends) (tab i (λ r. r)))
       (roadNowWords roads junctions ends i ++ []) in
-      let b = roads-width i in
-      let c = ap length (append-nil (roadNowWords roads junctions ends i)) ∙ road-width i in
+      let before = roads-width i in
+      let last = ap length (append-nil (roadNowWords roads junctions ends i)) ∙ road-width i in
       omega arith
 
 -- ---- a road's row is its words
@@ -143,11 +143,11 @@ module _ (text ss roads junctions ends : List ℕ) (worded : every (roadWorded t
   count-is : (r : ℕ) → r < length roads / 20
       → length (roadNow ss roads junctions ends r .sections) ≡ getD roads (r * 20 + 19) 0
   unfolding roadNow
-  count-is r h =
+  count-is r inside =
       ap₂ (λ (a b : ℕ). length (part a b ss)) (getD-drop (r * 20) roads 18 0) (getD-drop (r * 20) roads 19 0)
       ∙ length-take-le (getD roads (r * 20 + 19) 0) (drop (getD roads (r * 20 + 18) 0) ss)
-      (let d = length-drop (getD roads (r * 20 + 18) 0) ss in
-      let e = fit-in 20 18 19 roads (length ss) fit r h in omega arith)
+      (let rest = length-drop (getD roads (r * 20 + 18) 0) ss in
+      let fits = fit-in 20 18 19 roads (length ss) fit r inside in omega arith)
 
   row-worded : (r : ℕ) → r < length roads / 20 → roadWorded text (from 20 roads r) ≡ true
   row-worded r h =
@@ -158,27 +158,27 @@ module _ (text ss roads junctions ends : List ℕ) (worded : every (roadWorded t
       → roadRow (getD roads (r * 20 + 18) 0) (roadNow ss roads junctions ends r)
       ≡ roadNowWords roads junctions ends r
   unfolding roadRow roadNow roadNowWords roadWorded targetNow
-  row-now r h =
-      let w =
-      and4 (placed text (spanIn (from 20 roads r) 0))
-      (isAbsent (word (from 20 roads r) 2) (word (from 20 roads r) 3) || placed text
-      (spanIn (from 20 roads r) 2)) (targetWordedAt text (from 20 roads r) 4)
-      (targetWordedAt text (from 20 roads r) 11) (row-worded r h) in
-      let n =
-      name-forth (word (from 20 roads r) 2) (word (from 20 roads r) 3)
+  row-now r inside =
+      let row = from 20 roads r in
+      let worded-parts =
+      and4 (placed text (spanIn row 0)) (isAbsent (word row 2) (word row 3) || placed text (spanIn row 2))
+      (targetWordedAt text row 4) (targetWordedAt text row 11) (row-worded r inside) in
+      let junction-name =
+      name-forth (word row 2) (word row 3)
       ∙ ap₂ (λ (a b : ℕ). a ∷ b ∷ []) (getD-drop (r * 20) roads 2 0) (getD-drop (r * 20) roads 3 0) in
-      let z0 : r * 20 + 4 ≡ r * 20 + 4 + 0 * 7 = omega arith in
-      let z1 : r * 20 + 11 ≡ r * 20 + 4 + 1 * 7 = omega arith in
-      let p =
-      end-words text roads junctions r (getD ends (r * 2 + 0) 0) false (w .2)
-      ∙ ap (λ (a : ℕ). nowWords (getD ends (r * 2 + 0) 0) roads junctions a 0) z0 in
-      let s =
-      end-words text roads junctions r (getD ends (r * 2 + 1) 0) true (w .3)
-      ∙ ap (λ (a : ℕ). nowWords (getD ends (r * 2 + 1) 0) roads junctions a 1) z1 in
-      let f = getD-drop (r * 20) roads 0 0 ∙ ap (λ (k : ℕ). getD roads k 0) (add-zero (r * 20)) in
+      let at-4 : r * 20 + 4 ≡ r * 20 + 4 + 0 * 7 = omega arith in
+      let at-11 : r * 20 + 11 ≡ r * 20 + 4 + 1 * 7 = omega arith in
+      let predecessor =
+      end-words text roads junctions r (getD ends (r * 2 + 0) 0) false (worded-parts .2)
+      ∙ ap (λ (a : ℕ). nowWords (getD ends (r * 2 + 0) 0) roads junctions a 0) at-4 in
+      let successor =
+      end-words text roads junctions r (getD ends (r * 2 + 1) 0) true (worded-parts .3)
+      ∙ ap (λ (a : ℕ). nowWords (getD ends (r * 2 + 1) 0) roads junctions a 1) at-11 in
+      let first = getD-drop (r * 20) roads 0 0 ∙ ap (λ (k : ℕ). getD roads k 0) (add-zero (r * 20)) in
       λ i.
-      f i ∷ getD-drop (r * 20) roads 1 0 i
-      ∷ (n i ++ (p i ++ (s i ++ (getD roads (r * 20 + 18) 0 ∷ count-is r h i ∷ []))))
+      first i ∷ getD-drop (r * 20) roads 1 0 i
+      ∷ (junction-name i
+      ++ (predecessor i ++ (successor i ++ (getD roads (r * 20 + 18) 0 ∷ count-is r inside i ∷ []))))
 
   sections-before : (i : ℕ) → i ≤ length roads / 20
       → length (gather (λ (r : Road). r .sections) (tab i (roadNow ss roads junctions ends)))
@@ -186,14 +186,14 @@ module _ (text ss roads junctions ends : List ℕ) (worded : every (roadWorded t
   unfolding tab
   sections-before zero h = total-none (counts 20 19 roads)
   sections-before (suc i) h =
-      let a =
+      let both =
       ap length (gather-append (λ (r : Road). r .sections) (tab i (roadNow ss roads junctions ends))
       (roadNow ss roads junctions ends i ∷ []))
       ∙ length-append (gather (λ (r : Road). r .sections) (tab i (roadNow ss roads junctions ends)))
       (roadNow ss roads junctions ends i .sections ++ []) in
-      let b = sections-before i (omega arith) in
-      let c = ap length (append-nil (roadNow ss roads junctions ends i .sections)) ∙ count-is i h in
-      let d = ap (λ (k : ℕ). total k (counts 20 19 roads)) (sym (add-one i)) ∙ total-more i (counts 20 19 roads) in
+      let before = sections-before i (omega arith) in
+      let last = ap length (append-nil (roadNow ss roads junctions ends i .sections)) ∙ count-is i h in
+      let more = ap (λ (k : ℕ). total k (counts 20 19 roads)) (sym (add-one i)) ∙ total-more i (counts 20 19 roads) in
       omega arith
 
   rows-now : (i : ℕ) → i ≤ length roads / 20
@@ -211,9 +211,8 @@ module _ (text ss roads junctions ends : List ℕ) (worded : every (roadWorded t
     where
       begin : 0 + length (gather (λ (r : Road). r .sections) (tab i (roadNow ss roads junctions ends)))
           ≡ total i (counts 20 19 roads)
-      begin = let a = sections-before i (omega arith) in omega arith
+      begin = let before = sections-before i (omega arith) in omega arith
 
-  pub words-now : roadWords (roadsNow ss roads junctions ends)
-      ≡ gather (roadNowWords roads junctions ends) (tab (length roads / 20) (λ r. r))
+  pub words-now : roadWords (roadsNow ss roads junctions ends) ≡ roadsNowWords roads junctions ends
   unfolding roadWords roadsNow
   words-now = rows-now (length roads / 20) (omega arith)

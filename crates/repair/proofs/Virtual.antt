@@ -13,7 +13,7 @@ use Rattle.model.specs.Lists.{pick, isSome, first, some?, bindO}
 use Rattle.model.specs.Records.{Span, Target}
 use Rattle.model.specs.Repair.{dropAlong, inVirtual, isVirtual, linked, withoutAlong}
 use Rattle.model.specs.Rows.{part, word}
-use Rattle.model.specs.Tables.{bit, isAbsent, kindOf, nameIn, roadIn, roadsIn, spanIn, targetIn, targetOf}
+use Rattle.model.specs.Tables.{bit, isAbsent, kindOf, mapTables, nameIn, roadIn, spanIn, targetIn, targetOf}
 use Rattle.model.specs.Text.{sameIn}
 use Rattle.words.specs.Keys.{hashName, nameHash}
 use Rattle.words.specs.Rows.{any, from, nameAt, span, tab}
@@ -22,7 +22,7 @@ use Rattle.words.proofs.Laws.{any-same, map-tab, tab-same}
 use Rattle.words.proofs.Scans.{right-on, some-tab}
 use Rattle.rules.proofs.Forms.{roads-tab}
 use Rattle.repair.specs.Now.{endNow, junctionAt, roadNow, roadsNow, targetNow}
-use Rattle.repair.specs.Along.{Marked, alongWord, isVirtualOf, virtualRow}
+use Rattle.repair.specs.Along.{Marked, alongWord, isVirtualOf, roadsBegun, virtualRow}
 
 pub only-virtual : (text junctions : List ℕ) (n : Span) (q : ℕ) → isVirtualOf text junctions n q ≡ true
     → nameHash text 5 0 junctions q ≡ hashName text n
@@ -193,21 +193,14 @@ module _ (text roads junctions ends : List ℕ) (n : ℕ) (m : Marked text roads
           }) (roadIn ss (from 20 roads r))) (in-virtual-is text roads junctions ss ps cs r ∙ v))
 
 pub roads-start : (text roads junctions ends : List ℕ) → Marked text roads junctions (length roads / 20) ends
-    → (ss ps cs : List ℕ)
-    → roadsNow ss roads junctions ends
-    ≡ map (withoutAlong (sameIn text) (tab (length junctions / 5) (junctionAt ps cs junctions)))
-    (roadsIn ss roads)
+    → (ss ps cs : List ℕ) → roadsNow ss roads junctions ends ≡ roadsBegun (mapTables text roads ss junctions cs ps)
 unfolding roadsNow
-roads-start text roads junctions ends m ss ps cs =
-    tab-same (length roads / 20) (roadNow ss roads junctions ends)
-    (λ i.
-    withoutAlong (sameIn text) (tab (length junctions / 5) (junctionAt ps cs junctions))
-    (roadIn ss (from 20 roads i)))
-    (λ i l. road-start text roads junctions ends (length roads / 20) m i l ss ps cs)
-    ∙ sym (ap (map (withoutAlong (sameIn text) (tab (length junctions / 5) (junctionAt ps cs junctions))))
-    (roads-tab roads ss)
-    ∙ map-tab (withoutAlong (sameIn text) (tab (length junctions / 5) (junctionAt ps cs junctions)))
-    (length roads / 20) (λ i. roadIn ss (from 20 roads i)))
+roads-start text roads junctions ends marked ss ps cs =
+    let begun = withoutAlong (sameIn text) (tab (length junctions / 5) (junctionAt ps cs junctions)) in
+    tab-same (length roads / 20) (roadNow ss roads junctions ends) (λ i. begun (roadIn ss (from 20 roads i)))
+    (λ i inside. road-start text roads junctions ends (length roads / 20) marked i inside ss ps cs)
+    ∙ sym (ap (map begun) (roads-tab roads ss)
+    ∙ map-tab begun (length roads / 20) (λ i. roadIn ss (from 20 roads i)))
 
 -- one road more is marked
 pub marked-more : (text roads junctions : List ℕ) (i : ℕ) (ends : List ℕ) {ends′ : List ℕ}

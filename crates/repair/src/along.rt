@@ -122,7 +122,8 @@ fn mark_roads(
 {
     let mut r = 0;
     while r < roads.len() / 20 {
-        mark_road(text, roads, junctions, heads, next, ends, RoadId(r as u32));
+        let id = r as u32;
+        mark_road(text, roads, junctions, heads, next, ends, RoadId(id));
         r += 1;
     }
 }

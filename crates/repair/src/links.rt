@@ -84,8 +84,8 @@ fn missing_end(
         return 0;
     }
     let contact = one(at(connections, c * 7 + 4));
-    let s = g - 1;
-    let t = target(roads, junctions, ends, RoadId(s as u32), contact);
+    let id = (g - 1) as u32;
+    let t = target(roads, junctions, ends, RoadId(id), contact);
     let e = back_end(text, t, connections, c);
     vacant_end(roads, junctions, ends, RoadId(r), e)
 }
@@ -117,6 +117,7 @@ fn missing_link(
         return w;
     }
     let r = f - 1;
+    let id = r as u32;
     let e = missing_end(
         text,
         roads,
@@ -125,7 +126,7 @@ fn missing_link(
         heads,
         next,
         ends,
-        RoadId(r as u32),
+        RoadId(id),
         k,
         c,
     );
@@ -134,7 +135,7 @@ fn missing_link(
     }
     let end = e - 1;
     ends[r * 2 + end] = (k + 2) as u32;
-    let row = [3, k as u32, r as u32, end as u32];
+    let row = [3, k as u32, id, end as u32];
     rows::put(warn, w * 4, &row);
     w + 1
 }

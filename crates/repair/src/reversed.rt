@@ -97,8 +97,8 @@ fn back_contact(
     if f == 0 {
         return 0;
     }
-    let r = f - 1;
-    meeting_end(text, roads, junctions, ends, RoadId(r as u32), k)
+    let id = (f - 1) as u32;
+    meeting_end(text, roads, junctions, ends, RoadId(id), k)
 }
 
 // Lays the connections of direct junction k the other way.

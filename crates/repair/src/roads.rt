@@ -57,7 +57,8 @@ pub fn put_roads(roads: &[u32], junctions: &[u32], ends: &[u32], out: &mut [u32]
     let n = roads.len() / 20;
     let mut r = 0;
     while r < n {
-        let row = road_row(roads, junctions, ends, RoadId(r as u32));
+        let id = r as u32;
+        let row = road_row(roads, junctions, ends, RoadId(id));
         rows::put(out, r * 20, &row);
         r += 1;
     }

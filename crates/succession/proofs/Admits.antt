@@ -213,8 +213,9 @@ module _ (t : Tables) (admitted : firstBroken (successionRules t) ≡ none) wher
 
     -- and with the rows that connections and targets name
     module _ {sides ends : List ℕ} (S : Sided text roads connections (length connections / 7) sides)
-        (E : Ended text roads junctions (length roads / 20) ends) (lo : length owner ≡ 16384) (lh : length kheads ≡ 16384) (ln : length knext ≡ 16384)
-        (ls : length sides ≡ 32768) (le : length ends ≡ 32768) where
+        (E : Ended text roads junctions (length roads / 20) ends) (owner-wide : length owner ≡ 16384)
+        (heads-wide : length kheads ≡ 16384) (next-wide : length knext ≡ 16384)
+        (sides-wide : length sides ≡ 32768) (ends-wide : length ends ≡ 32768) where
       abbrev rows : Rows
       rows = rowsOf roads sections junctions connections pairs lanes owner sides ends
 
@@ -243,7 +244,7 @@ module _ (t : Tables) (admitted : firstBroken (successionRules t) ≡ none) wher
             (all-at (length roads / 20) r (λ i. ascends (numbersAt roads sections i)) (sections-good .1) lr);
         connection-parts = ruled .connection-parts;
         pair-parts = ruled .pair-parts;
-        buckets = lh;
+        buckets = heads-wide;
         links = let a = fewer-lanes in omega arith;
         chained = L .keyed;
       }

@@ -42,6 +42,10 @@ two-way-row lanes (suc r) n =
     ∙ ap (λ (k : ℕ). isBoth (directionOf (getD lanes (k * 10 + 5) 0)))
     (let e : suc r - 1 ≡ r = omega arith in e)
 
+-- what `two_way` answers for row l
+pub direction-is : (lanes : List ℕ) (l : ℕ) {b : Bool} → b ≡ twoWayRow lanes (l + 1) → twoWayRow lanes (suc l) ≡ b
+direction-is lanes l answer = ap (twoWayRow lanes) (sym (add-one l)) ∙ sym answer
+
 -- ---- a run made
 module _ {run : List ℕ} (n x : ℕ) (asked : Bool) where
   pub made-put : {new : List ℕ} → asked ≡ true → n ≤ length run → new ≡ written (insert x (take n run)) run
@@ -175,7 +179,8 @@ module _ {p : ℕ → Bool} {finders : List ℕ} {start : ℕ} {run₀ : List �
         (back-ordered p (take k finders) (take start run₀) (rising-ordered (take start run₀) (ready .rising))))
 
     pub turn-end : length finders ≤ k → Made (backInto p finders (take start run₀)) run₀ run n
-    turn-end all = subst (λ (l : List ℕ). Made (backInto p l (take start run₀)) run₀ run n) (take-all k finders all) made
+    turn-end all =
+        subst (λ (l : List ℕ). Made (backInto p l (take start run₀)) run₀ run n) (take-all k finders all) made
 
     module _ (lt : k < length finders) {asked : Bool} (wanted : asked ≡ p (getD finders k 0)) where
       pub turn-room : asked ≡ true → n < length run

@@ -114,7 +114,8 @@ junction-met R j w k n h =
     ∙ joined-quiet (meetingAt R j w k) (endOf (R .junctions) j) n h (λ c a b. after R j w k c a)
 
 -- ---- the walk: the connections before n - at are taken in, and at is the next of the bucket
-pub record Walk (both : Bool) (start : ℕ) (R : Rows) (n j w k : ℕ) (old : List ℕ) (at : ℕ) (run : List ℕ) (m : ℕ) : Type 0 where
+pub record Walk (both : Bool) (start : ℕ) (R : Rows) (n j w k : ℕ) (old : List ℕ) (at : ℕ) (run : List ℕ)
+    (m : ℕ) : Type 0 where
   pub below : at ≤ n
   pub bucket : (r : ℕ) → at ≡ suc r → connectionHash (R .junctions) (R .sides) n r ≡ meetingHash (j + 1) w
   pub took : Took both start (joined (n - at) (meetingAt R j w k)) old run m

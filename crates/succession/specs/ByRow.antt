@@ -104,7 +104,8 @@ unfoldable pub crossByRow : Rows → ℕ → ℕ → ℕ → ℕ → List Entry
 crossByRow R l at to link = cond (eqb (getD (R .roads) at 0) 1)
     (cond (eqb (getD (R .roads) (at + 1) 0) 1)
     (junctionAtRow R to (getD (R .owner) l 0) (getD (R .lanes) (l * 10 + 4) 0))
-    (cond (eqb (getD (R .lanes) link 0) 1) (lookupByRow R to (flag (getD (R .roads) (at + 4) 0)) (getD (R .lanes) (link + 1) 0)) []))
+    (cond (eqb (getD (R .lanes) link 0) 1)
+    (lookupByRow R to (flag (getD (R .roads) (at + 4) 0)) (getD (R .lanes) (link + 1) 0)) []))
     []
 
 -- the lane in another section of lane l's road

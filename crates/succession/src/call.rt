@@ -23,9 +23,8 @@ ghost use Rattle.words.specs.Chain.{Chained};
 ghost use Rattle.words.specs.Keys.{idBefore, nameHash};
 ghost use Rattle.rules.specs.ByRow.{Linked};
 ghost use Rattle.tables.specs.Verdicts.{refusalOf};
-ghost use Rattle.succession.specs.Runs.{Rising};
-ghost use Rattle.succession.specs.Named.{Ended, Sided};
-ghost use Rattle.succession.specs.Packs.{AsMany, ById, Filled, listersOf, startOf};
+ghost use Rattle.succession.specs.Named.{Ended, Lent, Sided};
+ghost use Rattle.succession.specs.Packs.{AllRise, AsMany, ById, Filled, listersOf, startOf};
 ghost use Rattle.succession.specs.Finished.{bothLong, finishedAt};
 ghost use Rattle.succession.specs.Answers.{answerOf, contentOf, onwardAt, outputs, ownList};
 
@@ -40,9 +39,10 @@ fn link_rows(
     sides: &mut [u32],
     ends: &mut [u32],
 )
-    requires { ⌜ (length (now roads) / 20 ≤ 16384) × (length (now heads) ≡ 16384) × (length (now next) ≡ 16384)
-        × (length (now junctions) / 5 ≤ 16384) × (length (now connections) / 7 ≤ 16384)
-        × (length (now sides) ≡ 32768) × (length (now ends) ≡ 32768) ⌝ }
+    requires { ⌜ (length (now roads) / 20 ≤ 16384) × (length (now junctions) / 5 ≤ 16384)
+        × (length (now connections) / 7 ≤ 16384) ⌝ }
+    requires { ⌜ (length (now heads) ≡ 16384) × (length (now next) ≡ 16384) ⌝ }
+    requires { ⌜ (length (now sides) ≡ 32768) × (length (now ends) ≡ 32768) ⌝ }
     requires { ⌜ Chained (nameHash (now text) 20 0 (now roads)) (length (now roads) / 20) (now heads) (now next) ⌝ }
     ensures { λ _. ⌜ Sided (now (text .entry)) (now (roads .entry)) (now (connections .entry))
         (length (now (connections .entry)) / 7) (now (sides .exit))
@@ -78,9 +78,7 @@ fn find_own(
     requires { λ t. ⌜ laneTables (now text) (now roads) (now sections) (now junctions) (now connections) (now pairs) (now lanes) ≡ t ⌝ }
     requires { λ t. ⌜ firstBroken (successionRules t) ≡ none ⌝ }
     requires { λ _. ⌜ Linked (now text) (now roads) (now lanes) (now heads) (now next) (now owner) (now kheads) (now knext) ⌝ }
-    requires { λ _. ⌜ (length (now heads) ≡ 16384) × (length (now next) ≡ 16384) × (length (now owner) ≡ 16384)
-        × (length (now kheads) ≡ 16384) × (length (now knext) ≡ 16384)
-        × (length (now offsets) ≡ 16385) × (length (now own) ≡ 65536) ⌝ }
+    requires { λ _. ⌜ Lent (now heads) (now next) (now owner) (now kheads) (now knext) (now offsets) (now own) ⌝ }
     ensures { λ t _. ⌜ Filled (length (t .lanes) / 10) (ownList t)
         (now (offsets .entry)) (now (own .entry)) (now (offsets .exit)) (now (own .exit)) ⌝ }
 {
@@ -194,7 +192,7 @@ fn put_lists(
     ghost { ℕ → List ℕ }
     requires { λ onward. ⌜ finishedAt (now lanes) (now starts) (now ids) (now fstarts) (now fids) ≡ onward ⌝ }
     requires { λ _. ⌜ ById (now lanes) (now heads) (now next) ⌝ }
-    requires { λ _. ⌜ ((l : ℕ) → l < length (now lanes) / 10 → Rising (listPart (now starts) (now ids) l)) ⌝ }
+    requires { λ _. ⌜ AllRise (length (now lanes) / 10) (now starts) (now ids) ⌝ }
     requires { λ _. ⌜ total (length (now lanes) / 10) (bothLong (now starts) (now ids) (now fstarts) (now fids)) ≤ 131072 ⌝ }
     requires { λ onward. ⌜ AsMany (now lanes) onward ⌝ }
     ensures { λ onward q. ⌜ outcome (answerOf q) (outputs (now («successor_offsets» .exit)) (now («successor_ids» .exit))
@@ -253,7 +251,7 @@ fn write_lists(
     ghost { ℕ → List ℕ }
     requires { λ onward. ⌜ onwardAt (now lanes) (now starts) (now ids) ≡ onward ⌝ }
     requires { λ _. ⌜ (length (now lanes) / 10 ≤ 16384) × (any (length (now lanes) / 10) (idBefore (now lanes)) ≡ false) ⌝ }
-    requires { λ _. ⌜ ((l : ℕ) → l < length (now lanes) / 10 → Rising (listPart (now starts) (now ids) l)) ⌝ }
+    requires { λ _. ⌜ AllRise (length (now lanes) / 10) (now starts) (now ids) ⌝ }
     requires { λ _. ⌜ startOf (listPart (now starts) (now ids)) (length (now lanes) / 10) ≤ 65536 ⌝ }
     requires { λ onward. ⌜ AsMany (now lanes) onward ⌝ }
     ensures { λ onward q. ⌜ outcome (answerOf q) (outputs (now («successor_offsets» .exit)) (now («successor_ids» .exit))

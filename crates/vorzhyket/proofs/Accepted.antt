@@ -1,6 +1,6 @@
 -- AN ACCEPTED CALL breaks no rule and answers with its content's rows; and 0 IS RETURNED JUST WHERE A CALL WAS
 -- ACCEPTED, since no rule has the number 0.
-use mathlib.Core.Path.{_≡_, refl, ap, ap₂, _∙_}
+use mathlib.Core.Path.{_≡_, refl, ap, _∙_}
 use mathlib.Core.Bool.{Bool, true, false, _&&_, cond}
 use mathlib.Core.Option.{Option, none, some}
 use mathlib.Core.List.{List, [], _∷_, _++_}
@@ -9,7 +9,7 @@ use native.Mathlib.Omega.{arith}
 use lib.Dec.{ltb}
 use lib.ListN.{length}
 use borrow.Author.Tests.{ltb-true}
-use Rattle.model.specs.Calls.{Answer, ListOutputs, RepairOutputs, ReversalOutputs, Writing, called, gapCall, gapContent}
+use Rattle.model.specs.Calls.{ListOutputs, RepairOutputs, ReversalOutputs, Writing, called, gapCall, gapContent}
 use Rattle.model.specs.Calls.{gapRules, gapWidth, laneRules, listContent, listLengths, listWriting, longEnough}
 use Rattle.model.specs.Calls.{markRules, repairCall, repairContent, repairCounts, repairRules, repairWriting, reversalCall}
 use Rattle.model.specs.Calls.{reversalContent, reversalCounts, reversalRules, reversalWriting, rulesTo5, settled}

@@ -1,6 +1,6 @@
 -- From a call's answer to what the exported function leaves. A call answers with a case of an enum Q, which means an
 -- Answer.
-use mathlib.Core.Path.{_≡_, refl, sym, ap, _∙_, subst}
+use mathlib.Core.Path.{_≡_, sym, ap, _∙_, subst}
 use mathlib.Core.List.{List}
 use mathlib.Core.Option.{none}
 use Prim.Native.Nat.{ℕ}

@@ -1,6 +1,6 @@
 -- `drop_all` puts warning 1 for each connection of a part. Before turn `k` those of the first `k` are put.
 use borrow.Author.Needs.{needs}
-use Prim.Native.Nat.{ℕ, _+_, _-_, _≤_}
+use Prim.Native.Nat.{_+_, _-_, _≤_}
 use mathlib.Core.Path.{_≡_}
 use native.Mathlib.Omega.{arith}
 use Rattle.model.specs.Lists.{gather}

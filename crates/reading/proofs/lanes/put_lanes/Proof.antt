@@ -4,7 +4,7 @@ use lib.ListN.{length}
 use mathlib.Core.List.{List}
 use mathlib.Core.Path.{_≡_, refl, sym, ap, _∙_}
 use native.Mathlib.Omega.{arith}
-use Prim.Native.Nat.{ℕ, _+_, _*_, _-_, _/_, _≤_, _<_}
+use Prim.Native.Nat.{ℕ, _-_, _/_, _≤_}
 use Rattle.model.specs.Lists.{gather}
 use Rattle.model.specs.Reading.{partRows}
 use Rattle.model.specs.Rows.{written}

@@ -1,5 +1,5 @@
 -- `read_links` reads the lane links of a part. Before turn `k` the first `k` of them are read.
-use Prim.Native.Nat.{ℕ, _+_, _-_, _≤_}
+use Prim.Native.Nat.{_+_, _-_, _≤_}
 use mathlib.Core.Path.{_≡_}
 use native.Mathlib.Omega.{arith}
 use Rattle.model.specs.Lists.{gather}

@@ -1,3 +1,4 @@
+-- `in_virtual` reads the name, and looks for a virtual junction of that name.
 use Rattle.repair.specs.Along.{virtualRow, isVirtualOf}
 use Rattle.words.specs.Rows.{any, span}
 use Rattle.model.specs.Tables.{isAbsent}

@@ -1,3 +1,4 @@
+-- `is_virtual` tests the kind and the name.
 use Rattle.repair.specs.Along.{isVirtualOf}
 use Rattle.rules.proofs.Leaves.{both-is}
 use lib.Dec.{leb}
@@ -31,10 +32,10 @@ both-requires c κs = search needs
 returns : tie.Need-returns
 unfolding isVirtualOf
 returns c =
-    let after-named : tie.After-named = search in
-    let after-index-at : tie.After-index-at = search in
-    both-is (c .both .ensures) (ap (λ (k : ℕ). leb 2 k) (after-index-at .index-at .ensures .0))
-    (after-named .named .ensures)
+    let compared : tie.After-named = search in
+    let kind : tie.After-index-at = search in
+    both-is (c .both .ensures) (ap (λ (k : ℕ). leb 2 k) (kind .index-at .ensures .0))
+    (compared .named .ensures)
 
 pub is-virtual-spec : {M : Type 1} → statement M
 is-virtual-spec =

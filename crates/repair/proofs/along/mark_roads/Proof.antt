@@ -51,8 +51,8 @@ loop-holds c =
       marked = record { at = λ k lt b. absurd (not-suc-le-zero lt) };
     }
 
-cast-t14 : tie.Need-cast-t14 Inv-loop μ-loop
-cast-t14 c = let turn : Turn = search in omega (arith, row-few turn)
+cast-id : tie.Need-cast-id Inv-loop μ-loop
+cast-id c = let turn : Turn = search in omega (arith, row-few turn)
 
 mark-road-requires : tie.Need-mark-road-requires Inv-loop μ-loop
 mark-road-requires c κs =
@@ -98,7 +98,7 @@ mark-roads-spec =
     Inv-loop
     μ-loop
     loop-holds
-    cast-t14
+    cast-id
     mark-road-requires
     add-r
     loop-less

@@ -1,7 +1,8 @@
+-- `without_along` links the junctions by name, and marks the ends of the roads.
 use Rattle.repair.proofs.Virtual.{roads-start}
 use Rattle.words.proofs.Chains.{fresh}
 use Rattle.words.proofs.KeyLaws.{rows-in}
-use lib.ListN.{length, length-replicate}
+use lib.ListN.{length-replicate}
 use Prim.Native.Nat.{ℕ, _-_}
 use native.Mathlib.Omega.{arith}
 use mathlib.Core.Path.{_∙_}
@@ -17,15 +18,7 @@ slice-aggregate-link-names-2 c = search needs
 
 link-names-requires : tie.Need-link-names-requires
 link-names-requires c κs =
-    let start : tie.Start = search in (
-      (
-        omega arith,
-        omega arith,
-        rows-in (length (start .args .junctions .now)) 5,
-        start .pre .1,
-      ),
-      fresh,
-    )
+    let start : tie.Start = search in ((omega arith, omega arith, rows-in _ 5, start .pre .1), fresh)
 
 slice-aggregate-mark-roads : tie.Need-slice-aggregate-mark-roads
 slice-aggregate-mark-roads c = search needs
@@ -35,16 +28,16 @@ slice-aggregate-mark-roads-2 c = search needs
 
 mark-roads-requires : tie.Need-mark-roads-requires
 mark-roads-requires c κs =
-    let after-link-names : tie.After-link-names = search in
-    let start : tie.Start = search in (
+    let linked : tie.After-link-names = search in
+    let start : tie.Start = search in
+    let kept = linked .link-names .kept .1 .1 .1 .1 .1 in (
       start .pre .0,
       start .pre .2,
       record {
         few = start .pre .1;
-        heads-long = after-link-names .link-names .kept .1 .1 .1 .1 .1 .0 ∙ length-replicate {A = ℕ} 16384 0;
-        next-long = after-link-names .link-names .kept .1 .1 .1 .1 .1 .1 .0
-            ∙ length-replicate {A = ℕ} 16384 0;
-        chained = after-link-names .link-names .ensures .1;
+        heads-long = kept .0 ∙ length-replicate {A = ℕ} 16384 0;
+        next-long = kept .1 .0 ∙ length-replicate {A = ℕ} 16384 0;
+        chained = linked .link-names .ensures .1;
       },
     )
 
@@ -53,11 +46,9 @@ same-length c = search needs
 
 returns : tie.Need-returns
 returns c =
-    let after-mark-roads : tie.After-mark-roads = search in
+    let marked : tie.After-mark-roads = search in
     let start : tie.Start = search in
-    λ ss cs ps.
-    roads-start (start .args .text .now) (start .args .roads .now) (start .args .junctions .now) _
-    (after-mark-roads .mark-roads .ensures) ss ps cs
+    λ ss cs ps. roads-start _ _ (start .args .junctions .now) _ (marked .mark-roads .ensures) ss ps cs
 
 pub without-along-spec : {M : Type 1} → statement M
 without-along-spec =

@@ -1,3 +1,4 @@
+-- `copy_part` copies the part from 0 on.
 use Rattle.model.specs.Rows.{written}
 use lib.ListN.{take}
 use Prim.Native.Nat.{ℕ, _-_}
@@ -24,11 +25,11 @@ same-length c = search needs
 
 returns : tie.Need-returns
 returns c =
-    let after-copy : tie.After-copy = search in
+    let copied : tie.After-copy = search in
     let start : tie.Start = search in
     let n = start .args .n in
     let z : n - 0 ≡ n = omega arith in
-    after-copy .copy .ensures
+    copied .copy .ensures
     ∙ ap (λ (k : ℕ). written (take k (start .args .words .now)) (start .args .out .now)) z
 
 pub copy-part-spec : {M : Type 1} → statement M

@@ -1,3 +1,4 @@
+-- `fit` tests the five from the last to the first.
 use lib.Dec.{leb}
 use mathlib.Core.Bool.{_&&_}
 use mathlib.Core.Path.{ap, _∙_}
@@ -22,19 +23,19 @@ both-requires-5 c κs = search needs
 
 returns : tie.Need-returns
 returns c =
-    let after-both4 : tie.After-both4 = search in
-    let after-both3 : tie.After-both3 = search in
-    let after-both2 : tie.After-both2 = search in
-    let after-both : tie.After-both = search in
+    let from-junctions : tie.After-both4 = search in
+    let from-connections : tie.After-both3 = search in
+    let from-pairs : tie.After-both2 = search in
+    let from-warnings : tie.After-both = search in
     let start : tie.Start = search in
     c .both5 .ensures
     ∙ ap (λ x. leb (start .args .a) (start .args .roads) && x)
-    (after-both4 .both4 .ensures
+    (from-junctions .both4 .ensures
     ∙ ap (λ x. leb (start .args .b) (start .args .junctions) && x)
-    (after-both3 .both3 .ensures
+    (from-connections .both3 .ensures
     ∙ ap (λ x. leb (start .args .c) (start .args .connections) && x)
-    (after-both2 .both2 .ensures
-    ∙ ap (λ x. leb (start .args .d) (start .args .pairs) && x) (after-both .both .ensures))))
+    (from-pairs .both2 .ensures
+    ∙ ap (λ x. leb (start .args .d) (start .args .pairs) && x) (from-warnings .both .ensures))))
 
 pub fit-spec : {M : Type 1} → statement M
 fit-spec =

@@ -1,3 +1,4 @@
+-- `pair_row` is the pair as read, or the other way.
 use Rattle.repair.proofs.Lays.{pair-plain, pair-turned}
 use mathlib.Core.List.{[], _∷_}
 use Prim.Native.Nat.{ℕ, _-_}
@@ -23,18 +24,18 @@ at-requires-2 c κs = search needs
 
 returns : tie.Need-returns
 returns c =
-    let after-at2 : tie.After-at2 = search in
-    let after-at : tie.After-at = search in
+    let to : tie.After-at2 = search in
+    let from : tie.After-at = search in
     let start : tie.Start = search in
-    ap₂ (λ (x y : ℕ). x ∷ y ∷ []) (after-at .at .ensures) (after-at2 .at2 .ensures)
+    ap₂ (λ (x y : ℕ). x ∷ y ∷ []) (from .at .ensures) (to .at2 .ensures)
     ∙ pair-plain (start .args .pairs .now) (start .args .q) (start .args .b) (c .if1 .taken)
 
 returns-2 : tie.Need-returns-2
 returns-2 c =
-    let after-at2 : tie.After-at2 = search in
-    let after-at : tie.After-at = search in
+    let to : tie.After-at2 = search in
+    let from : tie.After-at = search in
     let start : tie.Start = search in
-    ap₂ (λ (x y : ℕ). y ∷ x ∷ []) (after-at .at .ensures) (after-at2 .at2 .ensures)
+    ap₂ (λ (x y : ℕ). y ∷ x ∷ []) (from .at .ensures) (to .at2 .ensures)
     ∙ pair-turned (start .args .pairs .now) (start .args .q) (start .args .b) (c .if1 .left)
 
 pub pair-row-spec : {M : Type 1} → statement M

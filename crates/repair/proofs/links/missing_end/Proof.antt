@@ -120,11 +120,11 @@ at-requires c κs = search needs
 one-requires : tie.Need-one-requires
 one-requires c κs = search needs
 
-sub-s : tie.Need-sub-s
-sub-s c = search needs
+sub-id : tie.Need-sub-id
+sub-id c = search needs
 
-cast-t22 : tie.Need-cast-t22
-cast-t22 c = let known : tie.Else2 = search in omega (arith, row-few known)
+cast-id : tie.Need-cast-id
+cast-id c = let known : tie.Else2 = search in omega (arith, row-few known)
 
 target-requires : tie.Need-target-requires
 target-requires c κs =
@@ -174,8 +174,8 @@ missing-end-spec =
     add-at
     at-requires
     one-requires
-    sub-s
-    cast-t22
+    sub-id
+    cast-id
     target-requires
     back-end-requires
     vacant-end-requires

@@ -92,8 +92,8 @@ returns c =
 sub-r : tie.Need-sub-r
 sub-r c = omega (arith, c .if1 .left)
 
-cast-ends : tie.Need-cast-ends
-cast-ends c = let known : tie.Else1 = search in omega (arith, row-few known)
+cast-id : tie.Need-cast-id
+cast-id c = let known : tie.Else1 = search in omega (arith, row-few known)
 
 missing-end-requires : tie.Need-missing-end-requires
 missing-end-requires c κs =
@@ -117,8 +117,8 @@ sub-end c = omega (arith, c .if2 .left)
 add-ends : tie.Need-add-ends
 add-ends c = let there : tie.Else2 = search in omega (arith, given there .pre .0 .0)
 
-cast-ends-2 : tie.Need-cast-ends-2
-cast-ends-2 c = let there : tie.Else2 = search in omega (arith, given there .pre .0 .0)
+cast-ends : tie.Need-cast-ends
+cast-ends c = let there : tie.Else2 = search in omega (arith, given there .pre .0 .0)
 
 mul-ends : tie.Need-mul-ends
 mul-ends c = let there : tie.Else2 = search in omega (arith, row-few (known (asked there)))
@@ -134,11 +134,8 @@ slice-write-ends c =
     let there : tie.Else2 = search in
     omega (arith, row-few (known (asked there)), end-small there, given there .pre .1 .0)
 
-cast-t22 : tie.Need-cast-t22
-cast-t22 c = let there : tie.Else2 = search in omega (arith, given there .pre .0 .0)
-
-cast-t27 : tie.Need-cast-t27
-cast-t27 c = let there : tie.Else2 = search in omega (arith, row-few (known (asked there)))
+cast-t24 : tie.Need-cast-t24
+cast-t24 c = let there : tie.Else2 = search in omega (arith, given there .pre .0 .0)
 
 cast-t28 : tie.Need-cast-t28
 cast-t28 c = let there : tie.Else2 = search in omega (arith, end-small there)
@@ -184,19 +181,18 @@ missing-link-spec =
     road-of-requires
     returns
     sub-r
-    cast-ends
+    cast-id
     missing-end-requires
     same-length
     returns-2
     sub-end
     add-ends
-    cast-ends-2
+    cast-ends
     mul-ends
     add-ends-2
     mul-ends-2
     slice-write-ends
-    cast-t22
-    cast-t27
+    cast-t24
     cast-t28
     mul-put
     slice-aggregate-put

@@ -93,11 +93,11 @@ returns-2 c =
           (incoming found ss ps ∙ ap (foundRoad road) (c .if2 .taken)),
     )
 
-sub-r : tie.Need-sub-r
-sub-r c = search needs
+sub-id : tie.Need-sub-id
+sub-id c = search needs
 
-cast-t20 : tie.Need-cast-t20
-cast-t20 c = let known : tie.Else2 = search in omega (arith, row-few known)
+cast-id : tie.Need-cast-id
+cast-id c = let known : tie.Else2 = search in omega (arith, row-few known)
 
 meeting-end-requires : tie.Need-meeting-end-requires
 meeting-end-requires c κs =
@@ -128,7 +128,7 @@ back-contact-spec =
     add-road-of
     road-of-requires
     returns-2
-    sub-r
-    cast-t20
+    sub-id
+    cast-id
     meeting-end-requires
     returns-3)

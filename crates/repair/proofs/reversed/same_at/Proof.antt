@@ -1,3 +1,4 @@
+-- `same_at` reads both names.
 use Rattle.words.specs.Rows.{span}
 use Rattle.model.specs.Text.{sameIn}
 use Prim.Native.Nat.{_-_}
@@ -29,15 +30,15 @@ alike-requires c κs = search needs
 
 returns : tie.Need-returns
 returns c =
-    let after-at4 : tie.After-at4 = search in
-    let after-at3 : tie.After-at3 = search in
-    let after-at2 : tie.After-at2 = search in
-    let after-at : tie.After-at = search in
+    let size-there : tie.After-at4 = search in
+    let there : tie.After-at3 = search in
+    let size-here : tie.After-at2 = search in
+    let here : tie.After-at = search in
     let start : tie.Start = search in
     c .alike .ensures
     ∙ (λ i.
-    sameIn (start .args .text .now) (span (after-at .at .ensures i) (after-at2 .at2 .ensures i))
-    (span (after-at3 .at3 .ensures i) (after-at4 .at4 .ensures i)))
+    sameIn (start .args .text .now) (span (here .at .ensures i) (size-here .at2 .ensures i))
+    (span (there .at3 .ensures i) (size-there .at4 .ensures i)))
 
 pub same-at-spec : {M : Type 1} → statement M
 same-at-spec =

@@ -1,3 +1,4 @@
+-- `turned` tests the part, and both names.
 use Rattle.rules.proofs.Leaves.{both-is}
 use Rattle.repair.specs.Laying.{turnedAt}
 use borrow.Author.Needs.{needs}
@@ -46,13 +47,13 @@ both-requires-3 c κs = search needs
 returns : tie.Need-returns
 unfolding turnedAt
 returns c =
-    let after-same-at2 : tie.After-same-at2 = search in
-    let after-both2 : tie.After-both2 = search in
-    let after-same-at : tie.After-same-at = search in
-    let after-both : tie.After-both = search in
+    let same-connecting : tie.After-same-at2 = search in
+    let first-name : tie.After-both2 = search in
+    let same-incoming : tie.After-same-at = search in
+    let inside : tie.After-both = search in
     both-is (c .both3 .ensures)
-    (both-is (after-both2 .both2 .ensures) (after-both .both .ensures) (after-same-at .same-at .ensures))
-    (after-same-at2 .same-at2 .ensures)
+    (both-is (first-name .both2 .ensures) (inside .both .ensures) (same-incoming .same-at .ensures))
+    (same-connecting .same-at2 .ensures)
 
 pub turned-spec : {M : Type 1} → statement M
 turned-spec =

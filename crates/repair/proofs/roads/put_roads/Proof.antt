@@ -61,8 +61,8 @@ loop-holds : tie.Need-loop-holds Inv-loop μ-loop
 unfolding tab
 loop-holds c = record { turns = omega arith; long = refl; put = sym (written-none _) }
 
-cast-t11 : tie.Need-cast-t11 Inv-loop μ-loop
-cast-t11 c = let turn : Turn = search in omega (arith, row-few turn)
+cast-id : tie.Need-cast-id Inv-loop μ-loop
+cast-id c = let turn : Turn = search in omega (arith, row-few turn)
 
 road-row-requires : tie.Need-road-row-requires Inv-loop μ-loop
 road-row-requires c κs = let turn : Turn = search in row-few turn
@@ -122,7 +122,7 @@ put-roads-spec =
     Inv-loop
     μ-loop
     loop-holds
-    cast-t11
+    cast-id
     road-row-requires
     mul-put
     slice-aggregate-put

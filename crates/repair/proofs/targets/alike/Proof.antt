@@ -16,9 +16,9 @@ same-bytes-requires c κs = search needs
 returns : tie.Need-returns
 unfolding sameIn
 returns c =
-    let after-name2 : tie.After-name2 = search in
-    let after-name : tie.After-name = search in
-    c .same-bytes .ensures ∙ ap₂ equalBytes (after-name .name .ensures) (after-name2 .name2 .ensures)
+    let there : tie.After-name2 = search in
+    let here : tie.After-name = search in
+    c .same-bytes .ensures ∙ ap₂ equalBytes (here .name .ensures) (there .name2 .ensures)
 
 pub alike-spec : {M : Type 1} → statement M
 alike-spec = tie.close (tie.spec name-requires name-requires-2 same-bytes-requires returns)

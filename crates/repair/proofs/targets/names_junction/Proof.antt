@@ -1,3 +1,4 @@
+-- `names_junction` tests the target's words one by one: present, of kind junction, of that name.
 use Rattle.repair.proofs.Ends.{names-of}
 use Rattle.rules.proofs.Leaves.{both-is}
 use Rattle.words.specs.Rows.{nameAt, span}

@@ -1,3 +1,4 @@
+-- `road_of` reads the name, and finds its row by the roads' links.
 use Rattle.words.proofs.KeyLaws.{rows-in}
 use Rattle.words.proofs.Chains.{last-le}
 use Rattle.words.specs.Keys.{bears}
@@ -22,7 +23,7 @@ index-at-requires-2 c κs = search needs
 
 find-name-requires : tie.Need-find-name-requires
 find-name-requires c κs =
-    let after-index-at : tie.After-index-at = search in
+    let first : tie.After-index-at = search in
     let start : tie.Start = search in (
       (
         omega arith,
@@ -31,7 +32,7 @@ find-name-requires c κs =
         start .pre .1 .few,
         start .pre .1 .heads-long,
         omega (arith, start .pre .1 .few, start .pre .1 .next-long),
-        after-index-at .index-at .ensures .1,
+        first .index-at .ensures .1,
         c .index-at2 .ensures .1,
       ),
       start .pre .1 .chained,
@@ -40,14 +41,14 @@ find-name-requires c κs =
 returns : tie.Need-returns
 unfolding roadRowOf
 returns c =
-    let after-index-at2 : tie.After-index-at2 = search in
-    let after-index-at : tie.After-index-at = search in
+    let size : tie.After-index-at2 = search in
+    let first : tie.After-index-at = search in
     let start : tie.Start = search in
     let roads = start .args .roads .now in let text = start .args .text .now in
     let n = length roads / 20 in
     let e = c .find-name .ensures
     ∙ ap₂ (λ (a b : ℕ). roadRowOf text roads (span a b))
-    (after-index-at .index-at .ensures .0) (after-index-at2 .index-at2 .ensures .0) in (
+    (first .index-at .ensures .0) (size .index-at2 .ensures .0) in (
       e,
       let le = last-le n (bears text 20 0 roads (nameFrom (start .args .ws .now) (start .args .k))) in
           omega (arith, e, le),

@@ -35,8 +35,8 @@ link-rows-requires c κs =
     let lent = start .pre .1 .1 in
     let few = fewer t admitted in
     let new = length-replicate {A = ℕ} 32768 0 in (
-      (few .few-roads, lent .0, lent .1, fewer-junctions t admitted, few .few-connections, new, new),
-      start .pre .1 .0 .named,
+      (few .few-roads, fewer-junctions t admitted, few .few-connections),
+      ((lent .heads-long, lent .next-long), ((new, new), start .pre .1 .0 .named)),
     )
 
 -- ---- once names are rows
@@ -73,7 +73,7 @@ link-connections-requires c κs =
     let admitted = start .pre .0 in
     let lent = start .pre .1 .1 in
     let few = fewer t admitted in (
-      (few .few-connections, fewer-junctions t admitted, sides-long named, lent .0, lent .1),
+      (few .few-connections, fewer-junctions t admitted, sides-long named, lent .heads-long, lent .next-long),
       parts-good t admitted .0,
     )
 
@@ -94,15 +94,16 @@ own-lists-requires c κs =
     let lent = start .pre .1 .1 in
     let rows = named .link-rows .ensures in
     let fit =
-    exits-fit t admitted linked (rows .0) (rows .1) (lent .2) (lent .3) (lent .4) (sides-long named)
-    (ends-long named) in (
-      sound t admitted linked (rows .0) (rows .1) (lent .2) (lent .3) (lent .4) (sides-long named) (ends-long named),
+    exits-fit t admitted linked (rows .0) (rows .1) (lent .owner-long) (lent .key-heads-long) (lent .key-next-long)
+    (sides-long named) (ends-long named) in (
+      sound t admitted linked (rows .0) (rows .1) (lent .owner-long) (lent .key-heads-long) (lent .key-next-long)
+          (sides-long named) (ends-long named),
       (
         chained .link-connections .ensures,
         (
-          omega (arith, lent .5, fewer-lanes t admitted),
-          omega (arith, lent .6),
-          omega (arith, lent .6, fit),
+          omega (arith, lent .offsets-long, fewer-lanes t admitted),
+          omega (arith, lent .own-long),
+          omega (arith, lent .own-long, fit),
         ),
       ),
     )
@@ -133,8 +134,8 @@ returns c =
     let lent = start .pre .1 .1 in
     let rows = rows-named .link-rows .ensures in
     let own =
-    own-is t (start .pre .0) (start .pre .1 .0) (rows .0) (rows .1) (lent .2) (lent .3) (lent .4)
-    (sides-long rows-named) (ends-long rows-named) in
+    own-is t (start .pre .0) (start .pre .1 .0) (rows .0) (rows .1) (lent .owner-long) (lent .key-heads-long)
+    (lent .key-next-long) (sides-long rows-named) (ends-long rows-named) in
     filled-same (successorsByRow (walk rows-named)) (ownList t) (length (t .lanes) / 10) own _ _ _ _
     (found .own-lists .ensures)
 

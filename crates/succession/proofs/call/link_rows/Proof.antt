@@ -11,7 +11,7 @@ use Rattle.succession.proofs.call.link_rows.Tie as tie
 
 module _ (start : tie.Start) where
   chains-long : length (start .args .roads .now) / 20 ≤ length (start .args .next .now)
-  chains-long = omega (arith, start .pre .0 .0, start .pre .0 .2)
+  chains-long = omega (arith, start .pre .0 .0, start .pre .1 .0 .1)
 
 slice-aggregate-link-names : tie.Need-slice-aggregate-link-names
 slice-aggregate-link-names c = search needs
@@ -26,7 +26,7 @@ link-names-requires c κs =
         omega arith,
         omega arith,
         rows-in (length (start .args .junctions .now)) 5,
-        start .pre .0 .3,
+        start .pre .0 .1,
       ),
       fresh,
     )
@@ -34,8 +34,9 @@ link-names-requires c κs =
 link-sides-requires : tie.Need-link-sides-requires
 link-sides-requires c κs =
     let start : tie.Start = search in
-    let lent = start .pre .0 in
-    ((lent .0, lent .1, chains-long start, lent .4, lent .5), start .pre .1)
+    let few = start .pre .0 in
+    let outs = start .pre .1 .1 in
+    ((few .0, start .pre .1 .0 .0, chains-long start, few .2, outs .0 .0), outs .1)
 
 slice-aggregate-link-ends : tie.Need-slice-aggregate-link-ends
 slice-aggregate-link-ends c = search needs
@@ -47,14 +48,15 @@ link-ends-requires : tie.Need-link-ends-requires
 link-ends-requires c κs =
     let linked : tie.After-link-names = search in
     let start : tie.Start = search in
-    let lent = start .pre .0 in
+    let few = start .pre .0 in
+    let outs = start .pre .1 .1 in
     let kept = linked .link-names .kept .1 .1 .1 .1 .1 in
     let new = length-replicate {A = ℕ} 16384 0 in (
-      (lent .0, lent .1, chains-long start, lent .6),
+      (few .0, start .pre .1 .0 .0, chains-long start, outs .0 .1),
       (
-        start .pre .1,
+        outs .1,
         (
-          (lent .3, kept .0 ∙ new, omega (arith, lent .3, kept .1 .0, new)),
+          (few .1, kept .0 ∙ new, omega (arith, few .1, kept .1 .0, new)),
           linked .link-names .ensures .1,
         ),
       ),

@@ -78,19 +78,19 @@ find-own-requires c κs =
     let verdict = judged past .succession-verdict in
     let kept = verdict .kept .1 .1 .1 .1 .1 .1 .1 in
     let new = length-replicate {A = ℕ} 16384 0 in
-    let lent = start (judged past) .pre in (
+    let outs = start (judged past) .pre in (
       sym (verdict .ensures .0) ∙ unrefused past,
       (
         verdict .ensures .1 (unrefused past),
-        (
-          kept .0 ∙ new,
-          kept .1 .0 ∙ new,
-          kept .1 .1 .0 ∙ new,
-          kept .1 .1 .1 .0 ∙ new,
-          kept .1 .1 .1 .1 .0 ∙ new,
-          lent .0,
-          lent .1,
-        ),
+        record {
+          heads-long = kept .0 ∙ new;
+          next-long = kept .1 .0 ∙ new;
+          owner-long = kept .1 .1 .0 ∙ new;
+          key-heads-long = kept .1 .1 .1 .0 ∙ new;
+          key-next-long = kept .1 .1 .1 .1 .0 ∙ new;
+          offsets-long = outs .0;
+          own-long = outs .1;
+        },
       ),
     )
 
