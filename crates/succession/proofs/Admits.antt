@@ -195,12 +195,12 @@ module _ (t : Tables) (admitted : firstBroken (successionRules t) ≡ none) wher
 
   -- with what the checks left linked
   module _ {heads next owner kheads knext : List ℕ}
-      (L : Linked text roads lanes heads next owner kheads knext) where
+      (linked : Linked text roads lanes heads next owner kheads knext) where
     keys-single : any (length lanes / 10) (keyBefore lanes owner) ≡ false
     unfolding successionRules rulesTo5 laneRules
     keys-single =
         not-true (any (length lanes / 10) (keyBefore lanes owner))
-        (sym (keys-once text roads sections lanes owner lanes-known (L .owned)) ∙ rules .1 .1 .1 .1 .1 .1 .1 .0)
+        (sym (keys-once text roads sections lanes owner lanes-known (linked .owned)) ∙ rules .1 .1 .1 .1 .1 .1 .1 .0)
 
     pub ruled : Ruled text roads sections junctions connections pairs lanes owner
     ruled = record {
@@ -212,15 +212,15 @@ module _ (t : Tables) (admitted : firstBroken (successionRules t) ≡ none) wher
     }
 
     -- and with the rows that connections and targets name
-    module _ {sides ends : List ℕ} (S : Sided text roads connections (length connections / 7) sides)
-        (E : Ended text roads junctions (length roads / 20) ends) (owner-wide : length owner ≡ 16384)
+    module _ {sides ends : List ℕ} (sided : Sided text roads connections (length connections / 7) sides)
+        (ended : Ended text roads junctions (length roads / 20) ends) (owner-wide : length owner ≡ 16384)
         (heads-wide : length kheads ≡ 16384) (next-wide : length knext ≡ 16384)
         (sides-wide : length sides ≡ 32768) (ends-wide : length ends ≡ 32768) where
       abbrev rows : Rows
       rows = rowsOf roads sections junctions connections pairs lanes owner sides ends
 
       pub named : Named text roads junctions connections lanes owner sides ends
-      named = record { owned = L .owned; sided = S; ended = E }
+      named = record { owned = linked .owned; sided = sided; ended = ended }
 
       road-low : (n : Rattle.model.specs.Records.Span) → roadRowOf text roads n ≤ length roads / 20
       unfolding roadRowOf
@@ -232,10 +232,10 @@ module _ (t : Tables) (admitted : firstBroken (successionRules t) ≡ none) wher
         few-roads = fewer .few-roads;
         owner-long = let a = fewer-lanes in omega arith;
         owner-low = λ l ll. positive (getD owner l 0)
-            (owner-known text roads sections lanes owner (L .owned) lanes-known l ll);
-        owner-high = λ l ll. subst (λ (k : ℕ). k ≤ length roads / 20) (sym (L .owned .at l ll)) (road-low _);
+            (owner-known text roads sections lanes owner (linked .owned) lanes-known l ll);
+        owner-high = λ l ll. subst (λ (k : ℕ). k ≤ length roads / 20) (sym (linked .owned .at l ll)) (road-low _);
         sides-long = let a = fewer .few-connections in omega arith;
-        sides-high = λ c lc. subst (λ (k : ℕ). k ≤ length roads / 20) (sym (S .connecting c lc)) (road-low _);
+        sides-high = λ c lc. subst (λ (k : ℕ). k ≤ length roads / 20) (sym (sided .connecting c lc)) (road-low _);
         ends-long = let a = fewer .few-roads in omega arith;
         road-ends = road-end;
         junction-ends = junction-end;
@@ -246,7 +246,7 @@ module _ (t : Tables) (admitted : firstBroken (successionRules t) ≡ none) wher
         pair-parts = ruled .pair-parts;
         buckets = heads-wide;
         links = let a = fewer-lanes in omega arith;
-        chained = L .keyed;
+        chained = linked .keyed;
       }
         where
           positive : (k : ℕ) → (k ≡ 0 → ⊥) → 0 < k
@@ -258,11 +258,11 @@ module _ (t : Tables) (admitted : firstBroken (successionRules t) ≡ none) wher
           road-end r zero lr lk e =
               subst (λ (j : ℕ). j ≤ length roads / 20)
               (sym
-              (ap (λ (j : ℕ). getD ends j 0) (let q : r * 2 + 0 ≡ r * 2 = omega arith in q) ∙ E .start r lr))
+              (ap (λ (j : ℕ). getD ends j 0) (let q : r * 2 + 0 ≡ r * 2 = omega arith in q) ∙ ended .start r lr))
               (target-road-low text roads junctions (r * 20 + 4)
               (ap (λ (j : ℕ). eqb (getD roads j 0) 1) (add-assoc (r * 20) 4 1) ∙ e))
           road-end r (suc zero) lr lk e =
-              subst (λ (j : ℕ). j ≤ length roads / 20) (sym (E .end r lr))
+              subst (λ (j : ℕ). j ≤ length roads / 20) (sym (ended .end r lr))
               (target-road-low text roads junctions (r * 20 + 11)
               (ap (λ (j : ℕ). eqb (getD roads j 0) 1) (add-assoc (r * 20) 11 1) ∙ e))
           road-end r (suc (suc k)) lr lk e = absurd (omega arith)
@@ -273,11 +273,11 @@ module _ (t : Tables) (admitted : firstBroken (successionRules t) ≡ none) wher
           junction-end r zero lr lk e =
               subst (λ (j : ℕ). j ≤ length junctions / 5)
               (sym
-              (ap (λ (j : ℕ). getD ends j 0) (let q : r * 2 + 0 ≡ r * 2 = omega arith in q) ∙ E .start r lr))
+              (ap (λ (j : ℕ). getD ends j 0) (let q : r * 2 + 0 ≡ r * 2 = omega arith in q) ∙ ended .start r lr))
               (target-junction-low text roads junctions (r * 20 + 4)
               (ap (λ (j : ℕ). eqb (getD roads j 0) 1) (add-assoc (r * 20) 4 1) ∙ e))
           junction-end r (suc zero) lr lk e =
-              subst (λ (j : ℕ). j ≤ length junctions / 5) (sym (E .end r lr))
+              subst (λ (j : ℕ). j ≤ length junctions / 5) (sym (ended .end r lr))
               (target-junction-low text roads junctions (r * 20 + 11)
               (ap (λ (j : ℕ). eqb (getD roads j 0) 1) (add-assoc (r * 20) 11 1) ∙ e))
           junction-end r (suc (suc k)) lr lk e = absurd (omega arith)
