@@ -1,5 +1,5 @@
-// Lane links: pairs, and warning 2 for each that has not two numbers. An output without room for a row is left as it is,
-// so that a first run only counts.
+// Lane links: pairs, and warning 2 for each that has not two numbers. An output without room for a row is left as it
+// is, so that a first run only counts.
 use crate::attributes::number_at;
 use words::rows;
 use words::tests::both;

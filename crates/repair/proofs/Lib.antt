@@ -1,10 +1,10 @@
-pub mod Ends
-pub mod Found
-pub mod Missing
-pub mod Lays
-pub mod Turns
-pub mod Steps
+pub mod TargetWords
+pub mod RoadRows
+pub mod MissingLinks
+pub mod Piles
+pub mod OtherWay
+pub mod JunctionSteps
 pub mod Virtual
 pub mod RoadWords
-pub mod Outcomes
+pub mod CallLaws
 pub mod Walks

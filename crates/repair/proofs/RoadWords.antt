@@ -28,7 +28,7 @@ use Rattle.rules.proofs.Locals.{road-local}
 use Rattle.repair.specs.Now.{endNow, nowWords, roadNow, roadsNow, targetNow, wordsNow}
 use Rattle.rules.specs.Parts.{Fit, counts}
 use Rattle.repair.specs.Along.{roadNowWords, roadsNowWords}
-use Rattle.repair.proofs.Lays.{rows-append}
+use Rattle.repair.proofs.Piles.{rows-append}
 use Rattle.rules.proofs.Fits.{fit-in}
 
 -- seven words before others

@@ -11,14 +11,14 @@ use lib.ListN.{length}
 use borrow.Author.Tests.{ltb-true}
 use Rattle.model.specs.Calls.{ListOutputs, RepairOutputs, ReversalOutputs, Writing, called, gapCall, gapContent}
 use Rattle.model.specs.Calls.{gapRules, gapWidth, laneRules, listContent, listLengths, listWriting, longEnough}
-use Rattle.model.specs.Calls.{markRules, repairCall, repairContent, repairCounts, repairRules, repairWriting, reversalCall}
-use Rattle.model.specs.Calls.{reversalContent, reversalCounts, reversalRules, reversalWriting, rulesTo5, settled}
+use Rattle.model.specs.Calls.{markRules, repairCall, repairContent, repairCounts, repairRules, repairWriting}
+use Rattle.model.specs.Calls.{reversalCall, reversalContent, reversalCounts, reversalRules, reversalWriting, rulesTo5, settled}
 use Rattle.model.specs.Calls.{successionCall, successionRules, tableRules, tableWriting, wrote}
 use Rattle.model.specs.Lists.{every}
 use Rattle.model.specs.Reading.{RawTables}
 use Rattle.model.specs.ReadingCalls.{JunctionOutputs, junctionContent, junctionCounts, junctionWriting}
-use Rattle.model.specs.ReadingCalls.{rawJunctionRules, rawLaneContent, rawLaneRules, readJunctionsCall, readLanesCall, readTargetsCall}
-use Rattle.model.specs.ReadingCalls.{targetContent, targetRules}
+use Rattle.model.specs.ReadingCalls.{rawJunctionRules, rawLaneContent, rawLaneRules, readJunctionsCall}
+use Rattle.model.specs.ReadingCalls.{readLanesCall, readTargetsCall, targetContent, targetRules}
 use Rattle.model.specs.Rules.{Rule, firstBroken}
 use Rattle.model.specs.Tables.{Tables}
 use Rattle.laws.proofs.ListTests.{every-append}

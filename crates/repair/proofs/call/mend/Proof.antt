@@ -1,5 +1,5 @@
 -- `mend` links the connections by name, repairs the junctions into arrays of its own, and writes what they hold.
-use Rattle.repair.proofs.Outcomes.{content-is}
+use Rattle.repair.proofs.CallLaws.{content-is}
 use Rattle.repair.specs.Answers.{outputs}
 use Rattle.model.specs.Calls.{RepairOutputs, repairWriting, writtenOr9}
 use Rattle.model.specs.Tables.{mapTables}

@@ -1,5 +1,5 @@
 -- `repair` refuses by its verdict, or has the rows that `mend` writes: `call-refused` and `call-admitted`.
-use Rattle.repair.proofs.Outcomes.{Ready, ready, start-is}
+use Rattle.repair.proofs.CallLaws.{Ready, ready, start-is}
 use Rattle.repair.specs.Answers.{outputs}
 use Rattle.repair.specs.Now.{Known}
 use Rattle.words.proofs.Chains.{fresh}

@@ -1,5 +1,5 @@
 -- `write` refuses with 9 before it writes a word, or writes five contents, each of whole rows.
-use Rattle.repair.proofs.Outcomes.{InRows, fits-five, put-are, room-is, rows-are}
+use Rattle.repair.proofs.CallLaws.{InRows, fits-five, put-are, room-is, rows-are}
 use Rattle.repair.proofs.RoadWords.{roads-width}
 use Rattle.repair.specs.Answers.{contentNow, outputs}
 use Rattle.tables.proofs.Called.{all-written, too-short}

@@ -1,5 +1,5 @@
 -- `junctions` repairs one junction a turn.
-use Rattle.repair.proofs.Steps.{over-none, over-more}
+use Rattle.repair.proofs.JunctionSteps.{over-none, over-more}
 use Rattle.repair.specs.Laying.{Arrays, Over, Twice, connectionsBefore, pairsBefore, pile, state}
 use Rattle.model.specs.Tables.{Tables, mapTables}
 use lib.ListN.{length}

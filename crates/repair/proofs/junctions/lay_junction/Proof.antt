@@ -1,7 +1,8 @@
 -- `lay_junction` lays the junction's own connections, and after them those the other way: of as many as it has
 -- where it is direct, and else of none.
-use Rattle.repair.proofs.Steps.{Part, Read, junction-connections, part-of, room-back, room-own, twice-more}
-use Rattle.repair.proofs.Lays.{laid-on, laid-same}
+use Rattle.repair.proofs.JunctionSteps.{Part, Read, junction-connections, part-of, room-back, room-own}
+use Rattle.repair.proofs.JunctionSteps.{twice-more}
+use Rattle.repair.proofs.Piles.{laid-on, laid-same}
 use Rattle.repair.specs.Laying.{Long}
 use Rattle.model.specs.Tables.{Tables, mapTables}
 use mathlib.Core.List.{List}

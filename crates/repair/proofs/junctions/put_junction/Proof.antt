@@ -1,5 +1,5 @@
 -- `put_junction` puts the row after those of the junctions before it.
-use Rattle.repair.proofs.Missing.{put-on}
+use Rattle.repair.proofs.Piles.{put-on}
 use lib.ListN.{length, take}
 use mathlib.Core.List.{List, [], _∷_, _++_}
 use Prim.Native.Nat.{ℕ, _+_, _*_, _-_, _≤_}

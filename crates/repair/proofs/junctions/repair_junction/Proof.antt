@@ -1,5 +1,5 @@
 -- `repair_junction` lays the junction's connections, puts its row, and gives the links that a common junction lacks.
-use Rattle.repair.proofs.Steps.{Part, Read, junction-roads, junction-row, junction-warned, part-of}
+use Rattle.repair.proofs.JunctionSteps.{Part, Read, junction-roads, junction-row, junction-warned, part-of}
 use Rattle.model.specs.Calls.{warningRow}
 use Rattle.model.specs.Lists.{gather}
 use Rattle.model.specs.Repair.{Warning}

@@ -1,5 +1,5 @@
 -- `connection_row` is the row as read with its contact a flag, or the row the other way.
-use Rattle.repair.proofs.Lays.{row-turned}
+use Rattle.repair.proofs.Piles.{row-turned}
 use Rattle.repair.specs.Laying.{rowWords}
 use Rattle.model.specs.Tables.{bit}
 use lib.Dec.{eqb}

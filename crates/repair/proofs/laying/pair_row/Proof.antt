@@ -1,5 +1,5 @@
 -- `pair_row` is the pair as read, or the other way.
-use Rattle.repair.proofs.Lays.{pair-plain, pair-turned}
+use Rattle.repair.proofs.Piles.{pair-plain, pair-turned}
 use mathlib.Core.List.{[], _∷_}
 use Prim.Native.Nat.{ℕ, _-_}
 use mathlib.Core.Path.{ap₂, _∙_}

@@ -1,5 +1,5 @@
 -- `put_back` lays the connection the other way, or nothing.
-use Rattle.repair.proofs.Lays.{laid-same, laid-none, back-list}
+use Rattle.repair.proofs.Piles.{laid-same, laid-none, back-list}
 use Rattle.repair.specs.Laying.{backList}
 use Rattle.repair.specs.Now.{connectionAt}
 use Prim.Native.Nat.{ℕ, _-_}

@@ -1,6 +1,5 @@
 -- `put_connection` puts the connection's row, and its pairs after it.
-use Rattle.repair.proofs.Missing.{put-on}
-use Rattle.repair.proofs.Lays.{lay-one, row-width}
+use Rattle.repair.proofs.Piles.{put-on, lay-one, row-width}
 use Rattle.rules.proofs.Fits.{fit-in}
 use Rattle.repair.specs.Laying.{rowWords}
 use Rattle.words.specs.Rows.{spliced}

@@ -1,5 +1,5 @@
 -- `put_own` lays one connection a turn.
-use Rattle.repair.proofs.Lays.{laid-none, laid-own, laid-rows, pairs-next, room-at}
+use Rattle.repair.proofs.Piles.{laid-none, laid-own, laid-rows, pairs-next, room-at}
 use Rattle.repair.specs.Laying.{Laid, Long, RoomFor, pairsBefore, pile}
 use Rattle.repair.specs.Now.{connectionAt}
 use Rattle.words.specs.Rows.{tab}

@@ -1,6 +1,5 @@
 -- `put_pairs` puts one pair's row a turn.
-use Rattle.repair.proofs.Missing.{put-on}
-use Rattle.repair.proofs.Lays.{grown-more}
+use Rattle.repair.proofs.Piles.{put-on, grown-more}
 use Rattle.repair.specs.Laying.{turnedPair, pairAt}
 use Rattle.words.specs.Rows.{tab, spliced}
 use Rattle.laws.proofs.Encoded.{pair-width}

@@ -1,5 +1,5 @@
 -- `back_end` tests the target's words one by one: present, of kind road, of that name, its contact given.
-use Rattle.repair.proofs.Ends.{back-nowhere, back-there, end-one, namesBack}
+use Rattle.repair.proofs.TargetWords.{back-nowhere, back-there, end-one, namesBack}
 use Rattle.repair.specs.Now.{endOpt}
 use Rattle.rules.proofs.Leaves.{both-is}
 use Rattle.words.specs.Rows.{nameAt, span}

@@ -1,8 +1,8 @@
 -- `missing_end` asks in the model's order: does the road meet the junction already, is the connecting road known, which
 -- end of the incoming road does its link name, and is that end vacant?
-use Rattle.repair.proofs.Missing.{ends-back, met-already, no-connecting, road-is}
-use Rattle.repair.proofs.Found.{foundRoad}
-use Rattle.repair.proofs.Ends.{connecting-is, incoming-is, contact-is, at-end, bit-back}
+use Rattle.repair.proofs.MissingLinks.{ends-back, met-already, no-connecting, road-is}
+use Rattle.repair.proofs.RoadRows.{foundRoad}
+use Rattle.repair.proofs.TargetWords.{connecting-is, incoming-is, contact-is, at-end, bit-back}
 use Rattle.repair.specs.Now.{roadWith, roadsWith, rowConnection, targetNow}
 use Rattle.model.specs.Repair.{backEnd, roadOf}
 use Rattle.model.specs.Records.{Connection, Span, targetAt}

@@ -1,7 +1,7 @@
 -- `missing_link` finds the incoming road and the end that the connection shows; where there is one, it writes the end's
 -- word and a warning.
-use Rattle.repair.proofs.Missing.{end-known, end-unknown, linked-none, linked-one}
-use Rattle.repair.proofs.Ends.{end-some}
+use Rattle.repair.proofs.MissingLinks.{end-known, end-unknown, linked-none, linked-one}
+use Rattle.repair.proofs.TargetWords.{end-some}
 use Rattle.repair.specs.Now.{endOpt, roadsWith, junctionName, rowConnection}
 use Rattle.rules.specs.ByRow.{roadRowOf}
 use Rattle.words.specs.Rows.{nameAt}

@@ -1,5 +1,5 @@
 -- `missing_links` goes through one connection a turn.
-use Rattle.repair.proofs.Missing.{linked-more, linked-start}
+use Rattle.repair.proofs.MissingLinks.{linked-more, linked-start}
 use Rattle.repair.specs.Laying.{Linked}
 use Rattle.repair.specs.Now.{rowConnection}
 use Rattle.words.specs.Rows.{tab}

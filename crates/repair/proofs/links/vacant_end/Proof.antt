@@ -1,5 +1,5 @@
 -- `vacant_end` is the end that it is given, unless the road has a target there.
-use Rattle.repair.proofs.Ends.{present-of, vacant-is}
+use Rattle.repair.proofs.TargetWords.{present-of, vacant-is}
 use Rattle.repair.specs.Now.{endOpt, roadNow, targetNow}
 use Rattle.model.specs.Records.{Road}
 use Rattle.model.specs.Repair.{vacantEnd}

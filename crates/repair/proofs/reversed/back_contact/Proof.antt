@@ -1,9 +1,9 @@
 -- `back_contact` asks in the model's order: does a connection run the other way already, is the incoming road
 -- known, and at which end does it name the junction?
-use Rattle.repair.proofs.Turns.{runs-is, runs-already, back-unknown, back-known}
-use Rattle.repair.proofs.Missing.{road-is}
-use Rattle.repair.proofs.Found.{foundRoad}
-use Rattle.repair.proofs.Ends.{incoming-is}
+use Rattle.repair.proofs.OtherWay.{runs-is, runs-already, back-unknown, back-known}
+use Rattle.repair.proofs.MissingLinks.{road-is}
+use Rattle.repair.proofs.RoadRows.{foundRoad}
+use Rattle.repair.proofs.TargetWords.{incoming-is}
 use Rattle.repair.specs.Now.{roadWith, roadsWith, rowConnection, run}
 use Rattle.model.specs.Lists.{some?}
 use Rattle.model.specs.Repair.{roadOf, runsBack}

@@ -1,6 +1,6 @@
 -- `reversed` looks at one connection a turn, and lays it the other way where the model does.
-use Rattle.repair.proofs.Turns.{reversed-is}
-use Rattle.repair.proofs.Lays.{laid-none, laid-more, laid-same, pairs-next, room-at}
+use Rattle.repair.proofs.OtherWay.{reversed-is}
+use Rattle.repair.proofs.Piles.{laid-none, laid-more, laid-same, pairs-next, room-at}
 use Rattle.repair.specs.Laying.{Laid, Long, RoomFor, backFrom, pairsBefore, pile}
 use Rattle.repair.specs.Now.{rowConnection, run}
 use Rattle.words.specs.Rows.{tab}

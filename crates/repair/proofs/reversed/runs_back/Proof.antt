@@ -1,5 +1,5 @@
 -- `runs_back` walks the chain of the connecting road's name among the connections' incoming roads.
-use Rattle.repair.proofs.Turns.{only-turned}
+use Rattle.repair.proofs.OtherWay.{only-turned}
 use Rattle.repair.proofs.Walks.{none-found, some-found}
 use Rattle.repair.specs.Laying.{turnedAt}
 use Rattle.words.proofs.Loops.{Lookup, look-begin, look-less, look-on, look-row}

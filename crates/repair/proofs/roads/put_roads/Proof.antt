@@ -1,5 +1,5 @@
 -- `put_roads` puts one road's row a turn.
-use Rattle.repair.proofs.Lays.{gather-tab}
+use Rattle.repair.proofs.Piles.{gather-tab}
 use Rattle.repair.proofs.RoadWords.{road-width, roads-width}
 use Rattle.repair.specs.Along.{roadNowWords}
 use Rattle.words.proofs.Laws.{put-step, written-none}

@@ -1,4 +1,4 @@
-use Rattle.repair.proofs.Ends.{at-past}
+use Rattle.repair.proofs.TargetWords.{at-past}
 use native.Mathlib.Omega.{arith}
 use borrow.Author.Needs.{needs}
 use Rattle.repair.proofs.targets.at.Statement.{statement}

@@ -1,5 +1,5 @@
 -- `meeting_end` tests the successor end, and then the predecessor end.
-use Rattle.repair.proofs.Ends.{meeting-is}
+use Rattle.repair.proofs.TargetWords.{meeting-is}
 use Rattle.repair.specs.Now.{roadNow, targetNow}
 use Rattle.words.specs.Rows.{nameAt}
 use Rattle.model.specs.Repair.{meetingEnd, namesJunction}

@@ -1,5 +1,5 @@
 -- `meets` tests both ends of the road.
-use Rattle.repair.proofs.Ends.{meets-is}
+use Rattle.repair.proofs.TargetWords.{meets-is}
 use Rattle.words.specs.Rows.{nameAt}
 use Rattle.model.specs.Repair.{namesJunction}
 use Rattle.model.specs.Text.{sameIn}

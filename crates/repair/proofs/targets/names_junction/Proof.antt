@@ -1,5 +1,5 @@
 -- `names_junction` tests the target's words one by one: present, of kind junction, of that name.
-use Rattle.repair.proofs.Ends.{names-of}
+use Rattle.repair.proofs.TargetWords.{names-of}
 use Rattle.rules.proofs.Leaves.{both-is}
 use Rattle.words.specs.Rows.{nameAt, span}
 use Rattle.model.specs.Text.{sameIn}

@@ -1,4 +1,4 @@
-use Rattle.repair.proofs.Ends.{one-is}
+use Rattle.repair.proofs.TargetWords.{one-is}
 use Rattle.model.specs.Tables.{bit}
 use borrow.Author.Tests.{eq-eqb}
 use native.Mathlib.Omega.{arith}

@@ -24,18 +24,19 @@ index-at-requires-2 c κs = search needs
 find-name-requires : tie.Need-find-name-requires
 find-name-requires c κs =
     let first : tie.After-index-at = search in
-    let start : tie.Start = search in (
+    let start : tie.Start = search in
+    let known = start .pre .1 in (
       (
         omega arith,
         omega arith,
-        rows-in (length (start .args .roads .now)) 20,
-        start .pre .1 .few,
-        start .pre .1 .heads-long,
-        omega (arith, start .pre .1 .few, start .pre .1 .next-long),
+        rows-in _ 20,
+        known .few,
+        known .heads-long,
+        omega (arith, known .few, known .next-long),
         first .index-at .ensures .1,
         c .index-at2 .ensures .1,
       ),
-      start .pre .1 .chained,
+      known .chained,
     )
 
 returns : tie.Need-returns
@@ -44,15 +45,15 @@ returns c =
     let size : tie.After-index-at2 = search in
     let first : tie.After-index-at = search in
     let start : tie.Start = search in
-    let roads = start .args .roads .now in let text = start .args .text .now in
-    let n = length roads / 20 in
-    let e = c .find-name .ensures
-    ∙ ap₂ (λ (a b : ℕ). roadRowOf text roads (span a b))
-    (first .index-at .ensures .0) (size .index-at2 .ensures .0) in (
-      e,
-      let le = last-le n (bears text 20 0 roads (nameFrom (start .args .ws .now) (start .args .k))) in
-          omega (arith, e, le),
-    )
+    let roads = start .args .roads .now in
+    let text = start .args .text .now in
+    let name = nameFrom (start .args .ws .now) (start .args .k) in
+    let row-is =
+    c .find-name .ensures
+    ∙ ap₂ (λ (a b : ℕ). roadRowOf text roads (span a b)) (first .index-at .ensures .0)
+    (size .index-at2 .ensures .0) in
+    let inside = last-le (length roads / 20) (bears text 20 0 roads name) in
+    (row-is, omega (arith, row-is, inside))
 
 pub road-of-spec : {M : Type 1} → statement M
 road-of-spec =

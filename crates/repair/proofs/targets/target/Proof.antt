@@ -1,5 +1,5 @@
 -- `target` reads the end's word: the target as read, absent, or a junction's row.
-use Rattle.repair.proofs.Ends.{by-word, words-linked}
+use Rattle.repair.proofs.TargetWords.{by-word, words-linked}
 use Rattle.repair.specs.Now.{nowWords}
 use mathlib.Core.List.{[], _∷_}
 use Prim.Native.Nat.{ℕ, _+_, _*_, _-_}

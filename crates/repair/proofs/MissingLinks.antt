@@ -5,8 +5,7 @@ use mathlib.Core.Option.{Option, none, some}
 use mathlib.Core.List.{List, [], _∷_, _++_, append-nil, append-assoc}
 use Prim.Native.Nat.{ℕ, suc, _+_, _*_, _/_, _≤_, _<_}
 use native.Mathlib.Omega.{arith}
-use lib.ListN.{length, set, take, drop, length-append}
-use lib.Seq.{length-take-le, take-at}
+use lib.ListN.{length, set, take}
 use lib.Dec.{eqb}
 use Rattle.model.specs.Calls.{rowNamed, warningRow}
 use Rattle.model.specs.Lists.{amend, bindO, gather, listO}
@@ -23,16 +22,9 @@ use Rattle.rules.specs.ByRow.{roadRowOf}
 use Rattle.rules.proofs.Forms.{name-at, roads-tab}
 use Rattle.repair.specs.Now.{junctionName, roadWith, roadsNow, roadsWith, rowConnection}
 use Rattle.repair.specs.Laying.{Linked, shownEnd}
-use Rattle.repair.proofs.Ends.{incoming-is, end-bit}
-use Rattle.repair.proofs.Found.{foundRoad, road-found, amend-row, row-found, now-name, other-roads, this-road}
-
--- a row put after what is there
-pub put-on : (row buf : List ℕ) {buf′ : List ℕ} {a a′ : ℕ} → buf′ ≡ spliced a row buf → a ≤ length buf
-    → a′ ≡ a + length row → take a′ buf′ ≡ take a buf ++ row
-unfolding spliced
-put-on row buf {a = a} e h l = ap₂ (λ (n : ℕ) (b : List ℕ). take n b) l e
-    ∙ take-at (take a buf ++ row) (drop (a + length row) buf) (a + length row)
-    (length-append (take a buf) row ∙ ap (λ (n : ℕ). n + length row) (length-take-le a buf h))
+use Rattle.repair.proofs.Piles.{put-on}
+use Rattle.repair.proofs.TargetWords.{incoming-is, end-bit}
+use Rattle.repair.proofs.RoadRows.{foundRoad, road-found, amend-row, row-found, now-name, other-roads, this-road}
 
 -- ---- the end that a connection shows, step by step
 module _ (same : Span → Span → Bool) (rs : List Road) (j : Span) (c : Connection) (R : Road) where

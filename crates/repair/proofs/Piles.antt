@@ -5,7 +5,7 @@ use Prim.Native.Nat.{ℕ, zero, suc, _+_, _*_, _/_, _-_, _≤_, _<_}
 use native.Mathlib.Nat.{add-zero, add-assoc}
 use native.Mathlib.Omega.{arith}
 use lib.ListN.{length, getD, take, drop, length-append, length-drop}
-use lib.Seq.{length-take-le, getD-take, getD-drop, ext-getD}
+use lib.Seq.{length-take-le, getD-take, getD-drop, ext-getD, take-at}
 use lib.Dec.{eqb}
 use Rattle.model.specs.Lists.{gather}
 use Rattle.model.specs.Records.{Pair, Connection}
@@ -13,16 +13,25 @@ use Rattle.model.specs.Repair.{backAt, swapped}
 use Rattle.model.specs.Rows.{part, rowsFrom}
 use Rattle.model.specs.Tables.{bit, connectionIn, connectionRow, pairIn, pairRow, pairsIn}
 use Rattle.laws.proofs.WordsReversed.{gather-append}
-use Rattle.words.specs.Rows.{tab}
+use Rattle.words.specs.Rows.{spliced, tab}
 use Rattle.words.proofs.Laws.{map-tab, tab-at, tab-length, tab-more, total-le}
 use Rattle.words.proofs.Scans.{map-rows}
 use Rattle.rules.specs.Parts.{counts}
 use Rattle.rules.proofs.Fits.{fit-in, fit-next}
 use Rattle.rules.proofs.Locals.{short}
 use Rattle.repair.specs.Now.{run, connectionAt}
-use Rattle.repair.proofs.Ends.{end-bit}
+use Rattle.repair.proofs.TargetWords.{end-bit}
 use Rattle.repair.specs.Laying.{Laid, Pile, RoomFor, RoomForAll, Small, backList, pairAt, pairCount}
 use Rattle.repair.specs.Laying.{pairsBefore, pile, rowWords, turnedConnection, turnedPair, turnedPairs}
+
+-- ---- rows one after the other
+-- a row put after what is there
+pub put-on : (row buf : List ℕ) {buf′ : List ℕ} {a a′ : ℕ} → buf′ ≡ spliced a row buf → a ≤ length buf
+    → a′ ≡ a + length row → take a′ buf′ ≡ take a buf ++ row
+unfolding spliced
+put-on row buf {a = a} e h l = ap₂ (λ (n : ℕ) (b : List ℕ). take n b) l e
+    ∙ take-at (take a buf ++ row) (drop (a + length row) buf) (a + length row)
+    (length-append (take a buf) row ∙ ap (λ (n : ℕ). n + length row) (length-take-le a buf h))
 
 -- ---- lists by row numbers
 pub gather-tab : {A B : Type 0} (f : A → List B) (g : ℕ → A) (i : ℕ)

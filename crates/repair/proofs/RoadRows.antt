@@ -9,6 +9,7 @@ use native.Mathlib.Omega.{arith}
 use lib.ListN.{length, getD, set, length-set}
 use lib.Seq.{getD-set-same, getD-set-other, ext-getD}
 use lib.Dec.{eqb}
+use borrow.Author.Tests.{eqb-false, eqb-true}
 use Rattle.model.specs.Calls.{rowNamed}
 use Rattle.model.specs.Lists.{pick, amend}
 use Rattle.model.specs.Records.{Span, Road}
@@ -32,45 +33,46 @@ foundRoad F (suc r) = some (F r)
 module _ {A : Type 0} (p : A → Bool) (d : A) where
   amend-at : (g : A → A) (xs : List A) (r : ℕ) → r < length xs → p (getD xs r d) ≡ true
       → ((i : ℕ) → i < r → p (getD xs i d) ≡ false) → amend p g xs ≡ set xs r (g (getD xs r d))
-  amend-at g [] r l h k = absurd (not-suc-le-zero l)
-  amend-at g (x ∷ xs) zero l h k = ap (λ b. cond b (g x ∷ xs) (x ∷ amend p g xs)) h
-  amend-at g (x ∷ xs) (suc r) l h k =
-      ap (λ b. cond b (g x ∷ xs) (x ∷ amend p g xs)) (k 0 (omega arith))
-      ∙ ap {B = List A} (λ l. x ∷ l) (amend-at g xs r (le-of-suc-le-suc l) h (λ i q. k (suc i) (omega arith)))
+  amend-at g [] r inside passes others = absurd (not-suc-le-zero inside)
+  amend-at g (x ∷ xs) zero inside passes others = ap (λ b. cond b (g x ∷ xs) (x ∷ amend p g xs)) passes
+  amend-at g (x ∷ xs) (suc r) inside passes others =
+      ap (λ b. cond b (g x ∷ xs) (x ∷ amend p g xs)) (others 0 (omega arith))
+      ∙ ap {B = List A} (λ l. x ∷ l)
+      (amend-at g xs r (le-of-suc-le-suc inside) passes (λ i less. others (suc i) (omega arith)))
 
 -- one row of a list by rows changed
 set-tab : {A : Type 0} (n : ℕ) (F G : ℕ → A) (r : ℕ) (v : A) → r < n → v ≡ G r
     → ((i : ℕ) → (i ≡ r → ⊥) → F i ≡ G i) → set (tab n F) r v ≡ tab n G
-set-tab n F G r v l e h =
+set-tab n F G r v inside here others =
     ext-getD v (set (tab n F) r v) (tab n G) (length-set (tab n F) r v ∙ tab-length n F ∙ sym (tab-length n G))
     go
   where
     go : (i : ℕ) → i < length (set (tab n F) r v) → getD (set (tab n F) r v) i v ≡ getD (tab n G) i v
-    go i li =
-        let len = length-set (tab n F) r v ∙ tab-length n F in
-        let lt : i < n = omega arith in pick-one (eqb i r) refl lt
+    go i less =
+        let long = length-set (tab n F) r v ∙ tab-length n F in
+        let row : i < n = omega arith in pick-one (eqb i r) refl row
       where
         pick-one : (b : Bool) → eqb i r ≡ b → i < n → getD (set (tab n F) r v) i v ≡ getD (tab n G) i v
-        pick-one true q lt =
-            let z = borrow.Author.Tests.eqb-true i r q in
-            ap (λ (k : ℕ). getD (set (tab n F) r v) k v) z
-            ∙ getD-set-same (tab n F) r v v (let y = tab-length n F in omega arith)
-            ∙ e
-            ∙ sym (tab-at n G r v l)
-            ∙ ap (λ (k : ℕ). getD (tab n G) k v) (sym z)
-        pick-one false q lt =
-            let ne = borrow.Author.Tests.eqb-false i r q in
-            getD-set-other (tab n F) r i v v ne ∙ tab-at n F i v lt ∙ h i ne ∙ sym (tab-at n G i v lt)
+        pick-one true same row =
+            let is-r = eqb-true i r same in
+            ap (λ (k : ℕ). getD (set (tab n F) r v) k v) is-r
+            ∙ getD-set-same (tab n F) r v v (let long = tab-length n F in omega arith)
+            ∙ here
+            ∙ sym (tab-at n G r v inside)
+            ∙ ap (λ (k : ℕ). getD (tab n G) k v) (sym is-r)
+        pick-one false same row =
+            let other = eqb-false i r same in
+            getD-set-other (tab n F) r i v v other ∙ tab-at n F i v row ∙ others i other ∙ sym (tab-at n G i v row)
 
 -- the row of the only road of a name
 row-at : (alike : Span → Span → Bool) (rs : List Road) (m : Span) (d : Road) (r : ℕ) → r < length rs
     → alike (getD rs r d .name) m ≡ true → ((i : ℕ) → i < r → alike (getD rs i d .name) m ≡ false)
     → rowNamed alike rs m ≡ r
-row-at alike [] m d r l h k = absurd (not-suc-le-zero l)
-row-at alike (x ∷ rs) m d zero l h k = ap (λ b. cond b 0 (suc (rowNamed alike rs m))) h
-row-at alike (x ∷ rs) m d (suc r) l h k =
-    ap (λ b. cond b 0 (suc (rowNamed alike rs m))) (k 0 (omega arith))
-    ∙ ap suc (row-at alike rs m d r (le-of-suc-le-suc l) h (λ i q. k (suc i) (omega arith)))
+row-at alike [] m d r inside passes others = absurd (not-suc-le-zero inside)
+row-at alike (x ∷ rs) m d zero inside passes others = ap (λ b. cond b 0 (suc (rowNamed alike rs m))) passes
+row-at alike (x ∷ rs) m d (suc r) inside passes others =
+    ap (λ b. cond b 0 (suc (rowNamed alike rs m))) (others 0 (omega arith))
+    ∙ ap suc (row-at alike rs m d r (le-of-suc-le-suc inside) passes (λ i less. others (suc i) (omega arith)))
 
 module _ (text roads : List ℕ) (m : Span) (once : any (length roads / 20) (nameBefore text 20 0 roads) ≡ false) where
   -- no two rows bear one name

@@ -24,7 +24,7 @@ use Rattle.rules.proofs.Fits.{fit-in, fit-next}
 use Rattle.repair.specs.Now.{run, junctionAt, junctionName, roadsWith, rowConnection, rowJunction}
 use Rattle.repair.specs.Laying.{Joined, Over, RoomForAll, Small, State, Stepped, Twice, connectionsBefore}
 use Rattle.repair.specs.Laying.{pairsBefore, pile, state}
-use Rattle.repair.proofs.Lays.{laid-none, laid-on, laid-same, rows-append}
+use Rattle.repair.proofs.Piles.{laid-none, laid-on, laid-same, rows-append}
 
 -- ---- a junction by its kind's word
 module _ (same : Span → Span → Bool) (j : Span) (g : ℕ → Connection) (f m : ℕ) (rs : List Road) where

@@ -36,7 +36,7 @@ use Rattle.repair.specs.Laying.{Joined, Over, Small, State}
 use Rattle.rules.specs.Parts.{Fit}
 use Rattle.repair.specs.Along.{roadsBegun}
 use Rattle.repair.specs.Answers.{Begun, contentNow, outputs}
-use Rattle.repair.proofs.Lays.{part-tab}
+use Rattle.repair.proofs.Piles.{part-tab}
 use Rattle.rules.proofs.Fits.{fit-in, fit-of}
 use Rattle.repair.proofs.RoadWords.{words-now}
 

@@ -21,7 +21,7 @@ use Rattle.words.proofs.Laws.{any-hit, any-same}
 use Rattle.words.proofs.Scans.{and-step, left-on, right-on, some-tab}
 use Rattle.repair.specs.Now.{run, connectionAt}
 use Rattle.repair.specs.Laying.{turnedAt}
-use Rattle.repair.proofs.Ends.{incoming-is, connecting-is}
+use Rattle.repair.proofs.TargetWords.{incoming-is, connecting-is}
 
 -- a connection that runs the other way lies in the bucket of the connecting road's name
 pub only-turned : (text connections : List ℕ) (first last c q : ℕ)
@@ -44,26 +44,30 @@ any-use (suc n) p {C} e k = go (p n) refl (any n p) refl (λ r. any-use n p r (�
     go false q true r ih = ih r
     go false q false r ih = absurd (mathlib.Core.Bool.false≢true (sym (ap₂ _||_ r q) ∙ e))
 
-any-part : (n first m : ℕ) (p : ℕ → Bool) → first + m ≤ n
-    → any m (λ i. p (first + i)) ≡ any n (λ q. (leb first q && ltb q (first + m)) && p q)
-any-part n first m p h =
-    bool-ext (any m (λ i. p (first + i))) (any n (λ q. (leb first q && ltb q (first + m)) && p q))
-    (λ e.
-    any-use m (λ i. p (first + i)) e
-    (λ i l q.
-    any-hit n (first + i) (λ q. (leb first q && ltb q (first + m)) && p q) (omega arith)
-    (and-step
-    (and-step (le-leb first (first + i) (omega arith)) (lt-ltb (first + i) (first + m) (omega arith))) q)))
-    (λ e.
-    any-use n (λ q. (leb first q && ltb q (first + m)) && p q) e
-    (λ i l q.
-    let a = leb-true first i
-    (left-on (leb first i) (ltb i (first + m)) (left-on (leb first i && ltb i (first + m)) (p i) q)) in
-    let b = ltb-true i (first + m)
-    (right-on (leb first i) (ltb i (first + m)) (left-on (leb first i && ltb i (first + m)) (p i) q)) in
-    let z : first + (i - first) ≡ i = omega arith in
-    any-hit m (i - first) (λ i. p (first + i)) (omega arith)
-    (ap p z ∙ right-on (leb first i && ltb i (first + m)) (p i) q)))
+abbrev inPart : (first m : ℕ) → (ℕ → Bool) → ℕ → Bool
+inPart first m p q = (leb first q && ltb q (first + m)) && p q
+
+any-part : (n first m : ℕ) (p : ℕ → Bool) → first + m ≤ n → any m (λ i. p (first + i)) ≡ any n (inPart first m p)
+any-part n first m p whole = bool-ext (any m (λ i. p (first + i))) (any n (inPart first m p)) among-all within
+  where
+    among-all : any m (λ i. p (first + i)) ≡ true → any n (inPart first m p) ≡ true
+    among-all found =
+        any-use m (λ i. p (first + i)) found
+        (λ i less has.
+        let after = le-leb first (first + i) (omega arith) in
+        let before = lt-ltb (first + i) (first + m) (omega arith) in
+        any-hit n (first + i) (inPart first m p) (omega arith) (and-step (and-step after before) has))
+
+    within : any n (inPart first m p) ≡ true → any m (λ i. p (first + i)) ≡ true
+    within found =
+        any-use n (inPart first m p) found
+        (λ q less has.
+        let inside = left-on (leb first q && ltb q (first + m)) (p q) has in
+        let after = leb-true first q (left-on (leb first q) (ltb q (first + m)) inside) in
+        let before = ltb-true q (first + m) (right-on (leb first q) (ltb q (first + m)) inside) in
+        let back : first + (q - first) ≡ q = omega arith in
+        any-hit m (q - first) (λ i. p (first + i)) (omega arith)
+        (ap p back ∙ right-on (leb first q && ltb q (first + m)) (p q) has))
 
 module _ (text connections ps : List ℕ) (c first m : ℕ) (h : first + m ≤ length connections / 7) where
   pub runs-is : some? (runsBack (sameIn text) (connectionAt ps connections c))
