@@ -1,19 +1,19 @@
 -- What is laid into the local arrays, and what the functions that lay it may count on. Definitions only.
 use mathlib.Core.Path.{_≡_}
-use mathlib.Core.Bool.{Bool, _&&_, cond, not}
+use mathlib.Core.Bool.{Bool, true, _&&_, cond, not}
 use mathlib.Core.Option.{Option, none}
 use mathlib.Core.List.{List, [], _∷_, _++_}
 use Prim.Native.Nat.{ℕ, zero, suc, _+_, _*_, _/_, _≤_, _<_}
 use lib.ListN.{length, getD, take}
 use lib.Dec.{eqb, leb, ltb}
 use Rattle.model.specs.Calls.{warningRow}
-use Rattle.model.specs.Lists.{bindO, gather, listO, some?}
+use Rattle.model.specs.Lists.{bindO, every, gather, listO, some?}
 use Rattle.model.specs.Records.{Span, Pair, Connection, Junction, Road, targetAt}
 use Rattle.model.specs.Repair.{backAt, backEnd, backOf, junctionsOver, meets, missingLinks, repairJunction}
 use Rattle.model.specs.Repair.{repairRoads, reversed, roadOf, roadsOver, runsBack, swapped, vacantEnd, warnAfter}
 use Rattle.model.specs.Repair.{warnAll, warnOver}
-use Rattle.model.specs.Rows.{rowsFrom}
-use Rattle.model.specs.Rules.{same}
+use Rattle.model.specs.Rows.{rowsFrom, table}
+use Rattle.model.specs.Rules.{roadWorded, same}
 use Rattle.model.specs.Tables.{Tables, bit, connectionRow, junctionRow, pairRow, pairIn}
 use Rattle.model.specs.Text.{sameIn}
 use Rattle.words.specs.Rows.{tab, nameAt, from, total}
@@ -162,6 +162,73 @@ pub record Within (n p w : ℕ) : Type 0 where
   pub pairs-few : p ≤ 16384
   pub warnings-few : w ≤ 8192
 
+-- ---- what a step may count on
+-- laying junction row k after n connections and p pairs
+pub record LayDue (junctions connections cs ps : List ℕ) (k n p : ℕ) : Type 0 where
+  pub inside : k < length junctions / 5
+  pub twice : Twice junctions connections k n p
+  pub long : Long cs ps
+
+-- laying the other way what the connections from first on give, m of them
+pub record BackDue (text roads connections pairs heads next cheads cnext cs ps : List ℕ) (k first m n p : ℕ)
+    : Type 0 where
+  pub junction-few : k < 16384
+  pub small : Small pairs connections
+  pub known : Known text roads heads next
+  pub chain : Chain text connections cheads cnext
+  pub room : RoomForAll connections first m n p
+  pub long : Long cs ps
+
+-- repairing junction row k after n connections, p pairs and w warnings
+pub record StepDue (junctions connections ends js cs ps warn : List ℕ) (k n p w : ℕ) : Type 0 where
+  pub inside : k < length junctions / 5
+  pub twice : Twice junctions connections k n p
+  pub warnings : w ≤ connectionsBefore junctions k
+  pub ends-long : length ends ≡ 32768
+  pub arrays : Arrays js cs ps warn
+
+-- finding the contact of connection row c of junction row k the other way, among those from first on, m of them
+pub record ContactDue (text roads connections heads next cheads cnext : List ℕ) (k first m c : ℕ) : Type 0 where
+  pub junction-few : k < 16384
+  pub connection-few : c < 16384
+  pub inside : first + m ≤ length connections / 7
+  pub known : Known text roads heads next
+  pub chain : Chain text connections cheads cnext
+
+-- giving the link that connection row c of junction row k shows, after w warnings
+pub record LinkDue (text roads heads next ends warn : List ℕ) (k c w : ℕ) : Type 0 where
+  pub junction-few : k < 16384
+  pub connection-few : c < 8192
+  pub warnings-few : w < 16384
+  pub room : w * 4 + 4 ≤ length warn
+  pub ends-long : length ends ≡ 32768
+  pub known : Known text roads heads next
+
+-- the same for the connections from first on, m of them
+pub record LinksDue (text roads heads next ends warn : List ℕ) (k first m w : ℕ) : Type 0 where
+  pub junction-few : k < 16384
+  pub connections-few : first + m ≤ 8192
+  pub warnings-few : w ≤ first
+  pub ends-long : length ends ≡ 32768
+  pub warnings-long : length warn ≡ 32768
+  pub known : Known text roads heads next
+
+-- writing so many rows of the arrays
+pub record WriteDue (roads junctions js cs ps warn : List ℕ) (n p w : ℕ) : Type 0 where
+  pub roads-few : length roads / 20 ≤ 16384
+  pub junctions-few : length junctions / 5 ≤ 16384
+  pub within : Within n p w
+  pub arrays : Arrays js cs ps warn
+
+-- mending a map that the rules admit
+pub record MendDue (text roads junctions connections pairs heads next ends : List ℕ) : Type 0 where
+  pub small : Small pairs connections
+  pub joined : Joined junctions connections
+  pub known : Known text roads heads next
+  pub worded : every (roadWorded text) (table 20 roads) ≡ true
+  pub ends-long : length ends ≡ 32768
+
+-- ---- what is laid so far
 -- connections and pairs laid so far: how many, and the arrays that begin with their rows
 pub record Pile : Type 0 where
   pub rows : ℕ

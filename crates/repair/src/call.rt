@@ -14,12 +14,10 @@ ghost use mathlib.Core.List.{List, [], _∷_};
 ghost use Prim.Native.Nat.{ℕ, _*_, _/_, _≤_, _<_};
 ghost use lib.ListN.{length, take};
 ghost use Rattle.model.specs.Calls.{RepairOutputs, repairWriting, repairContent, repairCall, outcome, writtenOr9};
-ghost use Rattle.model.specs.Lists.{every};
-ghost use Rattle.model.specs.Rows.{written, table};
-ghost use Rattle.model.specs.Rules.{fits, roadWorded};
+ghost use Rattle.model.specs.Rows.{written};
+ghost use Rattle.model.specs.Rules.{fits};
 ghost use Rattle.model.specs.Tables.{Tables, mapTables};
-ghost use Rattle.repair.specs.Now.{Known};
-ghost use Rattle.repair.specs.Laying.{Small, Joined, Arrays, Within};
+ghost use Rattle.repair.specs.Laying.{WriteDue, MendDue};
 ghost use Rattle.repair.specs.Answers.{answerOf, outputs, contentNow, Begun};
 
 // How many rows each output has.
@@ -87,8 +85,7 @@ fn write(
 ) -> Repaired
     ghost { RepairOutputs }
     requires { λ content. ⌜ contentNow (now roads) (now junctions) (now ends) (now js) (now cs) (now ps) (now warn) n p w ≡ content ⌝ }
-    requires { λ _. ⌜ (length (now roads) / 20 ≤ 16384) × (length (now junctions) / 5 ≤ 16384) ⌝ }
-    requires { λ _. ⌜ Within n p w × Arrays (now js) (now cs) (now ps) (now warn) ⌝ }
+    requires { λ _. ⌜ WriteDue (now roads) (now junctions) (now js) (now cs) (now ps) (now warn) n p w ⌝ }
     ensures { λ content q. ⌜ outcome (answerOf q)
         (outputs (now («roads_out» .exit)) (now («junctions_out» .exit))
         (now («connections_out» .exit)) (now («pairs_out» .exit)) (now («warnings_out» .exit)))
@@ -145,11 +142,7 @@ fn mend(
 ) -> Repaired
     ghost { List ℕ → Tables }
     requires { λ t. ⌜ (λ sections. mapTables (now text) (now roads) sections (now junctions) (now connections) (now pairs)) ≡ t ⌝ }
-    requires { λ _. ⌜ Small (now pairs) (now connections) ⌝ }
-    requires { λ _. ⌜ Joined (now junctions) (now connections) ⌝ }
-    requires { λ _. ⌜ Known (now text) (now roads) (now heads) (now next) ⌝ }
-    requires { λ _. ⌜ every (roadWorded (now text)) (table 20 (now roads)) ≡ true ⌝ }
-    requires { λ _. ⌜ length (now ends) ≡ 32768 ⌝ }
+    requires { λ _. ⌜ MendDue (now text) (now roads) (now junctions) (now connections) (now pairs) (now heads) (now next) (now ends) ⌝ }
     ensures { λ t q. ⌜ ((sections : List ℕ) → Begun (t sections) (now (ends .entry)) → outcome (answerOf q)
         (outputs (now («roads_out» .exit)) (now («junctions_out» .exit))
         (now («connections_out» .exit)) (now («pairs_out» .exit)) (now («warnings_out» .exit)))

@@ -12,7 +12,7 @@ ghost use mathlib.Core.List.{List, [], _∷_, _++_};
 ghost use Prim.Native.Nat.{ℕ, _+_, _*_, _/_, _≤_, _<_};
 ghost use lib.ListN.{length, getD, take};
 ghost use Rattle.model.specs.Tables.{Tables, mapTables};
-ghost use Rattle.repair.specs.Laying.{repairedAt, Ruled, Twice, connectionsBefore, Long, Arrays, Within};
+ghost use Rattle.repair.specs.Laying.{repairedAt, Ruled, LayDue, StepDue, Twice, connectionsBefore, Arrays, Within};
 ghost use Rattle.repair.specs.Laying.{Pile, pile, State, state, Laid, Stepped, Over};
 
 // How many connections, pairs and warnings there are.
@@ -57,7 +57,7 @@ fn lay_junction(
     ) ≡ α ⌝ }
     requires { λ _. ⌜ Ruled (now text) (now roads) (now junctions) (now connections) (now pairs) (now heads) (now next)
         (now cheads) (now cnext) ⌝ }
-    requires { λ _. ⌜ (k < length (now junctions) / 5) × Twice (now junctions) (now connections) k n p × Long (now cs) (now ps) ⌝ }
+    requires { λ _. ⌜ LayDue (now junctions) (now connections) (now cs) (now ps) k n p ⌝ }
     ensures { λ _ q. ⌜ Twice (now (junctions .entry)) (now (connections .entry)) (k + 1) (q .connections) (q .pairs) ⌝ }
     ensures { λ α q. ⌜ ((sections : List ℕ) → Laid (repairedAt (α .0 sections) (now (ends .entry)) k .connections)
         (α .1) (pile (q .connections) (q .pairs) (now (cs .exit)) (now (ps .exit)))) ⌝ }
@@ -130,9 +130,7 @@ fn repair_junction(
     ) ≡ α ⌝ }
     requires { λ _. ⌜ Ruled (now text) (now roads) (now junctions) (now connections) (now pairs) (now heads) (now next)
         (now cheads) (now cnext) ⌝ }
-    requires { λ _. ⌜ k < length (now junctions) / 5 ⌝ }
-    requires { λ _. ⌜ Twice (now junctions) (now connections) k n p × (w ≤ connectionsBefore (now junctions) k) ⌝ }
-    requires { λ _. ⌜ (length (now ends) ≡ 32768) × Arrays (now js) (now cs) (now ps) (now warn) ⌝ }
+    requires { λ _. ⌜ StepDue (now junctions) (now connections) (now ends) (now js) (now cs) (now ps) (now warn) k n p w ⌝ }
     ensures { λ _ q. ⌜ Twice (now (junctions .entry)) (now (connections .entry)) (k + 1) (q .connections) (q .pairs) ⌝ }
     ensures { λ _ q. ⌜ q .warnings ≤ connectionsBefore (now (junctions .entry)) (k + 1) ⌝ }
     ensures { λ α q. ⌜ ((sections : List ℕ) → Stepped (α .0 sections) k (α .1)

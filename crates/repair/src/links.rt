@@ -12,8 +12,7 @@ use words::tests::differs;
 use words::tests::is;
 ghost use mathlib.Core.Path.{_≡_};
 ghost use mathlib.Core.List.{List, [], _∷_};
-ghost use Prim.Native.Nat.{ℕ, _+_, _*_, _≤_, _<_};
-ghost use lib.ListN.{length};
+ghost use Prim.Native.Nat.{ℕ, _+_, _≤_, _<_};
 ghost use Rattle.model.specs.Lists.{bindO};
 ghost use Rattle.model.specs.Records.{Road};
 ghost use Rattle.model.specs.Repair.{backEnd, vacantEnd};
@@ -21,7 +20,7 @@ ghost use Rattle.model.specs.Tables.{Tables, mapTables, targetIn};
 ghost use Rattle.model.specs.Text.{sameIn};
 ghost use Rattle.words.specs.Rows.{nameAt};
 ghost use Rattle.repair.specs.Now.{Known, endOpt, run, roadNow, rowConnection};
-ghost use Rattle.repair.specs.Laying.{shownAt, Linked};
+ghost use Rattle.repair.specs.Laying.{shownAt, Linked, LinkDue, LinksDue};
 
 // The end of connection c's incoming road that a target names, plus 1; 0 where it names none.
 fn back_end(text: &[u8], words: [u32; 7], connections: &[u32], c: usize) -> usize
@@ -106,8 +105,7 @@ fn missing_link(
 ) -> usize
     ghost { List ℕ → List ℕ → Tables }
     requires { λ t. ⌜ (λ sections pairs. mapTables (now text) (now roads) sections (now junctions) (now connections) pairs) ≡ t ⌝ }
-    requires { λ _. ⌜ (k < 16384) × (c < 8192) × (w < 16384) × (w * 4 + 4 ≤ length (now warn)) ⌝ }
-    requires { λ _. ⌜ (length (now ends) ≡ 32768) × Known (now text) (now roads) (now heads) (now next) ⌝ }
+    requires { λ _. ⌜ LinkDue (now text) (now roads) (now heads) (now next) (now ends) (now warn) k c w ⌝ }
     ensures { λ _ q. ⌜ q ≤ w + 1 ⌝ }
     ensures { λ t q. ⌜ ((sections pairs : List ℕ) → Linked (t sections pairs) k (rowConnection (t sections pairs) c ∷ [])
         (now (ends .entry)) (now (ends .exit)) w q (now (warn .entry)) (now (warn .exit))) ⌝ }
@@ -157,9 +155,7 @@ pub fn missing_links(
 ) -> usize
     ghost { List ℕ → List ℕ → Tables }
     requires { λ t. ⌜ (λ sections pairs. mapTables (now text) (now roads) sections (now junctions) (now connections) pairs) ≡ t ⌝ }
-    requires { λ _. ⌜ (k < 16384) × (first + m ≤ 8192) × (w ≤ first) ⌝ }
-    requires { λ _. ⌜ (length (now ends) ≡ 32768) × (length (now warn) ≡ 32768) ⌝ }
-    requires { λ _. ⌜ Known (now text) (now roads) (now heads) (now next) ⌝ }
+    requires { λ _. ⌜ LinksDue (now text) (now roads) (now heads) (now next) (now ends) (now warn) k first m w ⌝ }
     ensures { λ _ q. ⌜ q ≤ w + m ⌝ }
     ensures { λ t q. ⌜ ((sections pairs : List ℕ) → Linked (t sections pairs) k (run (rowConnection (t sections pairs)) first m)
         (now (ends .entry)) (now (ends .exit)) w q (now (warn .entry)) (now (warn .exit))) ⌝ }

@@ -17,9 +17,9 @@ ghost use lib.ListN.{length};
 ghost use Rattle.model.specs.Tables.{Tables, mapTables};
 ghost use Rattle.model.specs.Text.{sameIn};
 ghost use Rattle.words.specs.Rows.{any, nameFrom};
-ghost use Rattle.repair.specs.Now.{Known, rowConnection};
-ghost use Rattle.repair.specs.Laying.{turnedAt, backList, backFrom, reversedAt, Pile, pile, Laid, Long};
-ghost use Rattle.repair.specs.Laying.{Small, Chain, RoomForAll, pairsBefore};
+ghost use Rattle.repair.specs.Now.{rowConnection};
+ghost use Rattle.repair.specs.Laying.{turnedAt, backList, backFrom, reversedAt, Pile, pile, Laid};
+ghost use Rattle.repair.specs.Laying.{Chain, ContactDue, BackDue, pairsBefore};
 
 // Whether the names at words i and j of a table are equal.
 fn same_at(text: &[u8], ws: &[u32], i: usize, j: usize) -> bool
@@ -84,8 +84,7 @@ fn back_contact(
 ) -> usize
     ghost { List ℕ → List ℕ → Tables }
     requires { λ t. ⌜ (λ sections pairs. mapTables (now text) (now roads) sections (now junctions) (now connections) pairs) ≡ t ⌝ }
-    requires { λ _. ⌜ (k < 16384) × (c < 16384) × (first + m ≤ length (now connections) / 7) ⌝ }
-    requires { λ _. ⌜ Known (now text) (now roads) (now heads) (now next) × Chain (now text) (now connections) (now cheads) (now cnext) ⌝ }
+    requires { λ _. ⌜ ContactDue (now text) (now roads) (now connections) (now heads) (now next) (now cheads) (now cnext) k first m c ⌝ }
     ensures { λ _ q. ⌜ q ≤ 2 ⌝ }
     ensures { λ t q. ⌜ ((sections pairs : List ℕ) → backList q (rowConnection (t sections pairs) c)
         ≡ backFrom (t sections pairs) (now (ends .entry)) k first m (rowConnection (t sections pairs) c)) ⌝ }
@@ -126,9 +125,8 @@ pub fn reversed(
       (λ sections. mapTables (now text) (now roads) sections (now junctions) (now connections) (now pairs)),
       pile n p (now cs) (now ps),
     ) ≡ α ⌝ }
-    requires { λ _. ⌜ (k < 16384) × Small (now pairs) (now connections) ⌝ }
-    requires { λ _. ⌜ RoomForAll (now connections) first m n p × Long (now cs) (now ps) ⌝ }
-    requires { λ _. ⌜ Known (now text) (now roads) (now heads) (now next) × Chain (now text) (now connections) (now cheads) (now cnext) ⌝ }
+    requires { λ _. ⌜ BackDue (now text) (now roads) (now connections) (now pairs) (now heads) (now next) (now cheads) (now cnext)
+        (now cs) (now ps) k first m n p ⌝ }
     ensures { λ _ q. ⌜ q .connections ≤ n + m ⌝ }
     ensures { λ _ q. ⌜ q .pairs + pairsBefore (now (connections .entry)) first ≤ p + pairsBefore (now (connections .entry)) (first + m) ⌝ }
     ensures { λ α q. ⌜ ((sections : List ℕ) → Laid (reversedAt (α .0 sections) (now (ends .entry)) k first m)

@@ -12,8 +12,8 @@ use borrow.Author.Tests.{ltb-true}
 use Rattle.model.specs.Calls.{ListOutputs, RepairOutputs, ReversalOutputs, Writing, called, gapCall, gapContent}
 use Rattle.model.specs.Calls.{gapRules, gapWidth, laneRules, listContent, listLengths, listWriting, longEnough}
 use Rattle.model.specs.Calls.{markRules, repairCall, repairContent, repairCounts, repairRules, repairWriting}
-use Rattle.model.specs.Calls.{reversalCall, reversalContent, reversalCounts, reversalRules, reversalWriting, rulesTo5, settled}
-use Rattle.model.specs.Calls.{successionCall, successionRules, tableRules, tableWriting, wrote}
+use Rattle.model.specs.Calls.{reversalCall, reversalContent, reversalCounts, reversalRules, reversalWriting, rulesTo5}
+use Rattle.model.specs.Calls.{settled, successionCall, successionRules, tableRules, tableWriting, wrote}
 use Rattle.model.specs.Lists.{every}
 use Rattle.model.specs.Reading.{RawTables}
 use Rattle.model.specs.ReadingCalls.{JunctionOutputs, junctionContent, junctionCounts, junctionWriting}

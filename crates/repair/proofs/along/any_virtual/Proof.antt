@@ -7,7 +7,7 @@ use Rattle.words.proofs.Loops.{Lookup, look-begin, look-less, look-on, look-row
 use Rattle.words.specs.Keys.{hashName, nameHash}
 use Rattle.words.specs.Rows.{span}
 use lib.ListN.{length}
-use Prim.Native.Nat.{ℕ, _+_, _*_, _-_, _/_, _<_}
+use Prim.Native.Nat.{_+_, _*_, _-_, _/_, _<_}
 use native.Mathlib.Omega.{arith}
 use mathlib.Core.Path.{sym, _∙_}
 use Rattle.repair.proofs.along.any_virtual.Statement.{statement}

@@ -4,7 +4,7 @@ use Rattle.words.specs.Rows.{any, span}
 use Rattle.model.specs.Tables.{isAbsent}
 use mathlib.Core.Bool.{not, _&&_}
 use lib.ListN.{length}
-use Prim.Native.Nat.{ℕ, _-_, _/_}
+use Prim.Native.Nat.{ℕ, _/_}
 use mathlib.Core.Path.{ap₂, _∙_}
 use borrow.Author.Needs.{needs}
 use Rattle.repair.proofs.along.in_virtual.Statement.{statement}

@@ -2,7 +2,7 @@
 use Rattle.repair.specs.Along.{isVirtualOf}
 use Rattle.rules.proofs.Leaves.{both-is}
 use lib.Dec.{leb}
-use Prim.Native.Nat.{ℕ, _-_}
+use Prim.Native.Nat.{ℕ}
 use mathlib.Core.Path.{ap}
 use borrow.Author.Needs.{needs}
 use Rattle.repair.proofs.along.is_virtual.Statement.{statement}

@@ -4,7 +4,7 @@ use Rattle.model.specs.Tables.{bit}
 use lib.ListN.{set, length-set}
 use lib.Dec.{eqb}
 use mathlib.Core.Bool.{Bool}
-use Prim.Native.Nat.{ℕ, _+_, _*_, _-_}
+use Prim.Native.Nat.{ℕ, _+_, _*_}
 use native.Mathlib.Omega.{arith}
 use mathlib.Core.Path.{ap, ap₂, _∙_}
 use borrow.Author.Needs.{needs}

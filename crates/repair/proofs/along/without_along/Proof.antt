@@ -3,7 +3,7 @@ use Rattle.repair.proofs.Virtual.{roads-start}
 use Rattle.words.proofs.Chains.{fresh}
 use Rattle.words.proofs.KeyLaws.{rows-in}
 use lib.ListN.{length-replicate}
-use Prim.Native.Nat.{ℕ, _-_}
+use Prim.Native.Nat.{ℕ}
 use native.Mathlib.Omega.{arith}
 use mathlib.Core.Path.{_∙_}
 use borrow.Author.Needs.{needs}

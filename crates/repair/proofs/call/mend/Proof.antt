@@ -31,7 +31,7 @@ slice-aggregate-link-names-2 c = search needs
 link-names-requires : tie.Need-link-names-requires
 link-names-requires c κs =
     let start : tie.Start = search in
-    ((omega arith, omega arith, rows-in _ 7, omega (arith, start .pre .0 .few)), fresh)
+    ((omega arith, omega arith, rows-in _ 7, omega (arith, start .pre .small .few)), fresh)
 
 slice-aggregate-junctions : tie.Need-slice-aggregate-junctions
 slice-aggregate-junctions c = search needs
@@ -58,18 +58,18 @@ junctions-requires c κs =
     let pre = start .pre in
     let kept = linked .link-names .kept .1 .1 .1 .1 .1 in (
       record {
-        small = pre .0;
-        joined = pre .1 .0;
-        known = pre .1 .1 .0;
+        small = pre .small;
+        joined = pre .joined;
+        known = pre .known;
         chain = record {
-          few = pre .0 .few;
+          few = pre .small .few;
           heads-long = kept .0 ∙ length-replicate {A = ℕ} 16384 0;
           next-long = kept .1 .0 ∙ length-replicate {A = ℕ} 16384 0;
           chained = linked .link-names .ensures .1;
         };
       },
       (
-        pre .1 .1 .1 .1,
+        pre .ends-long,
         record {
           junctions-long = length-replicate {A = ℕ} 81920 0;
           long = record {
@@ -97,20 +97,20 @@ write-requires : tie.Need-write-requires
 write-requires c κs =
     let repaired : tie.After-junctions = search in
     let pre = start (linked repaired) .pre in
-    let kept = repaired .junctions .kept .1 .1 .1 .1 .1 .1 .1 .1 .1 .1 in (
-      (pre .1 .1 .0 .few, pre .1 .0 .few),
-      (
-        repaired .junctions .ensures .0,
-        record {
-          junctions-long = kept .1 .0 ∙ length-replicate {A = ℕ} 81920 0;
-          long = record {
-            connections-long = kept .1 .1 .0 ∙ length-replicate {A = ℕ} 114688 0;
-            pairs-long = kept .1 .1 .1 .0 ∙ length-replicate {A = ℕ} 32768 0;
-          };
-          warnings-long = kept .0 ∙ length-replicate {A = ℕ} 32768 0;
-        },
-      ),
-    )
+    let kept = repaired .junctions .kept .1 .1 .1 .1 .1 .1 .1 .1 .1 .1 in
+    record {
+      roads-few = pre .known .few;
+      junctions-few = pre .joined .few;
+      within = repaired .junctions .ensures .0;
+      arrays = record {
+        junctions-long = kept .1 .0 ∙ length-replicate {A = ℕ} 81920 0;
+        long = record {
+          connections-long = kept .1 .1 .0 ∙ length-replicate {A = ℕ} 114688 0;
+          pairs-long = kept .1 .1 .1 .0 ∙ length-replicate {A = ℕ} 32768 0;
+        };
+        warnings-long = kept .0 ∙ length-replicate {A = ℕ} 32768 0;
+      };
+    }
 
 same-length : tie.Need-same-length
 same-length c = search needs
@@ -144,7 +144,7 @@ returns c =
     mapTables (args .text .now) (args .roads .now) sections (args .junctions .now) (args .connections .now)
     (args .pairs .now) in
     let content-is =
-    content-is tables (start .pre .1 .0) (start .pre .1 .1 .1 .0) begun (repaired .junctions .ensures .1 sections) in
+    content-is tables (start .pre .joined) (start .pre .worded) begun (repaired .junctions .ensures .1 sections) in
     written .write .ensures ∙ ap (λ (content : RepairOutputs). writtenOr9 repairWriting content lent) content-is
 
 pub mend-spec : {M : Type 1} → statement M

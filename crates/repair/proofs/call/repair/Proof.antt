@@ -1,7 +1,6 @@
 -- `repair` refuses by its verdict, or has the rows that `mend` writes: `call-refused` and `call-admitted`.
 use Rattle.repair.proofs.CallLaws.{Ready, ready, start-is}
 use Rattle.repair.specs.Answers.{outputs}
-use Rattle.repair.specs.Now.{Known}
 use Rattle.words.proofs.Chains.{fresh}
 use Rattle.tables.proofs.Called.{call-admitted, call-refused}
 use Rattle.tables.proofs.Order.{is-none}
@@ -93,15 +92,19 @@ mend-requires c κs =
     let past : tie.Else1 = search in
     let known = ready-for past in
     let kept = judged past .repair-verdict .kept .1 .1 .1 .1 .1 .1 in
-    let roads-known : Known _ _ _ _ = record {
-      few = known .few-roads;
-      heads-long = kept .0 ∙ length-replicate {A = ℕ} 16384 0;
-      next-long = kept .1 .0 ∙ length-replicate {A = ℕ} 16384 0;
-      chained = judged past .repair-verdict .ensures .1 (no-refusal past);
-      once = known .once;
-    } in
-    let ends-long = begun .without-along .kept .1 .1 .1 .0 ∙ length-replicate {A = ℕ} 32768 0 in
-    (known .small, (known .joined, (roads-known, (known .worded, ends-long))))
+    record {
+      small = known .small;
+      joined = known .joined;
+      known = record {
+        few = known .few-roads;
+        heads-long = kept .0 ∙ length-replicate {A = ℕ} 16384 0;
+        next-long = kept .1 .0 ∙ length-replicate {A = ℕ} 16384 0;
+        chained = judged past .repair-verdict .ensures .1 (no-refusal past);
+        once = known .once;
+      };
+      worded = known .worded;
+      ends-long = begun .without-along .kept .1 .1 .1 .0 ∙ length-replicate {A = ℕ} 32768 0;
+    }
 
 same-length : tie.Need-same-length
 same-length c = search needs

@@ -39,11 +39,11 @@ module _ (tried : tie.After-fit) where
 
   whole : InRows content road-count junction-count (start .args .n) (start .args .p) (start .args .w)
   whole =
-      let few = start .pre .1 .0 in
-      let arrays = start .pre .1 .1 in
+      let few = start .pre .within in
+      let arrays = start .pre .arrays in
       record {
         road-words = roads-width _ _ _ _;
-        junction-words = length-take-le _ _ (omega (arith, start .pre .0 .1, arrays .junctions-long));
+        junction-words = length-take-le _ _ (omega (arith, start .pre .junctions-few, arrays .junctions-long));
         connection-words = length-take-le _ _ (omega (arith, few .connections-few, arrays .long .connections-long));
         pair-words = length-take-le _ _ (omega (arith, few .pairs-few, arrays .long .pairs-long));
         warning-words = length-take-le _ _ (omega (arith, few .warnings-few, arrays .warnings-long));
@@ -91,7 +91,7 @@ returns c =
 put-roads-requires : tie.Need-put-roads-requires
 put-roads-requires c κs =
     let past : tie.Else1 = search in
-    (given past .pre .0 .0, fitting past .0)
+    (given past .pre .roads-few, fitting past .0)
 
 mul-copy-part : tie.Need-mul-copy-part
 mul-copy-part c = search needs
@@ -99,41 +99,41 @@ mul-copy-part c = search needs
 copy-part-requires : tie.Need-copy-part-requires
 copy-part-requires c κs =
     let past : tie.Else1 = search in
-    let pre = given past .pre in
-    (omega (arith, pre .0 .1, pre .1 .1 .junctions-long), fitting past .1)
+    let due = given past .pre in
+    (omega (arith, due .junctions-few, due .arrays .junctions-long), fitting past .1)
 
 mul-copy-part-2 : tie.Need-mul-copy-part-2
 mul-copy-part-2 c =
     let past : tie.Else1 = search in
-    omega (arith, given past .pre .1 .0 .connections-few)
+    omega (arith, given past .pre .within .connections-few)
 
 copy-part-requires-2 : tie.Need-copy-part-requires-2
 copy-part-requires-2 c κs =
     let past : tie.Else1 = search in
-    let pre = given past .pre .1 in
-    (omega (arith, pre .0 .connections-few, pre .1 .long .connections-long), fitting past .2)
+    let due = given past .pre in
+    (omega (arith, due .within .connections-few, due .arrays .long .connections-long), fitting past .2)
 
 mul-copy-part-3 : tie.Need-mul-copy-part-3
 mul-copy-part-3 c =
     let past : tie.Else1 = search in
-    omega (arith, given past .pre .1 .0 .pairs-few)
+    omega (arith, given past .pre .within .pairs-few)
 
 copy-part-requires-3 : tie.Need-copy-part-requires-3
 copy-part-requires-3 c κs =
     let past : tie.Else1 = search in
-    let pre = given past .pre .1 in
-    (omega (arith, pre .0 .pairs-few, pre .1 .long .pairs-long), fitting past .3)
+    let due = given past .pre in
+    (omega (arith, due .within .pairs-few, due .arrays .long .pairs-long), fitting past .3)
 
 mul-copy-part-4 : tie.Need-mul-copy-part-4
 mul-copy-part-4 c =
     let past : tie.Else1 = search in
-    omega (arith, given past .pre .1 .0 .warnings-few)
+    omega (arith, given past .pre .within .warnings-few)
 
 copy-part-requires-4 : tie.Need-copy-part-requires-4
 copy-part-requires-4 c κs =
     let past : tie.Else1 = search in
-    let pre = given past .pre .1 in
-    (omega (arith, pre .0 .warnings-few, pre .1 .warnings-long), fitting past .4)
+    let due = given past .pre in
+    (omega (arith, due .within .warnings-few, due .arrays .warnings-long), fitting past .4)
 
 same-length : tie.Need-same-length
 same-length c = search needs

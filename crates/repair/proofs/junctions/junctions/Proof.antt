@@ -4,7 +4,7 @@ use Rattle.repair.specs.Laying.{Arrays, Over, Twice, connectionsBefore, 
 use Rattle.model.specs.Tables.{Tables, mapTables}
 use lib.ListN.{length}
 use mathlib.Core.List.{List}
-use Prim.Native.Nat.{ℕ, _+_, _-_, _/_, _≤_}
+use Prim.Native.Nat.{ℕ, _-_, _/_, _≤_}
 use native.Mathlib.Omega.{arith}
 use mathlib.Core.Path.{_≡_, ap, _∙_}
 use Rattle.repair.proofs.junctions.junctions.Statement.{statement}
@@ -63,7 +63,13 @@ repair-junction-requires c κs =
     let head : Head = search in
     let held = head .loop .inv in (
       start head .pre .0,
-      (turn .loop-test .taken, ((held .twice, held .warnings), (held .ends-long, held .arrays))),
+      record {
+        inside = turn .loop-test .taken;
+        twice = held .twice;
+        warnings = held .warnings;
+        ends-long = held .ends-long;
+        arrays = held .arrays;
+      },
     )
 
 add-k : tie.Need-add-k Inv-loop μ-loop

@@ -6,7 +6,7 @@ use Rattle.repair.proofs.Piles.{laid-on, laid-same}
 use Rattle.repair.specs.Laying.{Long}
 use Rattle.model.specs.Tables.{Tables, mapTables}
 use mathlib.Core.List.{List}
-use Prim.Native.Nat.{ℕ, _-_}
+use Prim.Native.Nat.{ℕ}
 use native.Mathlib.Omega.{arith}
 use mathlib.Core.Path.{_∙_}
 use borrow.Author.Needs.{needs}
@@ -44,7 +44,7 @@ module _ (counted : tie.After-index-at3) where
 
   part : Part (given .args .junctions .now) (given .args .connections .now) (given .args .pairs .now)
       (given .args .k) (first .index-at2 .result) (counted .index-at3 .result)
-  part = part-of (given .pre .0 .small) (given .pre .0 .joined) (given .pre .1 .0) read
+  part = part-of (given .pre .0 .small) (given .pre .0 .joined) (given .pre .1 .inside) read
 
 mul-index-at : tie.Need-mul-index-at
 mul-index-at c = search needs
@@ -77,8 +77,8 @@ put-own-requires : tie.Need-put-own-requires
 put-own-requires c κs =
     let counted : tie.After-index-at3 = search in
     let ruled = given counted .pre .0 in
-    let twice = given counted .pre .1 .1 in
-    (ruled .small, room-own (ruled .small) (part counted) twice, given counted .pre .1 .2)
+    let twice = given counted .pre .1 .twice in
+    (ruled .small, room-own (ruled .small) (part counted) twice, given counted .pre .1 .long)
 
 only-requires : tie.Need-only-requires
 only-requires c κs = search needs
@@ -87,7 +87,7 @@ add-reversed : tie.Need-add-reversed
 add-reversed c =
     let counted : tie.After-index-at3 = search in
     let ruled = given counted .pre .0 in
-    omega (arith, room-own (ruled .small) (part counted) (given counted .pre .1 .1) .rows)
+    omega (arith, room-own (ruled .small) (part counted) (given counted .pre .1 .twice) .rows)
 
 reversed-requires : tie.Need-reversed-requires
 reversed-requires c κs =
@@ -98,14 +98,18 @@ reversed-requires c κs =
     let ruled = pre .0 in
     let kept = laid .put-own .kept .1 .1 .1 .1 .1 .1 in
     let long : Long _ _ = record {
-      connections-long = kept .0 ∙ pre .1 .2 .connections-long;
-      pairs-long = kept .1 .0 ∙ pre .1 .2 .pairs-long;
+      connections-long = kept .0 ∙ pre .1 .long .connections-long;
+      pairs-long = kept .1 .0 ∙ pre .1 .long .pairs-long;
     } in
-    let room =
-    room-back (ruled .small) (part counted) (pre .1 .1) _ _ (direct .only .ensures .1) (laid .put-own .ensures .0) in (
-      (omega (arith, pre .1 .0, ruled .joined .few), ruled .small),
-      ((room, long), (ruled .known, ruled .chain)),
-    )
+    record {
+      junction-few = omega (arith, pre .1 .inside, ruled .joined .few);
+      small = ruled .small;
+      known = ruled .known;
+      chain = ruled .chain;
+      room = room-back (ruled .small) (part counted) (pre .1 .twice) _ _ (direct .only .ensures .1)
+          (laid .put-own .ensures .0);
+      long = long;
+    }
 
 same-length : tie.Need-same-length
 same-length c = search needs
@@ -120,7 +124,7 @@ returns c =
     let laid : tie.After-put-own = search in
     let counted : tie.After-index-at3 = search in
     let pre = given counted .pre in (
-      twice-more (pre .0 .small) (part counted) (pre .1 .1) _ _ (direct .only .ensures .1)
+      twice-more (pre .0 .small) (part counted) (pre .1 .twice) _ _ (direct .only .ensures .1)
           (laid .put-own .ensures .0) (back .reversed .ensures .0) (back .reversed .ensures .1 .0),
       λ ss.
           laid-same (junction-connections (tables counted ss) _ (read counted) (direct .only .ensures .0))

@@ -6,7 +6,7 @@ use Rattle.model.specs.Repair.{Warning}
 use Rattle.model.specs.Tables.{Tables, mapTables}
 use lib.ListN.{take}
 use mathlib.Core.List.{List, [], _++_}
-use Prim.Native.Nat.{ℕ, _*_, _-_, _≤_}
+use Prim.Native.Nat.{ℕ, _*_}
 use native.Mathlib.Omega.{arith}
 use mathlib.Core.Path.{ap, _∙_}
 use borrow.Author.Needs.{needs}
@@ -44,7 +44,7 @@ module _ (counted : tie.After-index-at3) where
 
   part : Part (given .args .junctions .now) (given .args .connections .now) (given .args .pairs .now)
       (given .args .k) (first .index-at2 .result) (counted .index-at3 .result)
-  part = part-of (given .pre .0 .small) (given .pre .0 .joined) (given .pre .1 .0) read
+  part = part-of (given .pre .0 .small) (given .pre .0 .joined) (given .pre .1 .inside) read
 
 mul-index-at : tie.Need-mul-index-at
 mul-index-at c = search needs
@@ -76,7 +76,8 @@ index-at-requires-3 c κs = search needs
 lay-junction-requires : tie.Need-lay-junction-requires
 lay-junction-requires c κs =
     let counted : tie.After-index-at3 = search in
-    let pre = given counted .pre in (pre .0, (pre .1 .0, pre .1 .1 .0 .0, pre .1 .1 .1 .1 .long))
+    let pre = given counted .pre in
+    (pre .0, record { inside = pre .1 .inside; twice = pre .1 .twice; long = pre .1 .arrays .long })
 
 sub-put-junction : tie.Need-sub-put-junction
 sub-put-junction c =
@@ -90,10 +91,10 @@ put-junction-requires c κs =
     let part = part counted in
     let few = pre .0 .small .few in
     let twice = laid .lay-junction .ensures .0 in (
-      omega (arith, pre .1 .0, pre .0 .joined .few),
-      omega (arith, pre .1 .1 .0 .0 .rows, part .begins, part .inside, few),
+      omega (arith, pre .1 .inside, pre .0 .joined .few),
+      omega (arith, pre .1 .twice .rows, part .begins, part .inside, few),
       omega (arith, twice .rows, part .finish, part .inside, few),
-      pre .1 .1 .1 .1 .junctions-long,
+      pre .1 .arrays .junctions-long,
     )
 
 only-requires : tie.Need-only-requires
@@ -104,14 +105,15 @@ missing-links-requires c κs =
     let common : tie.After-only = search in
     let counted : tie.After-index-at3 = search in
     let pre = given counted .pre in
-    let part = part counted in (
-      (
-        omega (arith, pre .1 .0, pre .0 .joined .few),
-        omega (arith, part .inside, pre .0 .small .few, common .only .ensures .1),
-        omega (arith, part .begins, pre .1 .1 .0 .1),
-      ),
-      ((pre .1 .1 .1 .0, pre .1 .1 .1 .1 .warnings-long), pre .0 .known),
-    )
+    let part = part counted in
+    record {
+      junction-few = omega (arith, pre .1 .inside, pre .0 .joined .few);
+      connections-few = omega (arith, part .inside, pre .0 .small .few, common .only .ensures .1);
+      warnings-few = omega (arith, part .begins, pre .1 .warnings);
+      ends-long = pre .1 .ends-long;
+      warnings-long = pre .1 .arrays .warnings-long;
+      known = pre .0 .known;
+    }
 
 same-length : tie.Need-same-length
 same-length c = search needs
@@ -148,7 +150,7 @@ returns c =
           common .only .ensures .1,
           part .begins,
           part .finish,
-          pre .1 .1 .0 .1,
+          pre .1 .warnings,
         ),
         λ ss.
             let t = tables counted ss in
@@ -158,7 +160,7 @@ returns c =
               roads = step .roads ∙ junction-roads t _ read only;
               row = put .put-junction .ensures
                   ∙ ap (λ (l : List ℕ). take (args .k * 5) (args .js .now) ++ l)
-                  (junction-row t _ (args .k) (args .n) (pre .0 .joined .kinds (args .k) (pre .1 .0))
+                  (junction-row t _ (args .k) (args .n) (pre .0 .joined .kinds (args .k) (pre .1 .inside))
                   (omega (arith, own .rows)));
               laid = own;
               warned = step .warned

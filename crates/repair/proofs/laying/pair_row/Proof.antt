@@ -1,7 +1,7 @@
 -- `pair_row` is the pair as read, or the other way.
 use Rattle.repair.proofs.Piles.{pair-plain, pair-turned}
 use mathlib.Core.List.{[], _∷_}
-use Prim.Native.Nat.{ℕ, _-_}
+use Prim.Native.Nat.{ℕ}
 use mathlib.Core.Path.{ap₂, _∙_}
 use borrow.Author.Needs.{needs}
 use Rattle.repair.proofs.laying.pair_row.Statement.{statement}

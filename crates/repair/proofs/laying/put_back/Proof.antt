@@ -2,7 +2,7 @@
 use Rattle.repair.proofs.Piles.{laid-same, laid-none, back-list}
 use Rattle.repair.specs.Laying.{backList}
 use Rattle.repair.specs.Now.{connectionAt}
-use Prim.Native.Nat.{ℕ, _-_}
+use Prim.Native.Nat.{ℕ}
 use native.Mathlib.Omega.{arith}
 use mathlib.Core.Path.{sym, ap}
 use borrow.Author.Needs.{needs}

@@ -5,7 +5,7 @@ use Rattle.repair.specs.Laying.{rowWords}
 use Rattle.words.specs.Rows.{spliced}
 use lib.ListN.{length}
 use mathlib.Core.List.{List}
-use Prim.Native.Nat.{ℕ, _+_, _*_, _-_, _≤_}
+use Prim.Native.Nat.{ℕ, _+_, _*_, _≤_}
 use native.Mathlib.Omega.{arith}
 use mathlib.Core.Path.{_≡_, ap, _∙_}
 use borrow.Author.Needs.{needs}

@@ -4,7 +4,6 @@ use Rattle.repair.specs.Laying.{Laid, Long, RoomFor, pairsBefore, pile}
 use Rattle.repair.specs.Now.{connectionAt}
 use Rattle.words.specs.Rows.{tab}
 use native.Mathlib.Nat.{add-zero}
-use lib.ListN.{length}
 use mathlib.Core.List.{List}
 use Prim.Native.Nat.{ℕ, _+_, _-_, _≤_}
 use native.Mathlib.Omega.{arith}

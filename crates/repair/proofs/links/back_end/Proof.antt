@@ -6,7 +6,7 @@ use Rattle.words.specs.Rows.{nameAt, span}
 use Rattle.model.specs.Records.{Span}
 use Rattle.model.specs.Text.{sameIn}
 use lib.ListN.{getD}
-use Prim.Native.Nat.{ℕ, _+_, _-_}
+use Prim.Native.Nat.{ℕ, _+_}
 use native.Mathlib.Omega.{arith}
 use mathlib.Core.Path.{_≡_, sym, ap, ap₂, _∙_}
 use borrow.Author.Needs.{needs}

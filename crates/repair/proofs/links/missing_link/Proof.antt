@@ -9,7 +9,7 @@ use Rattle.model.specs.Repair.{missingEnd}
 use Rattle.model.specs.Rules.{same}
 use Rattle.model.specs.Tables.{Tables, mapTables}
 use mathlib.Core.List.{List}
-use Prim.Native.Nat.{ℕ, suc, _*_, _-_, _≤_, _<_}
+use Prim.Native.Nat.{ℕ, suc, _-_, _≤_, _<_}
 use native.Mathlib.Omega.{arith}
 use mathlib.Core.Path.{_≡_, sym, ap, _∙_}
 use borrow.Author.Needs.{needs}
@@ -42,7 +42,7 @@ module _ (known : tie.Else1) where
       up ∙ found .road-of .ensures .0
 
   row-few : row < 16384
-  row-few = omega (arith, found .road-of .ensures .1, start found .pre .1 .1 .few, known .if1 .left)
+  row-few = omega (arith, found .road-of .ensures .1, start found .pre .known .few, known .if1 .left)
 
 -- ---- and `missing_end` says what the connection shows
 module _ (asked : tie.After-missing-end) where
@@ -56,7 +56,7 @@ module _ (asked : tie.After-missing-end) where
       (rowConnection (tables (found known) ss ps) (start (found known) .args .c))
       ≡ endOpt (asked .missing-end .result)
   shown ss ps =
-      end-known (tables (found known) ss ps) _ (start (found known) .pre .1 .1 .once) _ _ _ (row-found known)
+      end-known (tables (found known) ss ps) _ (start (found known) .pre .known .once) _ _ _ (row-found known)
       (asked .missing-end .ensures .1 ss ps)
 
 -- ---- there is such an end
@@ -74,19 +74,19 @@ module _ (there : tie.Else2) where
   end-small = omega (arith, asked .missing-end .ensures .0, there .if2 .left)
 
 mul-road-of : tie.Need-mul-road-of
-mul-road-of c = let start : tie.Start = search in omega (arith, start .pre .0 .1)
+mul-road-of c = let start : tie.Start = search in omega (arith, start .pre .connection-few)
 
 add-road-of : tie.Need-add-road-of
-add-road-of c = let start : tie.Start = search in omega (arith, start .pre .0 .1)
+add-road-of c = let start : tie.Start = search in omega (arith, start .pre .connection-few)
 
 road-of-requires : tie.Need-road-of-requires
-road-of-requires c κs = let start : tie.Start = search in (omega (arith, start .pre .0 .1), start .pre .1 .1)
+road-of-requires c κs = let start : tie.Start = search in (omega (arith, start .pre .connection-few), start .pre .known)
 
 returns : tie.Need-returns
 returns c =
     let found : tie.After-road-of = search in
     let unknown = sym (c .if1 .taken) ∙ found .road-of .ensures .0 in
-    let once = start found .pre .1 .1 .once in
+    let once = start found .pre .known .once in
     (omega arith, λ ss ps. linked-none _ _ once _ _ _ _ (end-unknown (tables found ss ps) _ once _ _ unknown))
 
 sub-r : tie.Need-sub-r
@@ -98,7 +98,7 @@ cast-id c = let known : tie.Else1 = search in omega (arith, row-few known)
 missing-end-requires : tie.Need-missing-end-requires
 missing-end-requires c κs =
     let known : tie.Else1 = search in
-    let pre = start (found known) .pre in (row-few known, pre .0 .0, pre .0 .1, pre .1 .1)
+    let due = start (found known) .pre in (row-few known, due .junction-few, due .connection-few, due .known)
 
 same-length : tie.Need-same-length
 same-length c = omega arith
@@ -106,7 +106,7 @@ same-length c = omega arith
 returns-2 : tie.Need-returns-2
 returns-2 c =
     let asked : tie.After-missing-end = search in
-    let once = start (found (known asked)) .pre .1 .1 .once in (
+    let once = start (found (known asked)) .pre .known .once in (
       omega arith,
       λ ss ps. linked-none _ _ once _ _ _ _ (shown asked ss ps ∙ ap endOpt (c .if2 .taken)),
     )
@@ -115,10 +115,10 @@ sub-end : tie.Need-sub-end
 sub-end c = omega (arith, c .if2 .left)
 
 add-ends : tie.Need-add-ends
-add-ends c = let there : tie.Else2 = search in omega (arith, given there .pre .0 .0)
+add-ends c = let there : tie.Else2 = search in omega (arith, given there .pre .junction-few)
 
 cast-ends : tie.Need-cast-ends
-cast-ends c = let there : tie.Else2 = search in omega (arith, given there .pre .0 .0)
+cast-ends c = let there : tie.Else2 = search in omega (arith, given there .pre .junction-few)
 
 mul-ends : tie.Need-mul-ends
 mul-ends c = let there : tie.Else2 = search in omega (arith, row-few (known (asked there)))
@@ -132,25 +132,25 @@ mul-ends-2 c = let there : tie.Else2 = search in omega (arith, row-few (known (a
 slice-write-ends : tie.Need-slice-write-ends
 slice-write-ends c =
     let there : tie.Else2 = search in
-    omega (arith, row-few (known (asked there)), end-small there, given there .pre .1 .0)
+    omega (arith, row-few (known (asked there)), end-small there, given there .pre .ends-long)
 
 cast-t24 : tie.Need-cast-t24
-cast-t24 c = let there : tie.Else2 = search in omega (arith, given there .pre .0 .0)
+cast-t24 c = let there : tie.Else2 = search in omega (arith, given there .pre .junction-few)
 
 cast-t28 : tie.Need-cast-t28
 cast-t28 c = let there : tie.Else2 = search in omega (arith, end-small there)
 
 mul-put : tie.Need-mul-put
-mul-put c = let there : tie.Else2 = search in omega (arith, given there .pre .0 .2)
+mul-put c = let there : tie.Else2 = search in omega (arith, given there .pre .warnings-few)
 
 slice-aggregate-put : tie.Need-slice-aggregate-put
 slice-aggregate-put c = search needs
 
 put-requires : tie.Need-put-requires
-put-requires c κs = let there : tie.Else2 = search in omega (arith, given there .pre .0 .3)
+put-requires c κs = let there : tie.Else2 = search in omega (arith, given there .pre .room)
 
 add-result : tie.Need-add-result
-add-result c = let there : tie.Else2 = search in omega (arith, given there .pre .0 .2)
+add-result c = let there : tie.Else2 = search in omega (arith, given there .pre .warnings-few)
 
 same-length-2 : tie.Need-same-length-2
 same-length-2 c = search needs
@@ -164,12 +164,12 @@ returns-3 c =
     let there : tie.Else2 = search in
     let asked = asked there in
     let known = known asked in
-    let pre = given there .pre in (
+    let due = given there .pre in (
       omega arith,
       λ ss ps.
-          linked-one (tables (found known) ss ps) _ (pre .1 .1 .once) _ _ (row known) (end there)
-          (end-small there) (pre .1 .0) (row-few known) (row-found known)
-          (shown asked ss ps ∙ end-some _ (there .if2 .left)) _ _ (pre .0 .3) (put .put .ensures),
+          linked-one (tables (found known) ss ps) _ (due .known .once) _ _ (row known) (end there)
+          (end-small there) (due .ends-long) (row-few known) (row-found known)
+          (shown asked ss ps ∙ end-some _ (there .if2 .left)) _ _ (due .room) (put .put .ensures),
     )
 
 pub missing-link-spec : {M : Type 1} → statement M

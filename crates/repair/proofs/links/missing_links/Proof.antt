@@ -46,8 +46,8 @@ loop-holds c =
     record {
       turns = omega arith;
       warnings = omega arith;
-      ends-long = start .pre .1 .0 .0;
-      warnings-long = start .pre .1 .0 .1;
+      ends-long = start .pre .ends-long;
+      warnings-long = start .pre .warnings-long;
       linked = λ ss ps. linked-start _ _ _ _ _;
     }
 
@@ -55,7 +55,7 @@ add-missing-link : tie.Need-add-missing-link Inv-loop μ-loop
 add-missing-link c =
     let turn : Turn = search in
     let start : Start = search in
-    omega (arith, turn .loop-test .taken, start .pre .0 .1)
+    omega (arith, turn .loop-test .taken, start .pre .connections-few)
 
 missing-link-requires : tie.Need-missing-link-requires Inv-loop μ-loop
 missing-link-requires c κs =
@@ -63,18 +63,24 @@ missing-link-requires c κs =
     let head : Head = search in
     let start : Start = search in
     let held = head .loop .inv in
-    let pre = start .pre .0 in
-    let row-few : start .args .first + head .loop .i ≤ 8191 = omega (arith, turn .loop-test .taken, pre .1) in
-    let few : head .loop .at ≤ 8191 = omega (arith, held .warnings, pre .2, row-few) in (
-      (pre .0, omega (arith, row-few), omega (arith, few), omega (arith, few, held .warnings-long)),
-      (held .ends-long, start .pre .1 .1),
-    )
+    let due = start .pre in
+    let row-few : start .args .first + head .loop .i ≤ 8191 =
+    omega (arith, turn .loop-test .taken, due .connections-few) in
+    let few : head .loop .at ≤ 8191 = omega (arith, held .warnings, due .warnings-few, row-few) in
+    record {
+      junction-few = due .junction-few;
+      connection-few = omega (arith, row-few);
+      warnings-few = omega (arith, few);
+      room = omega (arith, few, held .warnings-long);
+      ends-long = held .ends-long;
+      known = due .known;
+    }
 
 add-i : tie.Need-add-i Inv-loop μ-loop
 add-i c =
     let turn : Turn = search in
     let start : Start = search in
-    omega (arith, turn .loop-test .taken, start .pre .0 .1)
+    omega (arith, turn .loop-test .taken, start .pre .connections-few)
 
 loop-less : tie.Need-loop-less Inv-loop μ-loop
 loop-less c = let turn : Turn = search in omega (arith, turn .loop-test .taken)
@@ -98,13 +104,13 @@ same-length : tie.Need-same-length Inv-loop μ-loop
 same-length c =
     let head : Head = search in
     let start : Start = search in
-    omega (arith, head .loop .inv .ends-long, start .pre .1 .0 .0)
+    omega (arith, head .loop .inv .ends-long, start .pre .ends-long)
 
 same-length-2 : tie.Need-same-length-2 Inv-loop μ-loop
 same-length-2 c =
     let head : Head = search in
     let start : Start = search in
-    omega (arith, head .loop .inv .warnings-long, start .pre .1 .0 .1)
+    omega (arith, head .loop .inv .warnings-long, start .pre .warnings-long)
 
 returns : tie.Need-returns Inv-loop μ-loop
 returns c =

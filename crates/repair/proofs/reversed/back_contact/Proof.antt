@@ -9,7 +9,6 @@ use Rattle.model.specs.Lists.{some?}
 use Rattle.model.specs.Repair.{roadOf, runsBack}
 use Rattle.model.specs.Rules.{same}
 use Rattle.model.specs.Tables.{Tables, mapTables}
-use mathlib.Core.Bool.{Bool}
 use mathlib.Core.List.{List}
 use Prim.Native.Nat.{ℕ, suc, _-_, _<_}
 use native.Mathlib.Omega.{arith}
@@ -32,7 +31,7 @@ module _ (ran : tie.After-runs-back) where
       → some? (runsBack (same (tables ss ps)) (rowConnection (tables ss ps) (start .args .c)))
       (run (rowConnection (tables ss ps)) (start .args .first) (start .args .m)) ≡ ran .runs-back .result
   runs ss ps =
-      runs-is (start .args .text .now) (start .args .connections .now) ps (start .args .c) _ _ (start .pre .0 .2)
+      runs-is (start .args .text .now) (start .args .connections .now) ps (start .args .c) _ _ (start .pre .inside)
       ∙ sym (ran .runs-back .ensures)
 
 -- ---- the incoming road, by its name's row plus 1
@@ -48,7 +47,7 @@ module _ (found : tie.After-road-of) where
       let t = tables ran ss ps in
       let roads = roadsWith t (start ran .args .ends .now) in
       ap (roadOf (same t) roads) (incoming-is ps (t .connections) (start ran .args .c))
-      ∙ road-is t _ (start ran .pre .1 .0 .once) _ _ (found .road-of .ensures .0)
+      ∙ road-is t _ (start ran .pre .known .once) _ _ (found .road-of .ensures .0)
 
 -- ---- it is known
 module _ (known : tie.Else2) where
@@ -59,7 +58,7 @@ module _ (known : tie.Else2) where
   row = found .road-of .result - 1
 
   row-few : row < 16384
-  row-few = omega (arith, found .road-of .ensures .1, start (ran found) .pre .1 .0 .few, known .if2 .left)
+  row-few = omega (arith, found .road-of .ensures .1, start (ran found) .pre .known .few, known .if2 .left)
 
 add-runs-back : tie.Need-add-runs-back
 add-runs-back c = search needs
@@ -101,7 +100,7 @@ cast-id c = let known : tie.Else2 = search in omega (arith, row-few known)
 
 meeting-end-requires : tie.Need-meeting-end-requires
 meeting-end-requires c κs =
-    let known : tie.Else2 = search in (row-few known, start (ran (found known)) .pre .0 .0)
+    let known : tie.Else2 = search in (row-few known, start (ran (found known)) .pre .junction-few)
 
 returns-3 : tie.Need-returns-3
 returns-3 c =

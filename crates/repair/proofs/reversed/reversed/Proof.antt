@@ -8,11 +8,10 @@ use Rattle.model.specs.Lists.{gather}
 use Rattle.model.specs.Records.{Connection}
 use Rattle.model.specs.Tables.{Tables, mapTables}
 use native.Mathlib.Nat.{add-zero}
-use lib.ListN.{length}
 use mathlib.Core.List.{List}
 use Prim.Native.Nat.{ℕ, _+_, _-_, _≤_}
 use native.Mathlib.Omega.{arith}
-use mathlib.Core.Path.{_≡_, sym, ap, _∙_}
+use mathlib.Core.Path.{_≡_, ap, _∙_}
 use Rattle.repair.proofs.reversed.reversed.Statement.{statement}
 use Rattle.repair.proofs.reversed.reversed.Tie as tie
 
@@ -73,7 +72,7 @@ module _ (turn : Turn) where
       (head .loop .y)
   room b contact =
       let held = head .loop .inv in
-      room-at (start head .pre .1 .0 .0) _ _ _ b (turn .loop-test .taken) (held .rows) (held .pair-rows) contact
+      room-at (start head .pre .room) _ _ _ b (turn .loop-test .taken) (held .rows) (held .pair-rows) contact
 
 loop-holds : tie.Need-loop-holds Inv-loop μ-loop
 unfolding tab
@@ -84,7 +83,7 @@ loop-holds c =
       turns = omega arith;
       rows = omega arith;
       pair-rows = omega (arith, at-first);
-      long = start .pre .1 .0 .1;
+      long = start .pre .long;
       laid = λ ss. laid-none _;
     }
 
@@ -92,38 +91,39 @@ add-back-contact : tie.Need-add-back-contact Inv-loop μ-loop
 add-back-contact c =
     let turn : Turn = search in
     let start : Start = search in
-    omega (arith, room turn 0 (omega arith) .inside, start .pre .0 .1 .few)
+    omega (arith, room turn 0 (omega arith) .inside, start .pre .small .few)
 
 back-contact-requires : tie.Need-back-contact-requires Inv-loop μ-loop
 back-contact-requires c κs =
     let turn : Turn = search in
-    let start : Start = search in (
-      (
-        start .pre .0 .0,
-        omega (arith, room turn 0 (omega arith) .inside, start .pre .0 .1 .few),
-        start .pre .1 .0 .0 .inside,
-      ),
-      start .pre .1 .1,
-    )
+    let start : Start = search in
+    let due = start .pre in
+    record {
+      junction-few = due .junction-few;
+      connection-few = omega (arith, room turn 0 (omega arith) .inside, due .small .few);
+      inside = due .room .inside;
+      known = due .known;
+      chain = due .chain;
+    }
 
 add-put-back : tie.Need-add-put-back Inv-loop μ-loop
 add-put-back c =
     let turn : Turn = search in
     let head : Head = search in
-    omega (arith, room turn 0 (omega arith) .inside, start head .pre .0 .1 .few)
+    omega (arith, room turn 0 (omega arith) .inside, start head .pre .small .few)
 
 put-back-requires : tie.Need-put-back-requires Inv-loop μ-loop
 put-back-requires c κs =
     let met : tie.After-back-contact Inv-loop μ-loop = search in
     let turn : Turn = search in
     let head : Head = search in
-    (start head .pre .0 .1, room turn _ (met .back-contact .ensures .0), head .loop .inv .long)
+    (start head .pre .small, room turn _ (met .back-contact .ensures .0), head .loop .inv .long)
 
 add-i : tie.Need-add-i Inv-loop μ-loop
 add-i c =
     let turn : Turn = search in
     let head : Head = search in
-    omega (arith, turn .loop-test .taken, start head .pre .1 .0 .0 .rows)
+    omega (arith, turn .loop-test .taken, start head .pre .room .rows)
 
 loop-less : tie.Need-loop-less Inv-loop μ-loop
 loop-less c = let turn : Turn = search in omega (arith, turn .loop-test .taken)
@@ -155,12 +155,12 @@ loop-again c =
 same-length : tie.Need-same-length Inv-loop μ-loop
 same-length c =
     let head : Head = search in
-    omega (arith, head .loop .inv .long .connections-long, start head .pre .1 .0 .1 .connections-long)
+    omega (arith, head .loop .inv .long .connections-long, start head .pre .long .connections-long)
 
 same-length-2 : tie.Need-same-length-2 Inv-loop μ-loop
 same-length-2 c =
     let head : Head = search in
-    omega (arith, head .loop .inv .long .pairs-long, start head .pre .1 .0 .1 .pairs-long)
+    omega (arith, head .loop .inv .long .pairs-long, start head .pre .long .pairs-long)
 
 returns : tie.Need-returns Inv-loop μ-loop
 returns c =

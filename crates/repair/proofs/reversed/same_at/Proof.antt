@@ -1,7 +1,6 @@
 -- `same_at` reads both names.
 use Rattle.words.specs.Rows.{span}
 use Rattle.model.specs.Text.{sameIn}
-use Prim.Native.Nat.{_-_}
 use mathlib.Core.Path.{_∙_}
 use borrow.Author.Needs.{needs}
 use Rattle.repair.proofs.reversed.same_at.Statement.{statement}

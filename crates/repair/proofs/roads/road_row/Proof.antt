@@ -1,6 +1,5 @@
 -- `road_row` reads the row's words, and its two targets as they are now.
 use Rattle.repair.proofs.RoadWords.{row-words}
-use Prim.Native.Nat.{_-_}
 use borrow.Author.Needs.{needs}
 use Rattle.repair.proofs.roads.road_row.Statement.{statement}
 use Rattle.repair.proofs.roads.road_row.Tie as tie

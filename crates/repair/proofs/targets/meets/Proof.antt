@@ -4,7 +4,6 @@ use Rattle.words.specs.Rows.{nameAt}
 use Rattle.model.specs.Repair.{namesJunction}
 use Rattle.model.specs.Text.{sameIn}
 use mathlib.Core.Bool.{_||_}
-use Prim.Native.Nat.{_-_}
 use mathlib.Core.Path.{sym, ap, ap₂, _∙_}
 use borrow.Author.Needs.{needs}
 use Rattle.repair.proofs.targets.meets.Statement.{statement}

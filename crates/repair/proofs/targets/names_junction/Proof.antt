@@ -4,7 +4,7 @@ use Rattle.rules.proofs.Leaves.{both-is}
 use Rattle.words.specs.Rows.{nameAt, span}
 use Rattle.model.specs.Text.{sameIn}
 use lib.ListN.{getD}
-use Prim.Native.Nat.{ℕ, _-_}
+use Prim.Native.Nat.{ℕ}
 use mathlib.Core.Path.{ap₂, _∙_}
 use borrow.Author.Needs.{needs}
 use Rattle.repair.proofs.targets.names_junction.Statement.{statement}

@@ -5,7 +5,7 @@ use Rattle.words.specs.Keys.{bears}
 use Rattle.words.specs.Rows.{nameFrom, span}
 use Rattle.rules.specs.ByRow.{roadRowOf}
 use lib.ListN.{length}
-use Prim.Native.Nat.{ℕ, _-_, _/_}
+use Prim.Native.Nat.{ℕ, _/_}
 use native.Mathlib.Omega.{arith}
 use mathlib.Core.Path.{ap₂, _∙_}
 use borrow.Author.Needs.{needs}

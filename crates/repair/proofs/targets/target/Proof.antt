@@ -2,7 +2,7 @@
 use Rattle.repair.proofs.TargetWords.{by-word, words-linked}
 use Rattle.repair.specs.Now.{nowWords}
 use mathlib.Core.List.{[], _∷_}
-use Prim.Native.Nat.{ℕ, _+_, _*_, _-_}
+use Prim.Native.Nat.{ℕ, _+_, _*_}
 use mathlib.Core.Path.{sym, ap, _∙_}
 use borrow.Author.Needs.{needs}
 use Rattle.repair.proofs.targets.target.Statement.{statement}
