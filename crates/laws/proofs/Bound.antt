@@ -196,8 +196,8 @@ module _ (same : Span → Span → Bool) (A : Alike same) (m : Map)
   backLinks-few l = go (isBoth (l .direction))
     where
       go : (b : Bool)
-          → length (cond b (map (λ b. b .identity) (keep (findsBack same m l) (m .lanes))) []) ≤ length
-          (m .lanes)
+          → length (cond b (map (λ b. b .identity) (keep (findsBack same m l) (m .lanes))) [])
+          ≤ length (m .lanes)
       go true =
           omega (
             arith,

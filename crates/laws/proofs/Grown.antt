@@ -48,9 +48,32 @@ pairs-append (c ∷ a) b =
     assoc : (x y z : ℕ) → x + (y + z) ≡ (x + y) + z
     assoc x y z = omega arith
 
+-- at most n connections, with at most k pairs in all
+record AtMost (n k : ℕ) (cs : List Connection) : Type 0 where
+  connections : length cs ≤ n
+  pairs : pairCount cs ≤ k
+
+most-more : {n k m l : ℕ} {cs : List Connection} → n ≤ m → k ≤ l → AtMost n k cs → AtMost m l cs
+most-more n-le k-le most = record {
+  connections = omega (arith, n-le, most .connections);
+  pairs = omega (arith, k-le, most .pairs);
+}
+
+most-all : (cs : List Connection) → AtMost (length cs) (pairCount cs) cs
+most-all cs = record { connections = omega arith; pairs = omega arith }
+
+most-append : {n k m l : ℕ} (a b : List Connection) → AtMost n k a → AtMost m l b → AtMost (n + m) (k + l) (a ++ b)
+most-append a b of-a of-b = record {
+  connections = omega (arith, length-append a b, of-a .connections, of-b .connections);
+  pairs = omega (arith, pairs-append a b, of-a .pairs, of-b .pairs);
+}
+
+-- at most twice as many as cs
+abbrev Doubled : (cs new : List Connection) → Type 0
+Doubled cs new = AtMost (length cs + length cs) (pairCount cs + pairCount cs) new
+
 module _ (same : Span → Span → Bool) where
-  back-small : (rs : List Road) (j : Span) (c : Connection)
-      → (length (backOf same rs j c) ≤ 1) × (pairCount (backOf same rs j c) ≤ length (c .pairs))
+  back-small : (rs : List Road) (j : Span) (c : Connection) → AtMost 1 (length (c .pairs)) (backOf same rs j c)
   unfolding backOf
   back-small rs j c = go (bindO (roadOf same rs (c .incoming)) (meetingEnd same j))
     where
@@ -63,112 +86,54 @@ module _ (same : Span → Span → Bool) where
           plus : (n : ℕ) → n + 0 ≡ n
           plus n = omega arith
 
-      go : (o : Option Bool)
-          → (length (listO o (λ e. backAt c e ∷ [])) ≤ 1)
-          × (pairCount (listO o (λ e. backAt c e ∷ [])) ≤ length (c .pairs))
-      go none = (omega arith, omega arith)
-      go (some e) = (omega arith, let q : pairCount (backAt c e ∷ []) ≡ length (c .pairs) = one e in omega arith)
+      go : (o : Option Bool) → AtMost 1 (length (c .pairs)) (listO o (λ e. backAt c e ∷ []))
+      go none = record { connections = omega arith; pairs = omega arith }
+      go (some e) = record { connections = omega arith; pairs = omega (arith, one e) }
 
   backs-small : (rs : List Road) (j : Span) (p : Connection → Bool) (cs : List Connection)
-      → (length (gather (backOf same rs j) (keep p cs)) ≤ length cs)
-      × (pairCount (gather (backOf same rs j) (keep p cs)) ≤ pairCount cs)
-  backs-small rs j p [] = (omega arith, omega arith)
+      → AtMost (length cs) (pairCount cs) (gather (backOf same rs j) (keep p cs))
+  backs-small rs j p [] = most-all []
   backs-small rs j p (c ∷ cs) = go (p c) (backs-small rs j p cs)
     where
-      go : (b : Bool)
-          → (length (gather (backOf same rs j) (keep p cs)) ≤ length cs)
-          × (pairCount (gather (backOf same rs j) (keep p cs)) ≤ pairCount cs) →
-          (length (gather (backOf same rs j) (cond b (c ∷ keep p cs) (keep p cs))) ≤ suc (length cs))
-          × (pairCount (gather (backOf same rs j) (cond b (c ∷ keep p cs) (keep p cs))) ≤ pairCount (c ∷ cs))
-      go true h =
-          let a : length (backOf same rs j c) ≤ 1 = back-small rs j c .0 in
-          let b : pairCount (backOf same rs j c) ≤ length (c .pairs) = back-small rs j c .1 in
-          let e : length (backOf same rs j c ++ gather (backOf same rs j) (keep p cs))
-          ≡ length (backOf same rs j c) + length (gather (backOf same rs j) (keep p cs)) =
-          length-append (backOf same rs j c) (gather (backOf same rs j) (keep p cs)) in
-          let f : pairCount (backOf same rs j c ++ gather (backOf same rs j) (keep p cs))
-          ≡ pairCount (backOf same rs j c) + pairCount (gather (backOf same rs j) (keep p cs)) =
-          pairs-append (backOf same rs j c) (gather (backOf same rs j) (keep p cs)) in
-          let g : pairCount (c ∷ cs) ≡ length (c .pairs) + pairCount cs =
-          length-append (c .pairs) (gather (λ c. c .pairs) cs) in
-          let h0 : length (gather (backOf same rs j) (keep p cs)) ≤ length cs = h .0 in
-          let h1 : pairCount (gather (backOf same rs j) (keep p cs)) ≤ pairCount cs = h .1 in
-          (omega arith, omega arith)
-      go false h =
-          let g : pairCount (c ∷ cs) ≡ length (c .pairs) + pairCount cs =
-          length-append (c .pairs) (gather (λ c. c .pairs) cs) in
-          let h0 : length (gather (backOf same rs j) (keep p cs)) ≤ length cs = h .0 in
-          let h1 : pairCount (gather (backOf same rs j) (keep p cs)) ≤ pairCount cs = h .1 in
-          (omega arith, omega arith)
+      pairs-split : pairCount (c ∷ cs) ≡ length (c .pairs) + pairCount cs
+      pairs-split = length-append (c .pairs) (gather (λ c. c .pairs) cs)
+
+      go : (b : Bool) → AtMost (length cs) (pairCount cs) (gather (backOf same rs j) (keep p cs)) →
+          AtMost (suc (length cs)) (pairCount (c ∷ cs))
+          (gather (backOf same rs j) (cond b (c ∷ keep p cs) (keep p cs)))
+      go true rest =
+          let both = most-append _ _ (back-small rs j c) rest in
+          most-more (omega arith) (omega (arith, pairs-split)) both
+      go false rest = most-more (omega arith) (omega (arith, pairs-split)) rest
 
   after-small : (k : JunctionKind) (j : Span) (cs : List Connection) (rs : List Road)
-      → (length (connectionsAfter same k j cs rs) ≤ length cs + length cs)
-      × (pairCount (connectionsAfter same k j cs rs) ≤ pairCount cs + pairCount cs)
+      → Doubled cs (connectionsAfter same k j cs rs)
   unfolding reversed
-  after-small common j cs rs = (omega arith, omega arith)
-  after-small virtual j cs rs = (omega arith, omega arith)
+  after-small common j cs rs = most-more (omega arith) (omega arith) (most-all cs)
+  after-small virtual j cs rs = most-more (omega arith) (omega arith) (most-all cs)
   after-small direct j cs rs =
-      let e : length (cs ++ reversed same rs j cs) ≡ length cs + length (reversed same rs j cs) =
-      length-append cs (reversed same rs j cs) in
-      let f : pairCount (cs ++ reversed same rs j cs) ≡ pairCount cs + pairCount (reversed same rs j cs) =
-      pairs-append cs (reversed same rs j cs) in
-      let a : length (reversed same rs j cs) ≤ length cs =
-      backs-small rs j (λ c. not (some? (runsBack same c) cs)) cs .0 in
-      let b : pairCount (reversed same rs j cs) ≤ pairCount cs =
-      backs-small rs j (λ c. not (some? (runsBack same c) cs)) cs .1 in
-      (omega arith, omega arith)
+      most-append cs _ (most-all cs) (backs-small rs j (λ c. not (some? (runsBack same c) cs)) cs)
 
-  over-small : (js : List Junction) (rs : List Road) →
-      (length (allConnections (junctionsOver same js rs)) ≤ length (allConnections js) + length
-      (allConnections js))
-      × (pairCount (allConnections (junctionsOver same js rs)) ≤ pairCount (allConnections js) + pairCount
-      (allConnections js))
+  over-small : (js : List Junction) (rs : List Road)
+      → Doubled (allConnections js) (allConnections (junctionsOver same js rs))
   unfolding allConnections repairJunction
-  over-small [] rs = (omega arith, omega arith)
+  over-small [] rs = most-all []
   over-small (j ∷ js) rs =
-      let AF : List Connection = connectionsAfter same (j .kind) (j .name) (j .connections) rs in
-      let GR : List Connection =
-      gather (λ (j : Junction). j .connections) (junctionsOver same js (repairRoads same j rs)) in
-      let GJ : List Connection = gather (λ (j : Junction). j .connections) js in
-      let a0 : length (connectionsAfter same (j .kind) (j .name) (j .connections) rs) ≤ length (j .connections)
-      + length (j .connections) = after-small (j .kind) (j .name) (j .connections) rs .0 in
-      let a1 : pairCount (connectionsAfter same (j .kind) (j .name) (j .connections) rs) ≤ pairCount
-      (j .connections) + pairCount (j .connections) = after-small (j .kind) (j .name) (j .connections) rs .1 in
-      let i0 : length
-      (gather (λ (j : Junction). j .connections) (junctionsOver same js (repairRoads same j rs))) ≤ length
-      (gather (λ (j : Junction). j .connections) js) + length (gather (λ (j : Junction). j .connections) js) =
-      over-small js (repairRoads same j rs) .0 in
-      let i1 : pairCount
-      (gather (λ (j : Junction). j .connections) (junctionsOver same js (repairRoads same j rs))) ≤ pairCount
-      (gather (λ (j : Junction). j .connections) js) + pairCount
-      (gather (λ (j : Junction). j .connections) js) = over-small js (repairRoads same j rs) .1 in
-      let e0 : length (connectionsAfter same (j .kind) (j .name) (j .connections) rs
-      ++ gather (λ (j : Junction). j .connections) (junctionsOver same js (repairRoads same j rs)))
-      ≡ length (connectionsAfter same (j .kind) (j .name) (j .connections) rs) + length
-      (gather (λ (j : Junction). j .connections) (junctionsOver same js (repairRoads same j rs))) =
-      length-append (connectionsAfter same (j .kind) (j .name) (j .connections) rs)
-      (gather (λ (j : Junction). j .connections) (junctionsOver same js (repairRoads same j rs))) in
-      let e1 : pairCount (connectionsAfter same (j .kind) (j .name) (j .connections) rs
-      ++ gather (λ (j : Junction). j .connections) (junctionsOver same js (repairRoads same j rs)))
-      ≡ pairCount (connectionsAfter same (j .kind) (j .name) (j .connections) rs) + pairCount
-      (gather (λ (j : Junction). j .connections) (junctionsOver same js (repairRoads same j rs))) =
-      pairs-append (connectionsAfter same (j .kind) (j .name) (j .connections) rs)
-      (gather (λ (j : Junction). j .connections) (junctionsOver same js (repairRoads same j rs))) in
-      let g0 : length (j .connections ++ gather (λ (j : Junction). j .connections) js)
-      ≡ length (j .connections) + length (gather (λ (j : Junction). j .connections) js) =
-      length-append (j .connections) (gather (λ (j : Junction). j .connections) js) in
-      let g1 : pairCount (j .connections ++ gather (λ (j : Junction). j .connections) js)
-      ≡ pairCount (j .connections) + pairCount (gather (λ (j : Junction). j .connections) js) =
-      pairs-append (j .connections) (gather (λ (j : Junction). j .connections) js) in
-      (omega arith, omega arith)
+      let here = after-small (j .kind) (j .name) (j .connections) rs in
+      let rest = over-small js (repairRoads same j rs) in
+      let split = length-append (j .connections) (allConnections js) in
+      let pairs-split = pairs-append (j .connections) (allConnections js) in
+      most-more (omega (arith, split)) (omega (arith, pairs-split)) (most-append _ _ here rest)
 
   pub repair-small : (m : Map)
-      → (length (allConnections (repair same m .junctions)) ≤ length (allConnections (m .junctions)) + length
-      (allConnections (m .junctions)))
-      × (length (allPairs (repair same m .junctions)) ≤ length (allPairs (m .junctions)) + length
-      (allPairs (m .junctions)))
+      → (length (allConnections (repair same m .junctions))
+      ≤ length (allConnections (m .junctions)) + length (allConnections (m .junctions)))
+      × (length (allPairs (repair same m .junctions))
+      ≤ length (allPairs (m .junctions)) + length (allPairs (m .junctions)))
   unfolding repair allPairs
-  repair-small m = over-small (m .junctions) (startRoads same m)
+  repair-small m =
+      let doubled = over-small (m .junctions) (startRoads same m) in
+      (doubled .connections, doubled .pairs)
 
   count-over : (js : List Junction) (rs : List Road) → length (junctionsOver same js rs) ≡ length js
   count-over [] rs = refl

@@ -81,11 +81,14 @@ listPart-of ls i h =
 
     rising : lo ≤ hi
     rising =
-        let e1 : lo ≡ length (b .head) = b .begins in
-        let e2 : hi ≡ length (b .head) + length (getD ls i []) = b .ends in omega arith
+        let from : lo ≡ length (b .head) = b .begins in
+        let to : hi ≡ length (b .head) + length (getD ls i []) = b .ends in
+        omega arith
 
     within : hi ≤ length (packed ls)
-    within = let e2 : hi ≡ length (b .head) + length (getD ls i []) = b .ends in let e3 = total in omega arith
+    within =
+        let to : hi ≡ length (b .head) + length (getD ls i []) = b .ends in
+        omega (arith, total)
 
     listed : ltb (suc i) (length (offsetsFrom 0 ls)) && leb lo hi && leb hi (length (packed ls)) ≡ true
     listed = and-both (ltb (suc i) (length (offsetsFrom 0 ls)) && leb lo hi) (leb hi (length (packed ls)))
@@ -98,8 +101,8 @@ pub listPart-past : (ls : List (List ℕ)) (i : ℕ) → length ls ≤ i → lis
 unfolding listPart rowListed
 listPart-past ls i h =
     ap (λ c.
-    cond (c && leb (word (offsetsFrom 0 ls) i) (word (offsetsFrom 0 ls) (suc i)) && leb
-    (word (offsetsFrom 0 ls) (suc i)) (length (packed ls)))
+    cond (c && leb (word (offsetsFrom 0 ls) i) (word (offsetsFrom 0 ls) (suc i))
+    && leb (word (offsetsFrom 0 ls) (suc i)) (length (packed ls)))
     (part (word (offsetsFrom 0 ls) i) (word (offsetsFrom 0 ls) (suc i) - word (offsetsFrom 0 ls) i)
     (packed ls)) []) (le-ltb (suc i) (length (offsetsFrom 0 ls)) (omega (arith, offsets-count 0 ls)))
 

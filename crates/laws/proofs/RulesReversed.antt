@@ -109,10 +109,10 @@ module _ (same : Span → Span → Bool) (A : Alike same) (s : Span → Bool) (S
       ss = sectionsOf same (m .roads) (b .road)
 
       go : (c : Bool) → same (a .road) (b .road) ≡ c →
-          c && eqb
-          (cond (s (a .road)) (mirror (sectionsOf same (m .roads) (a .road)) (a .section)) (a .section))
-          (cond (s (b .road)) (mirror ss (b .section)) (b .section)) && eqb (signed (s (a .road)) (a .number))
-          (signed (s (b .road)) (b .number))
+          c
+          && eqb (cond (s (a .road)) (mirror (sectionsOf same (m .roads) (a .road)) (a .section)) (a .section))
+          (cond (s (b .road)) (mirror ss (b .section)) (b .section))
+          && eqb (signed (s (a .road)) (a .number)) (signed (s (b .road)) (b .number))
           ≡ c && eqb (a .section) (b .section) && eqb (a .number) (b .number)
       go false w = refl
       go true w = ap₂ (λ x y. x && y)

@@ -258,8 +258,8 @@ module _ (same : Span → Span → Bool) (A : Alike same) (m : Map) (v : Valid s
           )
 
       one : (j : Junction)
-          → sumOf (λ (l : Lane). served e l j) (m .lanes) ≤ length
-          (gather (λ (c : Connection). c .pairs) (j .connections))
+          → sumOf (λ (l : Lane). served e l j) (m .lanes)
+          ≤ length (gather (λ (c : Connection). c .pairs) (j .connections))
       one j =
           let swapped = sum-swap (λ (l : Lane) (c : Connection). sumOf (λ p. serves e c p l) (c .pairs)) (m .lanes)
           (j .connections) in
@@ -296,8 +296,8 @@ module _ (same : Span → Span → Bool) (A : Alike same) (m : Map) (v : Valid s
       )
 
   module _ (ids : distinct (λ (a b : Lane). eqb (a .identity) (b .identity)) (m .lanes) ≡ true) where
-    backLinks-all : sumOf (λ l. length (backLinks same m l)) (m .lanes) ≤ sumOf
-        (λ l. length (successorsOf same m l)) (m .lanes)
+    backLinks-all : sumOf (λ l. length (backLinks same m l)) (m .lanes)
+        ≤ sumOf (λ l. length (successorsOf same m l)) (m .lanes)
     backLinks-all =
         let links-below =
         sum-le (λ (l : Lane). length (backLinks same m l))
@@ -319,10 +319,10 @@ module _ (same : Span → Span → Bool) (A : Alike same) (m : Map) (v : Valid s
             (there (l .identity) (successorsOf same m b))
           where
             go : (x y : Bool)
-                → bit (member (l .identity) (successorsOf same m b)) ≤ length
-                (keep (eqb (l .identity)) (successorsOf same m b))
-                → cond (x && member (l .identity) (successorsOf same m b) && y) 1 0 ≤ length
-                (keep (eqb (l .identity)) (successorsOf same m b))
+                → bit (member (l .identity) (successorsOf same m b))
+                ≤ length (keep (eqb (l .identity)) (successorsOf same m b))
+                → cond (x && member (l .identity) (successorsOf same m b) && y) 1 0
+                ≤ length (keep (eqb (l .identity)) (successorsOf same m b))
             go false y h = omega arith
             go true true h = cut (member (l .identity) (successorsOf same m b)) h
               where
@@ -338,8 +338,8 @@ module _ (same : Span → Span → Bool) (A : Alike same) (m : Map) (v : Valid s
                 zero-case false = omega arith
 
         one : (l : Lane)
-            → length (backLinks same m l) ≤ sumOf
-            (λ (b : Lane). length (keep (eqb (l .identity)) (successorsOf same m b))) (m .lanes)
+            → length (backLinks same m l)
+            ≤ sumOf (λ (b : Lane). length (keep (eqb (l .identity)) (successorsOf same m b))) (m .lanes)
         one l = unfold backLinks in go (isBoth (l .direction))
           where
             go : (d : Bool)

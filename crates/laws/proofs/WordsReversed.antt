@@ -158,9 +158,8 @@ counted-reversed alike s m xs = record {
         ∷ length (reverseMap alike s m .lanes) ∷ []) k 0
         ≡ getD (length (m .roads) ∷ length (gather (λ (r : Road). r .sections) (m .roads))
         ∷ length (gather (λ (j : Junction). j .connections) (m .junctions))
-        ∷ length
-        (gather (λ (j : Junction). gather (λ (c : Connection). c .pairs) (j .connections)) (m .junctions))
-        ∷ length (m .lanes) ∷ length (m .lanes) ∷ []) k 0
+        ∷ length (gather (λ (j : Junction). gather (λ (c : Connection). c .pairs) (j .connections))
+        (m .junctions)) ∷ length (m .lanes) ∷ length (m .lanes) ∷ []) k 0
     at k = unfold sizes in ap (λ (l : List ℕ). getD l k 0) (sizes-reversed alike s m)
 
 -- ---- the junction table of a reversed map

@@ -28,8 +28,8 @@ listsIn (o ∷ os) ids = listsAfter ids o os
 -- do the two offsets of a row stand in the list, and not fall or pass the end?
 unfoldable pub rowListed : (offsets ids : List ℕ) → ℕ → Bool
 rowListed offsets ids row =
-    ltb (suc row) (length offsets) && leb (word offsets row) (word offsets (suc row)) && leb
-    (word offsets (suc row)) (length ids)
+    ltb (suc row) (length offsets) && leb (word offsets row) (word offsets (suc row))
+    && leb (word offsets (suc row)) (length ids)
 
 -- "A row outside the list, or its two offsets falling or passing the end, gives the empty part."
 unfoldable pub listPart : (offsets ids : List ℕ) → ℕ → List ℕ

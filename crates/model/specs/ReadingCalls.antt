@@ -51,8 +51,8 @@ namesWorded text (suc n) r k = nameWorded text r k && namesWorded text n r (k + 
 -- "flag 0 has all four names absent"
 unfoldable pub rawTargetWorded : List ℕ → List ℕ → Bool
 rawTargetWorded text r = leb (word r 0) 1 && namesWorded text 4 r 1
-    && (flag (word r 0) || (isAbsent (word r 1) (word r 2) && isAbsent (word r 3) (word r 4) && isAbsent
-    (word r 5) (word r 6) && isAbsent (word r 7) (word r 8)))
+    && (flag (word r 0) || (isAbsent (word r 1) (word r 2) && isAbsent (word r 3) (word r 4)
+    && isAbsent (word r 5) (word r 6) && isAbsent (word r 7) (word r 8)))
 
 -- rows that begin with n names, and have no other rule on their words
 abbrev pub rowsNamed : List ℕ → (w n : ℕ) → List ℕ → Bool
@@ -128,10 +128,12 @@ junctionContent t = record {
 
 unfoldable pub rawJunctionRules : RawTables → List Rule
 rawJunctionRules t =
-    rule 1 (rawSized (t .text) rawJunctionWidth (length (t .junctions)) && sized rawConnectionWidth 16384
-    (length (t .connections)) && sized rawLaneLinkWidth 16384 (length (t .laneLinks)))
-    ∷ rule 2 (rowsNamed (t .text) rawJunctionWidth 3 (t .junctions) && rowsNamed (t .text) rawConnectionWidth 6
-    (t .connections) && rowsNamed (t .text) rawLaneLinkWidth 2 (t .laneLinks))
+    rule 1 (rawSized (t .text) rawJunctionWidth (length (t .junctions))
+    && sized rawConnectionWidth 16384 (length (t .connections))
+    && sized rawLaneLinkWidth 16384 (length (t .laneLinks)))
+    ∷ rule 2 (rowsNamed (t .text) rawJunctionWidth 3 (t .junctions)
+    && rowsNamed (t .text) rawConnectionWidth 6 (t .connections)
+    && rowsNamed (t .text) rawLaneLinkWidth 2 (t .laneLinks))
     ∷ rule 5 (rawPartsFit t) ∷ []
 
 -- THE READING OF JUNCTIONS, ITS WHOLE OUTCOME: "1, 2, 5, 9"

@@ -96,8 +96,8 @@ linkWorded f n = leb f 1 && (flag f || eqb n 0)
 
 unfoldable pub laneWorded : List ℕ → List ℕ → Bool
 laneWorded text r =
-    placed text (spanIn r 1) && leb (word r 5) 2 && linkWorded (word r 6) (word r 7) && linkWorded (word r 8)
-    (word r 9)
+    placed text (spanIn r 1) && leb (word r 5) 2
+    && linkWorded (word r 6) (word r 7) && linkWorded (word r 8) (word r 9)
 
 -- sections, pairs and edges have no rule on their words
 unfoldable pub mapWorded : Tables → Bool
@@ -188,8 +188,8 @@ borne ls i = some? (λ l. eqb (l .identity) i) ls
 
 unfoldable pub listsFit : Tables → List ℕ → List ℕ → Bool
 listsFit t offsets ids =
-    eqb (length offsets) (suc (length (t .lanes) / laneWidth)) && climbs (length ids) offsets && every
-    (borne (lanesOf t)) ids
+    eqb (length offsets) (suc (length (t .lanes) / laneWidth)) && climbs (length ids) offsets
+    && every (borne (lanesOf t)) ids
 
 -- ---- 12 marks not one 0 or 1 for each road
 unfoldable pub marksFit : (roads marks : List ℕ) → Bool
