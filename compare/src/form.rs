@@ -1,5 +1,6 @@
-//! A map in the plain text of docs/MAP-FORMAT.md, and what the program `lanes` has to print of it: written from that document, beside what the original finds.
-use crate::original::{Lists, Repaired};
+//! A map in the plain text of docs/MAP-FORMAT.md, and what the tool `lanes` has to print of it: written from that document,
+//! beside what the original finds.
+use crate::original::{distance, Lists, Repaired};
 use crate::tables::{Tables, ABSENT, CONNECTION, EDGE, JUNCTION, LANE, PAIR, ROAD};
 
 /// A map in one of two spellings: names as they are and edges as bits, or some names so that they need quotation marks, and edges in decimal where 15 digits are enough.
@@ -13,21 +14,58 @@ fn counted(n: usize, what: &str) -> String {
     format!("{n} {what}{}", if n == 1 { "" } else { "s" })
 }
 
-/// The width of a gap: a millionth is rounded to the nearest, a half up.
-fn width(bits: u32) -> String {
+/// The width of a gap in metres, with so many places after the point: rounded to the nearest, a half up.
+fn width(bits: u32, places: u32) -> String {
     if bits == f32::INFINITY.to_bits() {
         return "no distance".into();
     }
-    let (mantissa, exponent) = (u128::from(bits & 0x7f_ffff | 0x80_0000), (bits >> 23) as i32 - 150);
-    let millions = match exponent {
+    let (mantissa, exponent, tens) = (u128::from(bits & 0x7f_ffff | 0x80_0000), (bits >> 23) as i32 - 150, 10u128.pow(places));
+    let scaled = match exponent {
         0.. if exponent > 60 => u128::MAX,
-        0.. => mantissa * 1_000_000 << exponent,
-        _ => (mantissa * 2_000_000 + (1 << -exponent)) >> (1 - exponent),
+        0.. => mantissa * tens << exponent,
+        _ => (mantissa * 2 * tens + (1 << -exponent)) >> (1 - exponent),
     };
-    if millions >= 1_000_000_000_000_000 {
+    if scaled >= 1_000_000_000 * tens {
         return "1000000000 m or more".into();
     }
-    format!("{}.{:06} m", millions / 1_000_000, millions % 1_000_000)
+    format!("{}.{:0width$} m", scaled / tens, scaled % tens, width = places as usize)
+}
+
+/// A coordinate to the centimetre; one that is huge or none with an exponent.
+fn coordinate(x: f64) -> String {
+    if x.abs() < 1e12 {
+        return format!("{x:.2}").replace("-0.00", "0.00");
+    }
+    format!("{x:e}")
+}
+
+/// The ends by which traffic leaves a lane, or comes into it: 1 for its end, 0 for its start.
+fn ends(way: u32, leaves: bool) -> Vec<usize> {
+    match way {
+        2 => vec![1, 0],
+        w => vec![usize::from((w == 0) == leaves)],
+    }
+}
+
+/// The most lines of a summary, and the most rows of a kind.
+const SCREEN: usize = 24;
+const FEW: usize = 5;
+
+/// A summary: lines with rows under them, of which as many are shown as leave it on a screen; all where asked.
+fn summary(kinds: &[(String, Vec<Vec<u8>>)], last: String, all: bool) -> Vec<u8> {
+    let lines = |n: usize| 1 + kinds.iter().map(|(_, rows)| 1 + if rows.len() > n { n + 1 } else { rows.len() }).sum::<usize>();
+    let few = (1..=FEW).filter(|&n| lines(n) <= SCREEN).max().unwrap_or(1);
+    let mut out = Vec::new();
+    for (head, rows) in kinds {
+        let shown = if all { rows.len() } else { rows.len().min(few) };
+        out.extend(format!("{head}\n").bytes());
+        rows[..shown].iter().for_each(|r| out.extend([b"  ", &r[..], b"\n"].concat()));
+        if shown < rows.len() {
+            out.extend(format!("  .. and {} more (--all shows them)\n", rows.len() - shown).bytes());
+        }
+    }
+    out.extend(last.bytes());
+    out
 }
 
 impl Form<'_> {
@@ -144,7 +182,7 @@ impl Form<'_> {
     /// `lanes gaps`.
     pub fn gaps(&self, lists: &Lists, gaps: &[[u32; 3]]) -> Vec<u8> {
         let rows = self.rows();
-        let line = |g: &[u32; 3]| [&self.label(rows[g[0] as usize])[..], b" to ", &self.label(rows[g[1] as usize]), format!(": {} (bits {:08x})\n", width(g[2]), g[2]).as_bytes()].concat();
+        let line = |g: &[u32; 3]| [&self.label(rows[g[0] as usize])[..], b" to ", &self.label(rows[g[1] as usize]), format!(": {} (bits {:08x})\n", width(g[2], 6), g[2]).as_bytes()].concat();
         let links = lists.successors.iter().map(Vec::len).sum();
         let sum = format!("gaps: {} in {}\n", counted(gaps.len(), "gap"), counted(links, "link"));
         gaps.iter().flat_map(line).chain(sum.bytes()).collect()
@@ -171,16 +209,98 @@ impl Form<'_> {
         out
     }
 
-    /// `lanes check`.
-    pub fn check(&self, found: &Repaired, lists: &Lists, gaps: &[[u32; 3]]) -> Vec<u8> {
+    /// The rows of a text of which the last line sums up, and that line.
+    fn rows_and_sum(text: &[u8]) -> (Vec<Vec<u8>>, String) {
+        let mut rows: Vec<Vec<u8>> = text.strip_suffix(b"\n").unwrap().split(|&b| b == b'\n').map(<[u8]>::to_vec).collect();
+        let sum = String::from_utf8(rows.pop().unwrap()).unwrap();
+        (rows, sum)
+    }
+
+    /// The middle of the exit from which the gap is measured.
+    fn place(&self, g: &[u32; 3]) -> [f64; 2] {
+        let across = |row: u32, end: usize| -> [f32; 6] { self.map.edges[row as usize * EDGE + 6 * end..][..6].try_into().unwrap() };
+        let way = |row: u32| self.map.lanes[row as usize * LANE + 5];
+        let exits = ends(way(g[0]), true);
+        let near = |&&x: &&usize| ends(way(g[1]), false).iter().any(|&e| distance(&across(g[0], x), &across(g[1], e)).to_bits() == g[2]);
+        let e = across(g[0], *exits.iter().find(near).unwrap_or(&exits[0]));
+        [0, 1].map(|k| (f64::from(e[k]) + f64::from(e[k + 3])) / 2.0)
+    }
+
+    /// The gaps as `check` shows them, widest first.
+    fn wide_gaps(&self, gaps: &[[u32; 3]]) -> Vec<Vec<u8>> {
+        let (rows, mut gaps) = (self.rows(), gaps.to_vec());
+        gaps.sort_by(|a, b| f32::from_bits(b[2]).total_cmp(&f32::from_bits(a[2])));
+        let row = |g: &[u32; 3]| {
+            let [x, y] = self.place(g).map(coordinate);
+            let (from, to) = (self.label(rows[g[0] as usize]), self.label(rows[g[1] as usize]));
+            [format!("{} from ", width(g[2], 3)).as_bytes(), &from, b" to ", &to, format!(", at {x}, {y}").as_bytes()].concat()
+        };
+        gaps.iter().map(row).collect()
+    }
+
+    /// The lanes inside a junction that can be entered and not left (true), or left and not entered; but for those
+    /// whose link at that end the original's repair took away.
+    fn lost(&self, found: &Repaired, lists: &Lists) -> Vec<(bool, Vec<u8>)> {
+        let t = self.map;
+        let mut out = Vec::new();
+        for (l, (onward, before)) in self.rows().into_iter().zip(lists.successors.iter().zip(&lists.predecessors)) {
+            let row = t.roads.chunks(ROAD).position(|r| t.bytes(r[0], r[1]) == t.bytes(l[1], l[2])).unwrap();
+            let road = &t.roads[row * ROAD..][..ROAD];
+            if road[2..4] == [ABSENT, 0] || onward.is_empty() == before.is_empty() {
+                continue;
+            }
+            let own = &t.sections[road[18] as usize..(road[18] + road[19]) as usize];
+            let (_, from, to) = &found.roads[row];
+            let taken = [road[4] == 1 && from.is_none() && own[0] == l[3], road[11] == 1 && to.is_none() && own[own.len() - 1] == l[3]];
+            if ends(l[5], onward.is_empty()).iter().any(|&end| taken[end]) {
+                continue;
+            }
+            let what = if onward.is_empty() { " can be entered and not left" } else { " can be left and not entered" };
+            out.push((onward.is_empty(), [&self.label(l)[..], b" in junction ", &self.word(&road[2..4]), what.as_bytes()].concat()));
+        }
+        out
+    }
+
+    /// `lanes check`, and with `--all`.
+    pub fn check(&self, found: &Repaired, lists: &Lists, gaps: &[[u32; 3]], all: bool) -> Vec<u8> {
         let t = self.map;
         let sizes = [(t.roads.len() / ROAD, "road"), (t.sections.len(), "section"), (t.junctions.len() / JUNCTION, "junction"), (t.connections.len() / CONNECTION, "connection"), (t.pairs.len() / PAIR, "pair"), (t.lanes.len() / LANE, "lane")];
         let sizes: Vec<String> = sizes.iter().map(|&(n, what)| counted(n, what)).collect();
-        let links = lists.successors.iter().map(Vec::len).sum();
+        let (repairs, repaired) = Self::rows_and_sum(&self.repair(found));
+        let links: usize = lists.successors.iter().map(Vec::len).sum();
         let both = self.rows().into_iter().zip(&lists.successors).filter(|(l, _)| l[5] == 2).flat_map(|(_, ids)| ids).filter(|&&i| self.row(i)[5] == 2).count();
-        let promises = format!("links: {}, {}; each lane before is a link read the other way, and two-way links run both ways\n", counted(links, "link"), counted(both, "two-way link"));
-        let sum = format!("check: sound; {} repaired, {}, {}\n", counted(found.warnings.len(), "road end"), counted(links, "link"), counted(gaps.len(), "gap"));
-        [format!("map: {}\n", sizes.join(", ")).as_bytes(), &self.repair(found), &self.links(lists), promises.as_bytes(), &self.gaps(lists, gaps), sum.as_bytes()].concat()
+        let none = |lists: &[Vec<u32>]| counted(lists.iter().filter(|l| l.is_empty()).count(), "lane");
+        let linked = format!("links: {}, {}; {} with none onward, {} with none before", counted(links, "link"), counted(both, "two-way link"), none(&lists.successors), none(&lists.predecessors));
+        let listed = if all { self.rows_of_links(lists) } else { Vec::new() };
+        let wide = format!("gaps: {} in {}{}", counted(gaps.len(), "gap"), counted(links, "link"), if gaps.len() > 1 { ", the widest first" } else { "" });
+        let lost = self.lost(found, lists);
+        let entered = lost.iter().filter(|l| l.0).count();
+        let movements = match lost.len() {
+            0 => "movements: none lost".into(),
+            n => format!("movements: {} inside a junction can be entered and not left, {} left and not entered", counted(entered, "lane"), n - entered),
+        };
+        let kinds = [(gaps.len(), "gap", ""), (lost.len(), "lost movement", ""), (found.warnings.len(), "road end", " repaired")];
+        let mut findings: Vec<String> = kinds.iter().filter(|k| k.0 > 0).map(|k| counted(k.0, k.1) + k.2).collect();
+        if t.lanes.is_empty() {
+            findings.insert(0, "no lanes".into());
+        }
+        if findings.is_empty() {
+            findings.push("nothing".into());
+        }
+        let kinds = [
+            (format!("map: {}", sizes.join(", ")), Vec::new()),
+            (repaired, repairs),
+            (linked, listed),
+            (wide, self.wide_gaps(gaps)),
+            (movements, lost.into_iter().map(|l| l.1).collect()),
+        ];
+        summary(&kinds, format!("found: {}\n", findings.join(", ")), all)
+    }
+
+    /// The lines of `lanes links`.
+    fn rows_of_links(&self, lists: &Lists) -> Vec<Vec<u8>> {
+        let text = self.links(lists);
+        text.split_inclusive(|&b| b == b'\n').map(|l| l[..l.len() - 1].to_vec()).collect()
     }
 }
 

@@ -1,4 +1,5 @@
-//! The program `lanes` on random maps in plain text, beside what the original finds on the same maps: each command's output, byte for byte, and reversals beside document 01's rules.
+//! The tool `lanes` on random maps in plain text, beside what the original finds on the same maps: each command's output,
+//! byte for byte, and its status, and reversals beside document 01's rules.
 use compare::form::{same_text, Form};
 use compare::tables::{Dice, Tables, ROAD};
 use compare::{maps, original, reversal, rules};
@@ -28,29 +29,53 @@ impl Program {
         child.wait_with_output().unwrap()
     }
 
-    /// A command whose output is known.
-    fn prints(&mut self, command: &str, map: &[u8], expected: &[u8]) -> Result<(), String> {
-        let out = self.run(&[command.as_bytes()], map);
-        if out.stdout == expected && out.stderr.is_empty() {
+    /// A command whose output and status are known.
+    fn prints(&mut self, words: &str, map: &[u8], status: i32, expected: &[u8]) -> Result<(), String> {
+        let out = self.run(&words.split(' ').map(str::as_bytes).collect::<Vec<_>>(), map);
+        if out.stdout == expected && out.stderr.is_empty() && out.status.code() == Some(status) {
             return Ok(());
         }
-        Err(differs(command, &out, expected))
+        Err(format!("status {status}; {}", differs(words, &out, expected)))
     }
 
     /// A command that writes the map again, or is refused.
     fn writes(&mut self, words: &[&[u8]], map: &[u8], refusal: u32, expected: &[u8]) -> Result<(), String> {
         let command = std::str::from_utf8(words[0]).unwrap();
         let out = self.run(words, map);
-        if refusal == 0 && same_text(&out.stdout, expected) && out.stderr.is_empty() {
+        if refusal == 0 && same_text(&out.stdout, expected) && out.stderr.is_empty() && out.status.code() == Some(0) {
             return Ok(());
         }
-        let lead = format!("lanes: {command}: refused, {refusal}: ");
-        if refusal != 0 && out.stdout.is_empty() && out.stderr.starts_with(lead.as_bytes()) {
+        if refusal != 0 && out.stdout.is_empty() && out.status.code() == Some(2) && names_a_line(command, &out.stderr, refusal, map) {
             self.refused += 1;
             return Ok(());
         }
         Err(format!("refusal {refusal}; {}", differs(command, &out, expected)))
     }
+
+    /// A map with no row at all is none.
+    fn empty(&mut self) -> Result<(), String> {
+        for command in ["repair", "links", "gaps", "dot", "check", "form"] {
+            let out = self.run(&[command.as_bytes()], b"");
+            if !out.stdout.is_empty() || out.stderr != b"lanes: standard input: the input is empty\n" || out.status.code() != Some(2) {
+                return Err(differs(command, &out, b""));
+            }
+        }
+        Ok(())
+    }
+}
+
+/// Is that the message of the refusal, with a line that can be meant? 13 is about a lane or a pair with the least
+/// number, 14 about a road.
+fn names_a_line(command: &str, said: &[u8], refusal: u32, map: &[u8]) -> bool {
+    let said = String::from_utf8_lossy(said);
+    let Some((line, rest)) = said.strip_prefix("lanes: standard input:").and_then(|s| s.split_once(": ")) else { return false };
+    let Some(text) = line.parse::<usize>().ok().and_then(|n| map.split(|&b| b == b'\n').nth(n - 1)) else { return false };
+    let meant = match refusal {
+        13 => !text.starts_with(b"road ") && text.windows(11).any(|w| w == b"-2147483648"),
+        14 => text.starts_with(b"road "),
+        _ => true,
+    };
+    meant && rest.starts_with(&format!("{command}: refused, {refusal}: "))
 }
 
 fn differs(command: &str, out: &Output, expected: &[u8]) -> String {
@@ -64,11 +89,17 @@ fn map(t: &Tables, dice: &mut Dice, program: &mut Program) -> Result<(), String>
     let text = form.text();
     let found = original::repair(t);
     let (lists, gaps) = original::lists_and_gaps(t);
-    program.prints("repair", &text, &form.repair(&found))?;
-    program.prints("links", &text, &form.links(&lists))?;
-    program.prints("gaps", &text, &form.gaps(&lists, &gaps))?;
-    program.prints("dot", &text, &form.dot(&lists))?;
-    program.prints("check", &text, &form.check(&found, &lists, &gaps))?;
+    if text.is_empty() {
+        return program.empty();
+    }
+    let check = |all: bool| form.check(&found, &lists, &gaps, all);
+    let status = i32::from(!check(false).ends_with(b"\nfound: nothing\n"));
+    program.prints("repair", &text, i32::from(!found.warnings.is_empty()), &form.repair(&found))?;
+    program.prints("links", &text, 0, &form.links(&lists))?;
+    program.prints("gaps", &text, i32::from(!gaps.is_empty()), &form.gaps(&lists, &gaps))?;
+    program.prints("dot", &text, 0, &form.dot(&lists))?;
+    program.prints("check", &text, status, &check(false))?;
+    program.prints("check --all", &text, status, &check(true))?;
     let roads = t.roads.len() / ROAD;
     program.writes(&[b"form"], &text, rules::reverse(t, &vec![0; roads]), &text)?;
     // an argument has no byte 0

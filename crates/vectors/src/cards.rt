@@ -1,0 +1,191 @@
+// The bench cards of the root, the clamp, the distance and the gap decision, and the lane links of a small map.
+use crate::print::print;
+use crate::print::print_bits;
+use crate::print::print_number;
+use geometry::gap::Decision;
+use geometry::gap::Direction;
+use geometry::root::SquareRoot;
+use geometry::segment::Point;
+
+// The bits of a NaN.
+const NAN: u32 = 0x7fc0_0000;
+
+// The f32 that has these bits.
+fn value(bits: u32) -> f32 {
+    if bits % 0x8000_0000 <= 0x7f80_0000 {
+        f32::from_bits(bits)
+    } else {
+        0.0 / 0.0
+    }
+}
+
+// The bits of x, or nan.
+fn print_float(x: f32) {
+    if x != x {
+        print(b"nan");
+        return;
+    }
+    print_bits(f32::to_bits(x));
+}
+
+fn print_root(bits: u32) {
+    let x = value(bits);
+    print(b"root ");
+    print_float(x);
+    match geometry::root::root(x) {
+        SquareRoot::Value(r) => {
+            print(b" = ");
+            print_float(r);
+            print(b"\n");
+        }
+        SquareRoot::BelowZero => print(b": refusal 15\n"),
+    }
+}
+
+fn print_gap(gap: f32) {
+    print(b"gap ");
+    print_float(gap);
+    match geometry::gap::gap_decision(gap) {
+        Decision::Passed => print(b": passed\n"),
+        Decision::Wide(w) => {
+            print(b": wide ");
+            print_float(w);
+            print(b"\n");
+        }
+    }
+}
+
+fn print_clamp(bits: u32) {
+    let x = value(bits);
+    print(b"clamp ");
+    print_float(x);
+    print(b" = ");
+    print_float(geometry::segment::clamp(x));
+    print(b"\n");
+}
+
+fn at(x: f32, y: f32) -> Point {
+    Point { x, y, z: 0.0 }
+}
+
+fn print_distance(label: &[u8], first: [Point; 2], second: [Point; 2]) {
+    print(label);
+    print(b" = ");
+    print_float(geometry::segment::distance(first, second));
+    print(b"\n");
+}
+
+// The root's four cards, then zeros, infinities, NaN and the first number below zero. The gap decision's two cards,
+// and infinity. The clamp of -1, -0, 0.5, 2 and NaN.
+fn show_numbers() {
+    print_root(0x4080_0000);
+    print_root(0x4000_0000);
+    print_root(0x0000_0001);
+    print_root(0x7f7f_ffff);
+    print_root(0x0000_0000);
+    print_root(0x8000_0000);
+    print_root(0x7f80_0000);
+    print_root(NAN);
+    print_root(0xff80_0000);
+    print_root(0x8000_0001);
+    print_gap(value(0x3dcc_cccd));
+    print_gap(value(0x3dcc_ccce));
+    print_gap(value(0x7f80_0000));
+    print_clamp(0xbf80_0000);
+    print_clamp(0x8000_0000);
+    print_clamp(0x3f00_0000);
+    print_clamp(0x4000_0000);
+    print_clamp(NAN);
+}
+
+// The card of the edges 0.25 apart, two points 5 apart, a point with a NaN.
+fn show_distances() {
+    let zero = at(0.0, 0.0);
+    let far = at(3.0, 4.0);
+    let odd = at(value(NAN), 4.0);
+    print_distance(
+        b"distance (0,0,0)-(0,2,0) to (0.25,0,0)-(0.25,2,0)",
+        [zero, at(0.0, 2.0)],
+        [at(0.25, 0.0), at(0.25, 2.0)],
+    );
+    print_distance(
+        b"distance of the points (0,0,0) and (3,4,0)",
+        [zero, zero],
+        [far, far],
+    );
+    print_distance(
+        b"distance of the points (0,0,0) and (nan,4,0)",
+        [zero, zero],
+        [odd, odd],
+    );
+}
+
+// A line across a lane, 2 long.
+fn across(x: f32) -> [Point; 2] {
+    [at(x, 0.0), at(x, 2.0)]
+}
+
+// The least of four distances, all NaN, and of four numbers.
+fn show_least_gaps() {
+    let odd = at(value(NAN), 4.0);
+    let here = [across(0.0), across(10.0)];
+    let nowhere = [[odd, odd], [odd, odd]];
+    let there = [across(40.0), across(12.5)];
+    print(b"two-way lane to one of nan, ");
+    print_gap(geometry::gap::least_gap(here, Direction::Both, nowhere, Direction::Both));
+    print(b"two-way lanes 40, 12.5, 30 and 2.5 apart, ");
+    print_gap(geometry::gap::least_gap(here, Direction::Both, there, Direction::Both));
+}
+
+// The lanes 7, 3, 5 and 9 along the x axis: of each, two points at its start and two at its end.
+pub const EDGES_7: [f32; 12] = [0.0, 0.0, 0.0, 0.0, 3.5, 0.0, 2.0, 0.0, 0.0, 2.0, 3.5, 0.0];
+
+pub const EDGES_3: [f32; 12] = [2.1, 0.0, 0.0, 2.1, 3.5, 0.0, 4.0, 0.0, 0.0, 4.0, 3.5, 0.0];
+
+pub const EDGES_5: [f32; 12] = [6.0, 0.0, 0.0, 6.0, 3.5, 0.0, 4.0, 0.0, 0.0, 4.0, 3.5, 0.0];
+
+pub const EDGES_9: [f32; 12] = [9.0, 0.0, 0.0, 9.0, 3.5, 0.0, 7.0, 0.0, 0.0, 7.0, 3.5, 0.0];
+
+// A lane, the next one, their gap, and whether it is passed or wide.
+fn print_link(
+    lane: u32,
+    here: [f32; 12],
+    way: Direction,
+    next: u32,
+    there: [f32; 12],
+    onward: Direction,
+) {
+    print(b"lane ");
+    print_number(lane);
+    print(b" -> ");
+    print_number(next);
+    print(b", ");
+    let from = geometry::edges::ends_at(&here, 0);
+    let to = geometry::edges::ends_at(&there, 0);
+    print_gap(geometry::gap::least_gap(from, way, to, onward));
+}
+
+pub fn show() {
+    print(b"# Cards\n");
+    show_numbers();
+    show_distances();
+    show_least_gaps();
+    print_link(
+        7,
+        EDGES_7,
+        Direction::Forward,
+        3,
+        EDGES_3,
+        Direction::Forward,
+    );
+    print_link(
+        3,
+        EDGES_3,
+        Direction::Forward,
+        5,
+        EDGES_5,
+        Direction::Backward,
+    );
+    print_link(5, EDGES_5, Direction::Backward, 9, EDGES_9, Direction::Both);
+    print_link(9, EDGES_9, Direction::Both, 7, EDGES_7, Direction::Forward);
+}

@@ -1,0 +1,233 @@
+//! The summary: what it says, that it fits a screen, `--all` and `--json`.
+mod common;
+use common::{prints, run};
+
+#[test]
+fn nothing_found() {
+    let map = "road m to junction x sections 0\nroad n from junction x sections 0\njunction x direct\nconnection m n start\npair -1 -1\n\
+               lane 1 m 0 -1 forward\nlane 2 n 0 -1 forward\n";
+    prints(
+        "check",
+        map,
+        0,
+        "map: 2 roads, 2 sections, 1 junction, 1 connection, 1 pair, 2 lanes\n\
+         repair: 0 road ends repaired, 1 connection added\n\
+         links: 1 link, 0 two-way links; 1 lane with none onward, 1 lane with none before\n\
+         gaps: the map has no edges\n\
+         movements: none lost\n\
+         found: nothing\n",
+    );
+}
+
+#[test]
+fn no_lanes() {
+    let text = "map: 1 road, 0 sections, 0 junctions, 0 connections, 0 pairs, 0 lanes\n\
+                repair: 0 road ends repaired, 0 connections added\n\
+                links: 0 links, 0 two-way links; 0 lanes with none onward, 0 lanes with none before\n\
+                gaps: 0 gaps in 0 links\n\
+                movements: none lost\n\
+                found: no lanes\n";
+    prints("", "road a\n", 1, text);
+    prints("check --all", "road a\n", 1, text);
+}
+
+/// A crossing with a gap on either side of v, whose successor is wrong for lane -2 and whose lane -3 no one enters.
+const CROSSING: &str = "road w sections 0\nroad v inside \"j 1\" from road w end to road e start sections 0\nroad e from junction \"j 1\" sections 0\n\
+    junction \"j 1\" common\nconnection w v start\npair -1 -1\npair -2 -2\n\
+    lane 1 w 0 -1 forward\nedges 0 0 0 0 -4 0 10 0 0 10 -4 0\n\
+    lane 2 w 0 -2 forward\nedges 0 -4 0 0 -8 0 10 -4 0 10 -8 0\n\
+    lane 3 v 0 -1 forward next -1\nedges 10.5 0 0 10.5 -4 0 20 0 0 20 -4 0\n\
+    lane 4 v 0 -2 forward next -7\nedges 10 -4 0 10 -8 0 20 -4 0 20 -8 0\n\
+    lane 5 v 0 -3 forward next -1\nedges 10 -8 0 10 -12 0 20 -8 0 20 -12 0\n\
+    lane 6 e 0 -1 forward\nedges 20 0 0 20 -4 0 30 0 0 30 -4 0\n";
+
+const CROSSING_CHECKED: &str = "map: 3 roads, 3 sections, 1 junction, 1 connection, 2 pairs, 6 lanes\n\
+    repair: 1 road end repaired, 0 connections added\n\
+    \x20 road w gets junction \"j 1\" at its end\n\
+    links: 4 links, 0 two-way links; 2 lanes with none onward, 3 lanes with none before\n\
+    LISTS\
+    gaps: 2 gaps in 4 links, the widest first\n\
+    \x20 4.000 m from v/0/-3 to e/0/-1, at 20.00, -10.00\n\
+    \x20 0.500 m from w/0/-1 to v/0/-1, at 10.00, -2.00\n\
+    movements: 1 lane inside a junction can be entered and not left, 1 left and not entered\n\
+    \x20 v/0/-2 in junction \"j 1\" can be entered and not left\n\
+    \x20 v/0/-3 in junction \"j 1\" can be left and not entered\n\
+    found: 2 gaps, 2 lost movements, 1 road end repaired\n";
+
+#[test]
+fn a_crossing_with_faults() {
+    prints("check", CROSSING, 1, &CROSSING_CHECKED.replace("LISTS", ""));
+    let lists: String = run("links", CROSSING).text().lines().map(|l| format!("  {l}\n")).collect();
+    assert_eq!(lists.lines().count(), 6);
+    prints("check --all", CROSSING, 1, &CROSSING_CHECKED.replace("LISTS", &lists));
+    let blind = run("--no-edges", CROSSING);
+    assert!(blind.text().contains("\ngaps: the map has no edges\nmovements: 1 lane"));
+    assert!(blind.text().ends_with("\nfound: 2 lost movements, 1 road end repaired\n"));
+}
+
+/// A driveway's link to a place along a main road is no list's matter; without it the way is lost.
+#[test]
+fn a_way_along_a_virtual_junction_is_not_lost() {
+    let map =
+        "road main sections 0\nroad drive inside yard from road main start along to road court start sections 0 1\nroad court from road drive end sections 0\n\
+               junction yard virtual\n\
+               lane 1 main 0 -1 forward\nlane 2 drive 0 -1 forward next -1\nlane 3 drive 1 -1 forward next -1\nlane 4 court 0 -1 forward\n";
+    assert!(run("", map).text().contains("\nmovements: none lost\n"));
+    let lost = "\nmovements: 0 lanes inside a junction can be entered and not left, 1 left and not entered\n\
+                \x20 drive/0/-1 in junction yard can be left and not entered\n";
+    assert!(run("", &map.replace("from road main start along ", "")).text().contains(lost));
+    let inner = "\nmovements: 0 lanes inside a junction can be entered and not left, 1 left and not entered\n  drive/1/-1 in junction yard";
+    assert!(run("", &map.replace("lane 2 drive 0 -1 forward next -1\n", "")).text().contains(inner));
+}
+
+/// The gap of a two-way lane lies at the end that is nearer to its successor; that of a backward lane at its start.
+#[test]
+fn where_a_gap_lies() {
+    let two_way = "road a from road b end to road b start sections 0\nroad b from road a end to road a start sections 0\n\
+                   lane 1 a 0 -1 both next -1 back -1\nedges 0 0 0 0 -4 0 10 0 0 10 -4 0\n\
+                   lane 2 b 0 -1 both next -1 back -1\nedges 11 0 0 11 -4 0 30 0 0 30 -4 0\n";
+    let text = run("", two_way).text();
+    assert!(text.contains("  1.000 m from a/0/-1 to b/0/-1, at 10.00, -2.00\n"), "{text}");
+    assert!(text.contains("  1.000 m from b/0/-1 to a/0/-1, at 11.00, -2.00\n"), "{text}");
+    let back = "road a from road b start sections 0\nroad b from road a start sections 0\n\
+                lane 1 a 0 1 backward back -1\nedges 0 0 0 0 -4 0 10 0 0 10 -4 0\n\
+                lane 2 b 0 -1 forward back 1\nedges -1 0 0 -1 -4 0 -9 0 0 -9 -4 0\n";
+    let text = run("", back).text();
+    assert!(text.contains("  1.000 m from a/0/1 to b/0/-1, at 0.00, -2.00\n"), "{text}");
+}
+
+#[test]
+fn distances_that_are_none_come_first() {
+    let map = CROSSING.replace("edges 10.5 0 0", "edges nan 0 0").replace("10 0 0 10 -4 0\n", "inf 0 0 10 -4 0\n");
+    let text = run("", &map).text();
+    assert!(text.contains("first\n  no distance from w/0/-1 to v/0/-1, at inf, -2.00\n  4.000 m from"), "{text}");
+    let json = run("--json", &map);
+    assert_json(&json.text());
+    assert!(json.text().contains("\"width\":null,\"bits\":\"7f800000\",\"x\":null,\"y\":-2}"), "{}", json.text());
+}
+
+/// A map with many rows of every kind that plain text can have.
+fn torn(n: usize) -> String {
+    let mut map = String::from("junction j common\n");
+    for i in 0..n {
+        map += &format!("connection w{i} v{i} start\npair -1 -1\npair -2 -2\n");
+    }
+    for i in 0..n {
+        map += &format!("road w{i} sections 0\nroad v{i} inside j from road w{i} end sections 0\n");
+        for (k, x) in [(1, 0), (2, 4)] {
+            map += &format!("lane {} w{i} 0 -{k} forward\nedges 0 {x} 0 0 {x} 0 9 {x} 0 9 {x} 0\n", 4 * i + k);
+            map += &format!("lane {} v{i} 0 -{k} forward\nedges {} {x} 0 {} {x} 0 90 {x} 0 90 {x} 0\n", 4 * i + k + 2, i + 10, i + 10);
+        }
+    }
+    map
+}
+
+#[test]
+fn a_summary_fits_a_screen() {
+    for n in [1, 2, 3, 5, 6, 40, 3000] {
+        let ran = run("check", &torn(n));
+        let lines = ran.text().lines().count();
+        assert!(lines <= 24, "{lines} lines\n{}", ran.text());
+        let all = run("check --all", &torn(n)).text();
+        assert_eq!(all.lines().count(), 6 + n + 4 * n + 2 * n + 2 * n);
+        let ends = if n == 1 { "end" } else { "ends" };
+        assert!(ran.text().ends_with(&format!("\nfound: {} gaps, {} lost movements, {n} road {ends} repaired\n", 2 * n, 2 * n)), "{}", ran.text());
+        assert_eq!(ran.text().lines().last(), all.lines().last());
+    }
+    let text = run("check", &torn(40)).text();
+    assert!(text.contains("  .. and 35 more (--all shows them)\n"), "{text}");
+    assert!(text.contains("  40.000 m from w39/0/-1 to v39/0/-1, at 9.00, 0.00\n  40.000 m from w39/0/-2"), "{text}");
+    assert!(text.contains("  .. and 75 more (--all shows them)\n"), "{text}");
+}
+
+#[test]
+fn json() {
+    let ran = run("--json", CROSSING);
+    assert_eq!((ran.status, ran.err), (1, String::new()));
+    let text = String::from_utf8_lossy(&ran.out).into_owned();
+    assert_json(&text);
+    let lane = |identity: u32, road: &str, number: i32| format!("{{\"identity\":{identity},\"road\":\"{road}\",\"section\":0,\"number\":{number}}}");
+    let wide = format!("{{\"lane\":{},\"successor\":{},\"width\":4,\"bits\":\"40800000\",\"x\":20,\"y\":-10}}", lane(5, "v", -3), lane(6, "e", -1));
+    let near = format!("{{\"lane\":{},\"successor\":{},\"width\":0.5,\"bits\":\"3f000000\",\"x\":10,\"y\":-2}}", lane(1, "w", -1), lane(3, "v", -1));
+    let lost = |l: String, entered: bool| format!("{{\"lane\":{l},\"junction\":\"j 1\",\"entered\":{entered},\"left\":{}}}", !entered);
+    let parts = [
+        "{\"file\":\"standard input\",\"sizes\":{\"roads\":3,\"sections\":3,\"junctions\":1,\"connections\":1,\"pairs\":2,\"lanes\":6},".to_string(),
+        "\"repairs\":{\"road_ends\":1,\"connections_added\":0,\"rows\":[{\"road\":\"w\",\"junction\":\"j 1\",\"end\":\"end\"}]},".into(),
+        "\"links\":{\"count\":4,\"two_way\":0,\"lanes_with_none_onward\":2,\"lanes_with_none_before\":3},".into(),
+        format!("\"gaps\":{{\"edges\":true,\"count\":2,\"rows\":[{wide},{near}]}},"),
+        format!(
+            "\"lost_movements\":{{\"entered_not_left\":1,\"left_not_entered\":1,\"rows\":[{},{}]}},",
+            lost(lane(4, "v", -2), true),
+            lost(lane(5, "v", -3), false)
+        ),
+        "\"wrong_lengths\":{\"count\":0,\"rows\":[]},\"notes\":{\"count\":0,\"rows\":[]},".into(),
+        "\"found\":[\"2 gaps\",\"2 lost movements\",\"1 road end repaired\"]}\n".into(),
+    ];
+    assert_eq!(text, parts.concat());
+    let all = run("--json --all", CROSSING).text();
+    assert_json(&all);
+    assert!(all.contains(&format!("\"rows\":[{{\"lane\":{},\"onward\":[{}],\"before\":[]}}", lane(1, "w", -1), lane(3, "v", -1))), "{all}");
+}
+
+#[test]
+fn json_of_odd_names_and_of_many_rows() {
+    let odd = "road a\"\\\u{1}\u{e9} sections 0\nlane 1 a\"\\\u{1}\u{e9} 0 -1 forward\n";
+    let text = run("--json --all", odd).text();
+    assert_json(&text);
+    assert!(text.contains("\"road\":\"a\\\"\\\\\\u0001\u{e9}\""), "{text}");
+    let (few, all) = (run("--json", &torn(40)).text(), run("--json --all", &torn(40)).text());
+    assert_json(&few);
+    assert_json(&all);
+    assert_eq!(few.matches("\"bits\"").count(), 5);
+    assert_eq!(all.matches("\"bits\"").count(), 80);
+    assert_eq!(all.matches("\"onward\"").count(), 160);
+}
+
+/// Is it one JSON value, and no more?
+fn assert_json(text: &str) {
+    let rest = value(text.trim_end().as_bytes());
+    assert_eq!(rest, Some(&b""[..]), "no JSON: {text}");
+}
+
+/// What stands after a JSON value.
+fn value(s: &[u8]) -> Option<&[u8]> {
+    match s.first()? {
+        b'{' => members(&s[1..], b'}', |s| value(string(s)?.strip_prefix(b":")?)),
+        b'[' => members(&s[1..], b']', value),
+        b'"' => string(s),
+        b'-' | b'0'..=b'9' => Some(number(s)),
+        _ => [&b"null"[..], b"true", b"false"].into_iter().find_map(|w| s.strip_prefix(w)),
+    }
+}
+
+fn members(mut s: &[u8], close: u8, member: fn(&[u8]) -> Option<&[u8]>) -> Option<&[u8]> {
+    if *s.first()? == close {
+        return Some(&s[1..]);
+    }
+    loop {
+        s = member(s)?;
+        match s.split_first()? {
+            (b',', rest) => s = rest,
+            (b, rest) => return (*b == close).then_some(rest),
+        }
+    }
+}
+
+fn string(s: &[u8]) -> Option<&[u8]> {
+    let mut s = s.strip_prefix(b"\"")?;
+    loop {
+        match s.split_first()? {
+            (b'"', rest) => return Some(rest),
+            (b'\\', rest) => s = &rest[1..],
+            (0..=0x1f, _) => return None,
+            (_, rest) => s = rest,
+        }
+    }
+}
+
+fn number(s: &[u8]) -> &[u8] {
+    let end = s.iter().position(|b| !b"+-.eE0123456789".contains(b)).unwrap_or(s.len());
+    let text = std::str::from_utf8(&s[..end]).unwrap_or_default();
+    assert!(text.parse::<f64>().is_ok_and(f64::is_finite), "{text}");
+    &s[end..]
+}
