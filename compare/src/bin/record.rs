@@ -1,43 +1,52 @@
-//! Writes answers of the original as numbers, for the program `replay`: record N SEED > crates/replay/stdin
+//! Writes answers of the original as words, for the program `replay`: record N SEED > crates/replay/stdin
 //!
-//! A stream of decimal numbers. Each step begins with its kind:
-//! 1 the tables: text, roads, sections, junctions, connections, pairs, lanes, edges (as bits), each as its length and its words;
-//! 2 the tables that repair writes in place of the last ones: roads, junctions, connections, pairs;
-//! 3 repair, 4 succession, 5 gap check (offsets and identities come first), 6 reversal (marks come first): the refusal (0 accepted), then
-//!   for each output its length, how many words are written to it, and these words;
-//! 7 reading of targets and 8 of lanes (text and raw rows come first), 9 of junctions (text, raw junctions, connections and lane links come first): likewise;
-//! 10 the length check: starts, lengths and the road's length in thousandths, then the answer and the two halves of the sum's bits, the high one first;
-//! 0 ends the stream.
-//! Every other word of an output, and every count after a refusal, must stay what it was before the call.
+//! Words are in decimal, with one byte after each. A step is its kind and a list, which holds the step's own lists; a
+//! list is its length and then its words.
+//! 1 tables, for the steps after it: of a map text, roads, sections, junctions, connections, pairs, lanes, edges (as
+//!   bits); raw ones text, targets, lanes, junctions, connections, lane links;
+//! 2 repair, 3 succession, 4 gap check, 5 reversal, 6 reading of targets, 7 of lanes, 8 of junctions: the answer (the
+//!   refusal, 0 where there is none, and the rows written to each output), what the call takes beside the tables (4
+//!   offsets and identities, 5 marks), and for each output how many words are lent, and the words written to it;
+//! 9 the length check: the answer (the refusal, and 1 where the length is off), starts, lengths and the road's length
+//!   in thousandths, and the two halves of the sum's bits, the high one first.
+//! Every other word of an output must stay what it was before the call.
 use compare::calls;
 use compare::original;
 use compare::tables::{Dice, Tables, LANE};
 use compare::raw::{self, Raw};
 use compare::{damage, maps, ours, reversal, rules};
 
-fn put(words: &[u32]) {
-    let all: Vec<String> = words.iter().map(u32::to_string).collect();
-    println!("{} {}", words.len(), all.join(" "));
+fn put(kind: u32, lists: &[Vec<u32>]) {
+    println!("{kind} {}", lists.iter().map(|l| l.len() + 1).sum::<usize>());
+    for list in lists {
+        let words: Vec<String> = list.iter().map(u32::to_string).collect();
+        println!("{}", [vec![list.len().to_string()], words].concat().join(" "));
+    }
 }
 
 fn bits(edges: &[f32]) -> Vec<u32> {
     edges.iter().map(|x| x.to_bits()).collect()
 }
 
-fn load(t: &Tables) {
-    println!("1");
-    put(&t.text.iter().map(|&b| u32::from(b)).collect::<Vec<_>>());
-    for table in [&t.roads, &t.sections, &t.junctions, &t.connections, &t.pairs, &t.lanes, &bits(&t.edges)] {
-        put(table);
-    }
+fn bytes(text: &[u8]) -> Vec<u32> {
+    text.iter().map(|&b| u32::from(b)).collect()
 }
 
-/// An answer: the refusal, and of each output its length and the words written.
-fn answer(refusal: u32, outs: &[(usize, Vec<u32>)]) {
-    println!("{refusal}");
-    for (length, words) in outs {
-        print!("{length} ");
-        put(if refusal == 0 { words } else { &[] });
+fn load(t: &Tables) {
+    let t = t.clone();
+    put(1, &[bytes(&t.text), t.roads, t.sections, t.junctions, t.connections, t.pairs, t.lanes, bits(&t.edges)]);
+}
+
+/// The width of a row of each output.
+fn widths(kind: u32) -> Vec<usize> {
+    match kind {
+        2 => calls::REPAIR_WIDTHS.to_vec(),
+        3 => calls::LIST_WIDTHS.to_vec(),
+        4 => vec![3],
+        5 => calls::REVERSAL_WIDTHS.to_vec(),
+        6 => vec![7],
+        7 => vec![4],
+        _ => calls::READING_WIDTHS.to_vec(),
     }
 }
 
@@ -57,11 +66,14 @@ fn lent(contents: Vec<Vec<u32>>, short: bool, dice: &mut Dice) -> (bool, Vec<(us
 
 /// What a call must leave: by the rules, and by what the original found.
 fn step(kind: u32, before: &[&[u32]], broken: u32, contents: Vec<Vec<u32>>, dice: &mut Dice) {
-    println!("{kind}");
-    before.iter().for_each(|w| put(w));
     let short = broken == 0 && dice.one_in(5);
     let (cut, outs) = lent(contents, short, dice);
-    answer(if cut { 9 } else { broken }, &outs);
+    let refusal = if cut { 9 } else { broken };
+    let written = |words: &[u32]| if refusal == 0 { words.to_vec() } else { Vec::new() };
+    let rows = outs.iter().zip(widths(kind)).map(|((_, words), width)| (written(words).len() / width) as u32);
+    let answer = [refusal].into_iter().chain(rows).collect();
+    let outputs = outs.iter().map(|(length, words)| [vec![*length as u32], written(words)].concat());
+    put(kind, &[answer].into_iter().chain(before.iter().map(|w| w.to_vec())).chain(outputs).collect::<Vec<_>>());
 }
 
 fn offsets(lists: &[Vec<u32>]) -> Vec<u32> {
@@ -77,18 +89,17 @@ fn admitted(t: &Tables, dice: &mut Dice) {
     let (m, found) = ours::repair(t);
     assert_eq!(found, original::repair(t), "record what the two agree on");
     let warnings = calls::repair(t, [t.roads.len(), t.junctions.len(), 2 * t.connections.len(), 2 * t.pairs.len(), 4 * t.connections.len()]).contents(&calls::REPAIR_WIDTHS).remove(4);
-    step(3, &[], 0, vec![m.roads.clone(), m.junctions.clone(), m.connections.clone(), m.pairs.clone(), warnings], dice);
+    step(2, &[], 0, vec![m.roads.clone(), m.junctions.clone(), m.connections.clone(), m.pairs.clone(), warnings], dice);
     let marks: Vec<u32> = (0..t.roads.len() / 20).map(|_| dice.below(2) as u32).collect();
     let broken = rules::reverse(t, &marks);
     let r = if broken == 0 { reversal::reversed(t, &marks) } else { t.clone() };
-    step(6, &[&marks], broken, vec![r.roads, r.sections, r.connections, r.pairs, r.lanes, bits(&r.edges)], dice);
-    println!("2");
-    [&m.roads, &m.junctions, &m.connections, &m.pairs].iter().for_each(|w| put(w));
+    step(5, &[&marks], broken, vec![r.roads, r.sections, r.connections, r.pairs, r.lanes, bits(&r.edges)], dice);
+    load(&Tables { roads: m.roads, junctions: m.junctions, connections: m.connections, pairs: m.pairs, ..t.clone() });
     let (lists, gaps) = original::lists_and_gaps(t);
     let (so, po) = (offsets(&lists.successors), offsets(&lists.predecessors));
     let (si, pi) = (lists.successors.concat(), lists.predecessors.concat());
-    step(4, &[], 0, vec![so.clone(), si.clone(), po, pi], dice);
-    step(5, &[&so, &si], 0, vec![gaps.concat()], dice);
+    step(3, &[], 0, vec![so.clone(), si.clone(), po, pi], dice);
+    step(4, &[&so, &si], 0, vec![gaps.concat()], dice);
 }
 
 /// The calls on damaged tables, lists and marks, as far as a rule refuses them.
@@ -96,38 +107,38 @@ fn damaged(map: &Tables, dice: &mut Dice) {
     let mut t = map.clone();
     damage::damage(&mut t, dice);
     load(&t);
-    let any = |outputs: usize| vec![vec![0; 20]; outputs];
-    let mut refused = |kind: u32, before: &[&[u32]], broken: u32, outputs: usize| {
+    let mut refused = |kind: u32, before: &[&[u32]], broken: u32| {
         if broken != 0 {
-            step(kind, before, broken, any(outputs), dice);
+            step(kind, before, broken, vec![vec![0; 20]; widths(kind).len()], dice);
         }
     };
-    refused(3, &[], rules::repair(&t), 5);
-    refused(4, &[], rules::succession(&t), 4);
+    refused(2, &[], rules::repair(&t));
+    refused(3, &[], rules::succession(&t));
     let n = t.lanes.len() / LANE;
     let (so, si) = (vec![0; n + 1], Vec::new());
-    refused(5, &[&so, &si], rules::gaps(&t, &so, &si), 1);
+    refused(4, &[&so, &si], rules::gaps(&t, &so, &si));
     let (so, si) = (vec![1; n + 1], vec![61]);
-    refused(5, &[&so, &si], rules::gaps(&t, &so, &si), 1);
+    refused(4, &[&so, &si], rules::gaps(&t, &so, &si));
     let marks = vec![1; t.roads.len() / 20];
-    refused(6, &[&marks], rules::reverse(&t, &marks), 6);
+    refused(5, &[&marks], rules::reverse(&t, &marks));
     let marks = vec![2; t.roads.len() / 20];
-    refused(6, &[&marks], rules::reverse(&t, &marks), 6);
+    refused(5, &[&marks], rules::reverse(&t, &marks));
 }
 
 /// The three readings of raw tables, as far as they are refused or, for tables that are not damaged, accepted.
 fn read(raw: &Raw, dice: &mut Dice, accepted: bool) {
-    let text: Vec<u32> = raw.text.iter().map(|&b| u32::from(b)).collect();
-    let words = |out: calls::Outcome, widths: &[usize]| if out.refusal == 0 { out.contents(widths) } else { vec![vec![0; 20]; widths.len()] };
     let broken = [rules::read_targets(raw), rules::read_lanes(raw), rules::read_junctions(raw)];
-    if accepted || broken[0] != 0 {
-        step(7, &[&text, &raw.targets], broken[0], words(calls::read_targets(raw, 1000), &[7]), dice);
+    let found = [calls::read_targets(raw, 1000), calls::read_lanes(raw, 1000), calls::read_junctions(raw, [1000; 4])];
+    if accepted || broken != [0; 3] {
+        let r = raw.clone();
+        put(1, &[bytes(&r.text), r.targets, r.lanes, r.junctions, r.connections, r.links]);
     }
-    if accepted || broken[1] != 0 {
-        step(8, &[&text, &raw.lanes], broken[1], words(calls::read_lanes(raw, 1000), &[4]), dice);
-    }
-    if accepted || broken[2] != 0 {
-        step(9, &[&text, &raw.junctions, &raw.connections, &raw.links], broken[2], words(calls::read_junctions(raw, [1000; 4]), &calls::READING_WIDTHS), dice);
+    for ((kind, refusal), out) in (6..).zip(broken).zip(found) {
+        let wide = widths(kind);
+        let words = if out.refusal == 0 { out.contents(&wide) } else { vec![vec![0; 20]; wide.len()] };
+        if accepted || refusal != 0 {
+            step(kind, &[], refusal, words, dice);
+        }
     }
 }
 
@@ -140,12 +151,9 @@ fn length(dice: &mut Dice) {
     let total = starts.last().unwrap_or(&0) + sizes.last().unwrap_or(&0) + off[1] % 25;
     let metres = |ns: &[u32]| ns.iter().map(|&n| f64::from(n) / 1000.0).collect::<Vec<_>>();
     let report = if starts.len() == sizes.len() { original::road_length(&metres(&starts), &metres(&sizes), f64::from(total) / 1000.0) } else { None };
-    println!("10");
-    put(&starts);
-    put(&sizes);
     let bits = report.unwrap_or(0.0).to_bits();
-    let answer = if starts.len() != sizes.len() { 16 } else { u32::from(report.is_some()) };
-    println!("{total} {answer} {} {}", bits >> 32, bits & 0xffff_ffff);
+    let answer = if starts.len() != sizes.len() { vec![16, 0] } else { vec![0, u32::from(report.is_some())] };
+    put(9, &[answer, starts, sizes, vec![total], vec![(bits >> 32) as u32, bits as u32]]);
 }
 
 fn main() {
@@ -173,5 +181,4 @@ fn main() {
             length(&mut dice);
         }
     }
-    println!("0");
 }

@@ -1,38 +1,20 @@
-// A call's outputs beside those that are recorded: an output is its length, and a list of the words written to it.
-use crate::stream::after;
+// An answer and its outputs beside those that are recorded, which are lists of the step. The answer is list 0: the
+// refusal, 0 where there is none, and the rows written to each output. An output's list has how many words of it are
+// lent, and the words written to it.
 use crate::stream::list;
-use crate::stream::next;
 use crate::stream::number;
-use mapform::bits::nan_bits;
-ghost use Prim.Native.Nat.{_≤_, _<_};
-ghost use lib.ListN.{length};
+use words::tests::both;
+ghost use Prim.Native.Nat.{_≤_};
 
 // What every output word is before a call.
-pub const MARK: u32 = 3735928559;
+pub const MARK: u32 = 0xdead_beef;
 
-// How long an output is to be lent: at most `most` words.
-pub fn room(nums: &[u32], at: usize, most: usize) -> usize
-    ensures { λ r. ⌜ r ≤ most ⌝ }
-{
-    let n = number(nums, at) as usize;
-    if n <= most {
-        return n;
-    }
-    most
-}
-
-// Are the words written those that are recorded, and all others as they were? The first `lent` words of `out` were lent.
-pub fn same(nums: &[u32], at: usize, out: &[u32], lent: usize) -> bool {
-    let words = list(nums, next(nums, at));
-    if number(nums, at) as usize != lent {
-        return false;
-    }
-    if words.len() > lent {
-        return false;
-    }
+// Is that the answer? It has a 0 for each output that the call does not have.
+pub fn told(step: &[u32], answer: [usize; 7]) -> bool {
+    let expected = list(step, 0);
     let mut i = 0;
-    while i < out.len() {
-        if out[i] != recorded(words, i) {
+    while i < 7 {
+        if answer[i] != number(expected, i) as usize {
             return false;
         }
         i += 1;
@@ -40,49 +22,55 @@ pub fn same(nums: &[u32], at: usize, out: &[u32], lent: usize) -> bool {
     true
 }
 
-fn recorded(words: &[u32], i: usize) -> u32 {
-    if i < words.len() {
-        return words[i];
+// How many words of the output in list k are lent: at most 256.
+pub fn lent(step: &[u32], k: usize) -> usize
+    ensures { λ r. ⌜ r ≤ 256 ⌝ }
+{
+    let n = number(list(step, k), 0) as usize;
+    if n > 256 {
+        return 256;
+    }
+    n
+}
+
+// Word i of an output after the call: as written, or as it was.
+fn recorded(output: &[u32], i: usize) -> u32 {
+    if i < output.len() {
+        return output[i];
     }
     MARK
+}
+
+// Is all well so far, and are the words written those of list k, and all others as they were?
+pub fn same(well: bool, step: &[u32], k: usize, words: &[u32; 256]) -> bool {
+    let output = list(step, k);
+    let mut i = 0;
+    while i < 256 {
+        if words[i] != recorded(output, i + 1) {
+            return false;
+        }
+        i += 1;
+    }
+    both(well, output.len() <= 257)
 }
 
 // A float's bits; of a NaN only that it is one.
 fn same_float(x: f32, bits: u32) -> bool {
     if x != x {
-        return nan_bits(bits);
+        return bits % 0x8000_0000 > 0x7f80_0000;
     }
     f32::to_bits(x) == bits
 }
 
-pub fn same_floats(nums: &[u32], at: usize, out: &[f32], lent: usize) -> bool {
-    let words = list(nums, next(nums, at));
-    if number(nums, at) as usize != lent {
-        return false;
-    }
-    if words.len() > lent {
-        return false;
-    }
+// The same for floats.
+pub fn same_floats(well: bool, step: &[u32], k: usize, floats: &[f32; 256]) -> bool {
+    let output = list(step, k);
     let mut i = 0;
-    while i < out.len() {
-        if !same_float(out[i], recorded(words, i)) {
+    while i < 256 {
+        if !same_float(floats[i], recorded(output, i + 1)) {
             return false;
         }
         i += 1;
     }
-    true
-}
-
-// Are that many rows recorded as written?
-pub fn counted(nums: &[u32], at: usize, width: usize, rows: usize) -> bool
-    requires { ⌜ 0 < width ⌝ }
-{
-    list(nums, next(nums, at)).len() / width == rows
-}
-
-// The place of the output after that one.
-pub fn beyond(nums: &[u32], at: usize) -> usize
-    ensures { λ r. ⌜ r ≤ length (now (nums .entry)) ⌝ }
-{
-    after(nums, next(nums, at))
+    both(well, output.len() <= 257)
 }

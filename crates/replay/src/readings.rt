@@ -1,12 +1,11 @@
-// Recorded readings of attributes, and length checks, run again. Answers are as in steps.
+// Recorded readings of attributes, and length checks, run again. The raw tables are six lists: text, targets, lanes,
+// junctions, connections, lane links. A step has the answer and the outputs.
 use crate::compare::MARK;
-use crate::compare::beyond;
-use crate::compare::counted;
-use crate::compare::room;
+use crate::compare::lent;
 use crate::compare::same;
-use crate::steps::found;
+use crate::compare::told;
 use crate::stream::list;
-use crate::stream::number;
+use crate::stream::number as word;
 use reading::junctions::ReadJunctions;
 use reading::junctions::read_junctions;
 use reading::lanes::ReadTable;
@@ -14,222 +13,109 @@ use reading::lanes::read_lanes;
 use reading::length::Length;
 use reading::length::check_length;
 use reading::targets::read_targets;
-use tables::check::number as number_of;
+use tables::check::number;
 use words::tests::both;
-ghost use Prim.Native.Nat.{_<_};
+ghost use Prim.Native.Nat.{_≤_};
 
-// Does the answer of a reading with one output say what is recorded?
-fn table_told(nums: &[u32], at: usize, a: usize, width: usize, answer: ReadTable) -> bool
-    requires { ⌜ 0 < width ⌝ }
-{
+fn table_told(step: &[u32], answer: ReadTable) -> bool {
     match answer {
-        ReadTable::Written(n) => both(number(nums, at) == 0, counted(nums, a, width, n)),
-        ReadTable::Refused(v) => number(nums, at) == number_of(v),
+        ReadTable::Refused(v) => told(step, [number(v) as usize, 0, 0, 0, 0, 0, 0]),
+        ReadTable::Written(n) => told(step, [0, n, 0, 0, 0, 0, 0]),
     }
 }
 
-fn targets_into(
-    nums: &[u32],
-    text: &[u8],
-    raw: &[u32],
-    at: usize,
-    a: usize,
-    out: &mut [u32],
-) -> u32 {
-    let n = room(nums, a, out.len());
-    let answer = read_targets(text, raw, &mut out[0..n]);
-    found(table_told(nums, at, a, 7, answer), same(nums, a, out, n))
+pub fn targets_again(text: &[u8], raw: &[u32], step: &[u32]) -> bool {
+    let mut rows = [MARK; 256];
+    let answer = read_targets(text, list(raw, 1), &mut rows[0..lent(step, 1)]);
+    same(table_told(step, answer), step, 1, &rows)
 }
 
-pub fn targets_again(nums: &[u32], text: &[u8], raw: &[u32], at: usize, a: usize) -> u32 {
-    let mut out = [MARK; 1024];
-    targets_into(nums, text, raw, at, a, &mut out)
+pub fn lanes_again(text: &[u8], raw: &[u32], step: &[u32]) -> bool {
+    let mut rows = [MARK; 256];
+    let answer = read_lanes(text, list(raw, 2), &mut rows[0..lent(step, 1)]);
+    same(table_told(step, answer), step, 1, &rows)
 }
 
-fn lanes_into(nums: &[u32], text: &[u8], raw: &[u32], at: usize, a: usize, out: &mut [u32]) -> u32 {
-    let n = room(nums, a, out.len());
-    let answer = read_lanes(text, raw, &mut out[0..n]);
-    found(table_told(nums, at, a, 4, answer), same(nums, a, out, n))
-}
-
-pub fn lanes_again(nums: &[u32], text: &[u8], raw: &[u32], at: usize, a: usize) -> u32 {
-    let mut out = [MARK; 1024];
-    lanes_into(nums, text, raw, at, a, &mut out)
-}
-
-fn junctions_told(nums: &[u32], at: usize, a: usize, answer: ReadJunctions) -> bool {
-    let b = beyond(nums, a);
-    let c = beyond(nums, b);
-    let d = beyond(nums, c);
+fn junctions_told(step: &[u32], answer: ReadJunctions) -> bool {
     match answer {
-        ReadJunctions::Written(n) => {
-            let x = both(number(nums, at) == 0, counted(nums, a, 5, n.junctions));
-            let y = both(x, counted(nums, b, 7, n.connections));
-            let z = both(y, counted(nums, c, 2, n.pairs));
-            both(z, counted(nums, d, 4, n.warnings))
-        }
-        ReadJunctions::Refused(v) => number(nums, at) == number_of(v),
+        ReadJunctions::Refused(v) => told(step, [number(v) as usize, 0, 0, 0, 0, 0, 0]),
+        ReadJunctions::Written(n) => told(
+            step,
+            [0, n.junctions, n.connections, n.pairs, n.warnings, 0, 0],
+        ),
     }
 }
 
-fn junctions_same(
-    nums: &[u32],
-    a: usize,
-    junctions: &[u32],
-    connections: &[u32],
-    pairs: &[u32],
-    warnings: &[u32],
-) -> bool {
-    let b = beyond(nums, a);
-    let c = beyond(nums, b);
-    let d = beyond(nums, c);
-    let x = same(nums, a, junctions, room(nums, a, junctions.len()));
-    let y = both(
-        x,
-        same(nums, b, connections, room(nums, b, connections.len())),
-    );
-    let z = both(y, same(nums, c, pairs, room(nums, c, pairs.len())));
-    both(z, same(nums, d, warnings, room(nums, d, warnings.len())))
-}
-
-fn junctions_into(
-    nums: &[u32],
-    text: &[u8],
-    raw: &[u32],
-    raw_connections: &[u32],
-    links: &[u32],
-    at: usize,
-    a: usize,
-    junctions: &mut [u32],
-    connections: &mut [u32],
-    pairs: &mut [u32],
-    warnings: &mut [u32],
-) -> u32 {
-    let b = beyond(nums, a);
-    let c = beyond(nums, b);
-    let d = beyond(nums, c);
-    let na = room(nums, a, junctions.len());
-    let nb = room(nums, b, connections.len());
-    let nc = room(nums, c, pairs.len());
-    let nd = room(nums, d, warnings.len());
+pub fn junctions_again(text: &[u8], raw: &[u32], step: &[u32]) -> bool {
+    let mut junctions = [MARK; 256];
+    let mut connections = [MARK; 256];
+    let mut pairs = [MARK; 256];
+    let mut warnings = [MARK; 256];
     let answer = read_junctions(
         text,
-        raw,
-        raw_connections,
-        links,
-        &mut junctions[0..na],
-        &mut connections[0..nb],
-        &mut pairs[0..nc],
-        &mut warnings[0..nd],
+        list(raw, 3),
+        list(raw, 4),
+        list(raw, 5),
+        &mut junctions[0..lent(step, 1)],
+        &mut connections[0..lent(step, 2)],
+        &mut pairs[0..lent(step, 3)],
+        &mut warnings[0..lent(step, 4)],
     );
-    let told = junctions_told(nums, at, a, answer);
-    found(
-        told,
-        junctions_same(nums, a, junctions, connections, pairs, warnings),
-    )
+    let a = junctions_told(step, answer);
+    let b = same(a, step, 1, &junctions);
+    let c = same(b, step, 2, &connections);
+    let d = same(c, step, 3, &pairs);
+    same(d, step, 4, &warnings)
 }
 
-pub fn junctions_again(
-    nums: &[u32],
-    text: &[u8],
-    raw: &[u32],
-    raw_connections: &[u32],
-    links: &[u32],
-    at: usize,
-    a: usize,
-) -> u32 {
-    let mut junctions = [MARK; 1024];
-    let mut connections = [MARK; 1024];
-    let mut pairs = [MARK; 1024];
-    let mut warnings = [MARK; 1024];
-    junctions_into(
-        nums,
-        text,
-        raw,
-        raw_connections,
-        links,
-        at,
-        a,
-        &mut junctions,
-        &mut connections,
-        &mut pairs,
-        &mut warnings,
-    )
+// Word i of a list of thousandths, as a float.
+fn metres(list: &[u32], i: usize) -> f64 {
+    word(list, i) as f64 / 1000.0
 }
 
-// Thousandths as a float.
-fn metres(n: u32) -> f64 {
-    n as f64 / 1000.0
-}
-
-fn put_metres(out: &mut [f64], i: usize, n: u32) {
-    if i < out.len() {
-        out[i] = metres(n);
+// How many words a list has: at most 3.
+fn few(list: &[u32]) -> usize
+    ensures { λ r. ⌜ r ≤ 3 ⌝ }
+{
+    if list.len() > 3 {
+        return 3;
     }
+    list.len()
 }
 
-// Puts a list in thousandths into floats, as far as there is room.
-fn all_metres(words: &[u32], out: &mut [f64]) {
-    let mut i = 0;
-    while i < words.len() {
-        put_metres(out, i, words[i]);
-        i += 1;
-    }
-}
-
-// The first n floats, or all where there are fewer.
-fn first<'a>(floats: &'a [f64], n: usize) -> &'a [f64] {
-    if n <= floats.len() {
-        return &floats[0..n];
-    }
-    floats
-}
-
-// Are these the two halves of a float's bits?
-fn has_bits(x: f64, high: u32, low: u32) -> bool {
+// Are these the two halves of a float's bits, the high one first?
+fn has_bits(x: f64, halves: &[u32]) -> bool {
     if x != x {
         return false;
     }
     let bits = f64::to_bits(x);
     both(
-        bits / 4294967296 == high as u64,
-        bits % 4294967296 == low as u64,
+        bits / 0x1_0000_0000 == word(halves, 0) as u64,
+        bits % 0x1_0000_0000 == word(halves, 1) as u64,
     )
 }
 
-fn length_into(
-    starts: &[u32],
-    sizes: &[u32],
-    length: u32,
-    answer: u32,
-    high: u32,
-    low: u32,
-    a: &mut [f64],
-    b: &mut [f64],
-) -> u32 {
-    all_metres(starts, a);
-    all_metres(sizes, b);
-    match check_length(
-        first(a, starts.len()),
-        first(b, sizes.len()),
-        metres(length),
-    ) {
-        Length::Fine => found(answer == 0, true),
-        Length::Off(sum) => found(answer == 1, has_bits(sum, high, low)),
-        Length::Uneven => found(answer == 16, true),
+// 16 is the refusal; a 1 after the refusal says that the length is off, and the last list then has the sum's bits.
+fn length_told(step: &[u32], answer: Length) -> bool {
+    match answer {
+        Length::Fine => told(step, [0, 0, 0, 0, 0, 0, 0]),
+        Length::Off(sum) => both(
+            told(step, [0, 1, 0, 0, 0, 0, 0]),
+            has_bits(sum, list(step, 4)),
+        ),
+        Length::Uneven => told(step, [16, 0, 0, 0, 0, 0, 0]),
     }
 }
 
-// The length check of starts and lengths, and what is recorded of it: its answer, and the halves of the sum's bits.
-pub fn length_again(
-    starts: &[u32],
-    sizes: &[u32],
-    length: u32,
-    answer: u32,
-    high: u32,
-    low: u32,
-) -> u32 {
-    let mut a = [0.0f64; 8];
-    let mut b = [0.0f64; 8];
-    length_into(starts, sizes, length, answer, high, low, &mut a, &mut b)
+// A length check takes starts, lengths, and the road's length, all in thousandths.
+pub fn length_again(step: &[u32]) -> bool {
+    let s = list(step, 1);
+    let l = list(step, 2);
+    let starts = [metres(s, 0), metres(s, 1), metres(s, 2)];
+    let lengths = [metres(l, 0), metres(l, 1), metres(l, 2)];
+    let length = metres(list(step, 3), 0);
+    length_told(
+        step,
+        check_length(&starts[0..few(s)], &lengths[0..few(l)], length),
+    )
 }

@@ -1,34 +1,17 @@
-use lib.ListN.{length}
 use borrow.Author.Needs.{needs}
 use native.Mathlib.Omega.{arith}
-use mathlib.Core.Path.{_≡_, refl, _∙_}
-use Prim.Native.Nat.{_+_, _-_, _≤_}
+use Prim.Native.Nat.{_-_, _≤_}
 use Rattle.replay.proofs.compare.same_floats.Statement.{statement}
 use Rattle.replay.proofs.compare.same_floats.Tie as tie
 
 abbrev Inv-loop : tie.InvT-loop
-Inv-loop nums at out lent words i₀ i = i ≤ length out
+Inv-loop well step k floats output i₀ i = i ≤ 256
 
 abbrev μ-loop : tie.MeasureT-loop
-μ-loop nums at out lent words i₀ i = length out - i
-
-next-requires : tie.Need-next-requires Inv-loop μ-loop
-next-requires c κs = search needs
+μ-loop well step k floats output i₀ i = 256 - i
 
 list-requires : tie.Need-list-requires Inv-loop μ-loop
 list-requires c κs = search needs
-
-number-requires : tie.Need-number-requires Inv-loop μ-loop
-number-requires c κs = search needs
-
-cast-if1 : tie.Need-cast-if1 Inv-loop μ-loop
-cast-if1 c = search needs
-
-returns : tie.Need-returns Inv-loop μ-loop
-returns c = search needs
-
-returns-2 : tie.Need-returns-2 Inv-loop μ-loop
-returns-2 c = search needs
 
 loop-holds : tie.Need-loop-holds Inv-loop μ-loop
 loop-holds c = omega arith
@@ -36,8 +19,11 @@ loop-holds c = omega arith
 mul-same-float : tie.Need-mul-same-float Inv-loop μ-loop
 mul-same-float c = search needs
 
-shared-slice-read-same-float : tie.Need-shared-slice-read-same-float Inv-loop μ-loop
-shared-slice-read-same-float c = omega (arith, c .before .loop-test .taken)
+element-copy-out-same-float : tie.Need-element-copy-out-same-float Inv-loop μ-loop
+element-copy-out-same-float c = omega arith
+
+add-recorded : tie.Need-add-recorded Inv-loop μ-loop
+add-recorded c = omega arith
 
 recorded-requires : tie.Need-recorded-requires Inv-loop μ-loop
 recorded-requires c κs = search needs
@@ -45,20 +31,23 @@ recorded-requires c κs = search needs
 same-float-requires : tie.Need-same-float-requires Inv-loop μ-loop
 same-float-requires c κs = search needs
 
-returns-3 : tie.Need-returns-3 Inv-loop μ-loop
-returns-3 c = search needs
+returns : tie.Need-returns Inv-loop μ-loop
+returns c = search needs
 
 add-i : tie.Need-add-i Inv-loop μ-loop
-add-i c = omega (arith, c .before .before .before .before .loop-test .taken)
+add-i c = omega arith
 
 loop-less : tie.Need-loop-less Inv-loop μ-loop
-loop-less c = omega (arith, c .before .before .before .before .loop-test .taken)
+loop-less c = omega arith
 
 loop-again : tie.Need-loop-again Inv-loop μ-loop
-loop-again c = omega (arith, c .before .before .before .before .loop-test .taken)
+loop-again c = omega arith
 
-returns-4 : tie.Need-returns-4 Inv-loop μ-loop
-returns-4 c = search needs
+both-requires : tie.Need-both-requires Inv-loop μ-loop
+both-requires c κs = search needs
+
+returns-2 : tie.Need-returns-2 Inv-loop μ-loop
+returns-2 c = search needs
 
 pub same-floats-spec : {M : Type 1} → statement M
 same-floats-spec =
@@ -66,19 +55,16 @@ same-floats-spec =
     (tie.spec
     Inv-loop
     μ-loop
-    next-requires
     list-requires
-    number-requires
-    cast-if1
-    returns
-    returns-2
     loop-holds
     mul-same-float
-    shared-slice-read-same-float
+    element-copy-out-same-float
+    add-recorded
     recorded-requires
     same-float-requires
-    returns-3
+    returns
     add-i
     loop-less
     loop-again
-    returns-4)
+    both-requires
+    returns-2)

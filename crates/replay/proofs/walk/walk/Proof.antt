@@ -1,73 +1,64 @@
 use lib.ListN.{length}
 use borrow.Author.Needs.{needs}
 use native.Mathlib.Omega.{arith}
-use mathlib.Core.Path.{_≡_, refl, _∙_}
-use Prim.Native.Nat.{_+_, _-_, _≤_}
+use mathlib.Core.Path.{_≡_, refl}
+use Prim.Native.Nat.{_-_}
 use Rattle.replay.proofs.walk.walk.Statement.{statement}
 use Rattle.replay.proofs.walk.walk.Tie as tie
 
 abbrev Inv-loop : tie.InvT-loop
-Inv-loop nums text₀ edges₀ state₀ at₀ what₀ text edges state at what = (at ≤ length nums) × (length text ≡ length text₀) × (length edges ≡ length edges₀) × (length state ≡ length state₀)
+Inv-loop words tally₀ at₀ tables₀ tally at tables = length tally ≡ length tally₀
 
 abbrev μ-loop : tie.MeasureT-loop
-μ-loop nums text₀ edges₀ state₀ at₀ what₀ text edges state at what = length nums - at
-
-number-requires : tie.Need-number-requires Inv-loop μ-loop
-number-requires c κs = search needs
+μ-loop words tally₀ at₀ tables₀ tally at tables = length words - at
 
 loop-holds : tie.Need-loop-holds Inv-loop μ-loop
-loop-holds c = (omega arith, refl, refl, refl)
+loop-holds c = refl
 
-next-requires : tie.Need-next-requires Inv-loop μ-loop
-next-requires c κs = search needs
+mul-kind : tie.Need-mul-kind Inv-loop μ-loop
+mul-kind c = search needs
 
-step-requires : tie.Need-step-requires Inv-loop μ-loop
-step-requires c κs = search needs
+shared-slice-read-kind : tie.Need-shared-slice-read-kind Inv-loop μ-loop
+shared-slice-read-kind c = omega arith
+
+add-tables : tie.Need-add-tables Inv-loop μ-loop
+add-tables c = omega arith
+
+add-list-at : tie.Need-add-list-at Inv-loop μ-loop
+add-list-at c = omega arith
+
+list-at-requires : tie.Need-list-at-requires Inv-loop μ-loop
+list-at-requires c κs = search needs
+
+list-at-requires-2 : tie.Need-list-at-requires-2 Inv-loop μ-loop
+list-at-requires-2 c κs = search needs
+
+with-text-requires : tie.Need-with-text-requires Inv-loop μ-loop
+with-text-requires c κs = search needs
+
+count-requires : tie.Need-count-requires Inv-loop μ-loop
+count-requires c κs = search needs
+
+say-other-requires : tie.Need-say-other-requires Inv-loop μ-loop
+say-other-requires c κs = search needs
+
+add-after : tie.Need-add-after Inv-loop μ-loop
+add-after c = omega arith
+
+after-requires : tie.Need-after-requires Inv-loop μ-loop
+after-requires c κs = search needs
+
+loop-less : tie.Need-loop-less Inv-loop μ-loop
+loop-less c = omega arith
+
+loop-again : tie.Need-loop-again Inv-loop μ-loop
+loop-again c = omega arith
 
 same-length : tie.Need-same-length Inv-loop μ-loop
-same-length c = c .before .before .before .before .before .before .before .step .kept .1 .1 .1 .0 ∙ c .before .before .before .before .before .before .before .before .before .before .before .before .before .loop .inv .1
-
-same-length-2 : tie.Need-same-length-2 Inv-loop μ-loop
-same-length-2 c = c .before .before .before .before .before .before .before .step .kept .1 .1 .1 .1 .0 ∙ c .before .before .before .before .before .before .before .before .before .before .before .before .before .loop .inv .2
-
-same-length-3 : tie.Need-same-length-3 Inv-loop μ-loop
-same-length-3 c = c .before .before .before .before .before .before .before .step .kept .1 .1 .1 .1 .1 .0 ∙ c .before .before .before .before .before .before .before .before .before .before .before .before .before .loop .inv .3
+same-length c = omega arith
 
 returns : tie.Need-returns Inv-loop μ-loop
 returns c = search needs
-
-same-length-4 : tie.Need-same-length-4 Inv-loop μ-loop
-same-length-4 c = c .before .before .before .before .before .before .before .before .step .kept .1 .1 .1 .0 ∙ c .before .before .before .before .before .before .before .before .before .before .before .before .before .before .loop .inv .1
-
-same-length-5 : tie.Need-same-length-5 Inv-loop μ-loop
-same-length-5 c = c .before .before .before .before .before .before .before .before .step .kept .1 .1 .1 .1 .0 ∙ c .before .before .before .before .before .before .before .before .before .before .before .before .before .before .loop .inv .2
-
-same-length-6 : tie.Need-same-length-6 Inv-loop μ-loop
-same-length-6 c = c .before .before .before .before .before .before .before .before .step .kept .1 .1 .1 .1 .1 .0 ∙ c .before .before .before .before .before .before .before .before .before .before .before .before .before .before .loop .inv .3
-
-returns-2 : tie.Need-returns-2 Inv-loop μ-loop
-returns-2 c = search needs
-
-number-requires-2 : tie.Need-number-requires-2 Inv-loop μ-loop
-number-requires-2 c κs = search needs
-
-loop-less : tie.Need-loop-less Inv-loop μ-loop
-loop-less c = omega (arith, c .before .before .if1 .left, c .before .if2 .left, c .before .before .before .before .before .before .before .before .before .before .before .before .before .before .before .loop .inv .0)
-
-loop-again : tie.Need-loop-again Inv-loop μ-loop
-loop-again c = (omega (arith, c .before .if2 .left), c .before .before .before .before .before .before .before .before .before .step .kept .1 .1 .1 .0 ∙ c .before .before .before .before .before .before .before .before .before .before .before .before .before .before .before .loop .inv .1, c .before .before .before .before .before .before .before .before .before .step .kept .1 .1 .1 .1 .0 ∙ c .before .before .before .before .before .before .before .before .before .before .before .before .before .before .before .loop .inv .2, c .before .before .before .before .before .before .before .before .before .step .kept .1 .1 .1 .1 .1 .0 ∙ c .before .before .before .before .before .before .before .before .before .before .before .before .before .before .before .loop .inv .3)
-
-same-length-7 : tie.Need-same-length-7 Inv-loop μ-loop
-same-length-7 c = c .before .loop .inv .1
-
-same-length-8 : tie.Need-same-length-8 Inv-loop μ-loop
-same-length-8 c = c .before .loop .inv .2
-
-same-length-9 : tie.Need-same-length-9 Inv-loop μ-loop
-same-length-9 c = c .before .loop .inv .3
-
-returns-3 : tie.Need-returns-3 Inv-loop μ-loop
-returns-3 c = search needs
 
 pub walk-spec : {M : Type 1} → statement M
 walk-spec =
@@ -75,22 +66,19 @@ walk-spec =
     (tie.spec
     Inv-loop
     μ-loop
-    number-requires
     loop-holds
-    next-requires
-    step-requires
-    same-length
-    same-length-2
-    same-length-3
-    returns
-    same-length-4
-    same-length-5
-    same-length-6
-    returns-2
-    number-requires-2
+    mul-kind
+    shared-slice-read-kind
+    add-tables
+    add-list-at
+    list-at-requires
+    list-at-requires-2
+    with-text-requires
+    count-requires
+    say-other-requires
+    add-after
+    after-requires
     loop-less
     loop-again
-    same-length-7
-    same-length-8
-    same-length-9
-    returns-3)
+    same-length
+    returns)
