@@ -6,7 +6,7 @@ use super::roads::Road;
 use crate::map::Outline;
 
 /// The most points of a border.
-const MOST_POINTS: usize = 64;
+const MOST_POINTS: usize = 256;
 /// The most stations at which the road or a lane changes its formula that are taken note of.
 const MOST_KNOTS: usize = 32;
 /// A border may be this far off the straight line between two of its points, in metres.

@@ -44,11 +44,11 @@ fn an_arc_is_smooth() {
 }
 
 #[test]
-fn no_border_has_more_than_64_points() {
+fn no_border_has_more_than_256_points() {
     let wide: String = (0..500).map(|i| format!(r#"<width sOffset="{i}" a="{}"/>"#, 2 + i % 3)).collect();
     let lanes = format!(r#"<laneSection s="0"><right><lane id="-1">{wide}</lane></right></laneSection>"#);
     let plan = r#"<planView><geometry s="0" x="0" y="0" hdg="0" length="500"><arc curvature="0.3"/></geometry></planView>"#;
     let text = format!(r#"<OpenDRIVE><road id="1" length="500">{plan}<lanes>{lanes}</lanes></road></OpenDRIVE>"#);
     let map = xodr::read(text.as_bytes(), &OUTLINES).unwrap();
-    assert_eq!((map.outlines[0].left.len(), map.outlines[0].right.len()), (64, 64));
+    assert_eq!((map.outlines[0].left.len(), map.outlines[0].right.len()), (256, 256));
 }
