@@ -64,4 +64,3 @@ fn with_lent_points(source: &str) -> String {
     assert!(source[body..end].contains("lane.center.points()"), "`across` is not as expected");
     format!("{}\n    lane.ends[usize::from(end)]{}", &source[..body], &source[end..])
 }
-

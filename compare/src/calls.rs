@@ -7,6 +7,7 @@ pub const UNTOUCHED: u32 = 0xdead_beef;
 
 /// The binding's declarations.
 #[path = "../../bindings/rust/src/ffi.rs"]
+#[rustfmt::skip]
 mod ffi;
 use ffi::*;
 
@@ -19,25 +20,14 @@ fn first<const N: usize>(written: &mut [u32]) -> &mut [u32; N] {
 macro_rules! call {
     ($name:ident, $t:expr, [$($read:expr),*], [$($out:expr),*], $written:expr) => {
         unsafe {
-            call!(@ $name, $t, [$($read),*], [$($out),*], $written)
+            $name(
+                $t.text.as_ptr(), $t.text.len(), $t.roads.as_ptr(), $t.roads.len(), $t.sections.as_ptr(), $t.sections.len(),
+                $t.junctions.as_ptr(), $t.junctions.len(), $t.connections.as_ptr(), $t.connections.len(), $t.pairs.as_ptr(), $t.pairs.len(),
+                $($read.as_ptr(), $read.len(),)*
+                $($out.as_mut_ptr(), $out.len(),)*
+                first(&mut $written),
+            )
         }
-    };
-    (@ $name:ident, $t:expr, [], [$a:expr, $b:expr, $c:expr, $d:expr, $e:expr], $w:expr) => {
-        $name($t.text.as_ptr(), $t.text.len(), $t.roads.as_ptr(), $t.roads.len(), $t.sections.as_ptr(), $t.sections.len(), $t.junctions.as_ptr(), $t.junctions.len(), $t.connections.as_ptr(), $t.connections.len(), $t.pairs.as_ptr(), $t.pairs.len(),
-            $a.as_mut_ptr(), $a.len(), $b.as_mut_ptr(), $b.len(), $c.as_mut_ptr(), $c.len(), $d.as_mut_ptr(), $d.len(), $e.as_mut_ptr(), $e.len(), first::<5>(&mut $w))
-    };
-    (@ $name:ident, $t:expr, [$l:expr], [$a:expr, $b:expr, $c:expr, $d:expr], $w:expr) => {
-        $name($t.text.as_ptr(), $t.text.len(), $t.roads.as_ptr(), $t.roads.len(), $t.sections.as_ptr(), $t.sections.len(), $t.junctions.as_ptr(), $t.junctions.len(), $t.connections.as_ptr(), $t.connections.len(), $t.pairs.as_ptr(), $t.pairs.len(),
-            $l.as_ptr(), $l.len(), $a.as_mut_ptr(), $a.len(), $b.as_mut_ptr(), $b.len(), $c.as_mut_ptr(), $c.len(), $d.as_mut_ptr(), $d.len(), first::<4>(&mut $w))
-    };
-    (@ $name:ident, $t:expr, [$l:expr, $x:expr, $o:expr, $i:expr], [$a:expr], $w:expr) => {
-        $name($t.text.as_ptr(), $t.text.len(), $t.roads.as_ptr(), $t.roads.len(), $t.sections.as_ptr(), $t.sections.len(), $t.junctions.as_ptr(), $t.junctions.len(), $t.connections.as_ptr(), $t.connections.len(), $t.pairs.as_ptr(), $t.pairs.len(),
-            $l.as_ptr(), $l.len(), $x.as_ptr(), $x.len(), $o.as_ptr(), $o.len(), $i.as_ptr(), $i.len(), $a.as_mut_ptr(), $a.len(), first::<1>(&mut $w))
-    };
-    (@ $name:ident, $t:expr, [$l:expr, $x:expr, $m:expr], [$a:expr, $b:expr, $c:expr, $d:expr, $e:expr, $f:expr], $w:expr) => {
-        $name($t.text.as_ptr(), $t.text.len(), $t.roads.as_ptr(), $t.roads.len(), $t.sections.as_ptr(), $t.sections.len(), $t.junctions.as_ptr(), $t.junctions.len(), $t.connections.as_ptr(), $t.connections.len(), $t.pairs.as_ptr(), $t.pairs.len(),
-            $l.as_ptr(), $l.len(), $x.as_ptr(), $x.len(), $m.as_ptr(), $m.len(),
-            $a.as_mut_ptr(), $a.len(), $b.as_mut_ptr(), $b.len(), $c.as_mut_ptr(), $c.len(), $d.as_mut_ptr(), $d.len(), $e.as_mut_ptr(), $e.len(), $f.as_mut_ptr(), $f.len(), first::<6>(&mut $w))
     };
 }
 
@@ -141,13 +131,16 @@ pub fn reverse(t: &Tables, marks: &[u32], [roads, sections, connections, pairs, 
 
 pub fn read_targets(raw: &Raw, length: usize) -> Outcome {
     let mut b = Buffers::new([length]);
-    let refusal = unsafe { vz_read_targets(raw.text.as_ptr(), raw.text.len(), raw.targets.as_ptr(), raw.targets.len(), b.outs[0].as_mut_ptr(), length, first(&mut b.written)) };
+    let refusal = unsafe {
+        vz_read_targets(raw.text.as_ptr(), raw.text.len(), raw.targets.as_ptr(), raw.targets.len(), b.outs[0].as_mut_ptr(), length, first(&mut b.written))
+    };
     b.outcome(refusal)
 }
 
 pub fn read_lanes(raw: &Raw, length: usize) -> Outcome {
     let mut b = Buffers::new([length]);
-    let refusal = unsafe { vz_read_lanes(raw.text.as_ptr(), raw.text.len(), raw.lanes.as_ptr(), raw.lanes.len(), b.outs[0].as_mut_ptr(), length, first(&mut b.written)) };
+    let refusal =
+        unsafe { vz_read_lanes(raw.text.as_ptr(), raw.text.len(), raw.lanes.as_ptr(), raw.lanes.len(), b.outs[0].as_mut_ptr(), length, first(&mut b.written)) };
     b.outcome(refusal)
 }
 
@@ -155,8 +148,25 @@ pub fn read_junctions(raw: &Raw, lengths: [usize; 4]) -> Outcome {
     let mut b = Buffers::new(lengths);
     let [j, c, p, w] = &mut b.outs[..] else { unreachable!() };
     let refusal = unsafe {
-        vz_read_junctions(raw.text.as_ptr(), raw.text.len(), raw.junctions.as_ptr(), raw.junctions.len(), raw.connections.as_ptr(), raw.connections.len(), raw.links.as_ptr(), raw.links.len(),
-            j.as_mut_ptr(), j.len(), c.as_mut_ptr(), c.len(), p.as_mut_ptr(), p.len(), w.as_mut_ptr(), w.len(), first(&mut b.written))
+        vz_read_junctions(
+            raw.text.as_ptr(),
+            raw.text.len(),
+            raw.junctions.as_ptr(),
+            raw.junctions.len(),
+            raw.connections.as_ptr(),
+            raw.connections.len(),
+            raw.links.as_ptr(),
+            raw.links.len(),
+            j.as_mut_ptr(),
+            j.len(),
+            c.as_mut_ptr(),
+            c.len(),
+            p.as_mut_ptr(),
+            p.len(),
+            w.as_mut_ptr(),
+            w.len(),
+            first(&mut b.written),
+        )
     };
     b.outcome(refusal)
 }

@@ -92,7 +92,15 @@ pub fn damage(t: &mut Tables, dice: &mut Dice) {
 }
 
 /// What a call must answer: the refusal of the tables; where there is none, 9 if an output is shorter than what the call has to write, which `full` shows.
-pub fn judge(name: &'static str, broken: u32, full: impl Fn() -> Outcome, widths: &[usize], short: impl Fn(&[usize]) -> Outcome, dice: &mut Dice, tally: &mut Tally) -> Result<(), String> {
+pub fn judge(
+    name: &'static str,
+    broken: u32,
+    full: impl Fn() -> Outcome,
+    widths: &[usize],
+    short: impl Fn(&[usize]) -> Outcome,
+    dice: &mut Dice,
+    tally: &mut Tally,
+) -> Result<(), String> {
     let whole = full();
     if whole.refusal != broken {
         return Err(format!("{name} answers {} where 01 says {broken}", whole.refusal));
@@ -152,7 +160,15 @@ pub fn run(map: &Tables, dice: &mut Dice, tally: &mut Tally) -> Result<(), Strin
         _ => (),
     }
     let long = 400 + t.roads.len() + t.connections.len() + t.pairs.len() + t.lanes.len() + t.edges.len() + t.sections.len();
-    judge("reverse", rules::reverse(&t, &marks), || calls::reverse(&t, &marks, [long; 6]), &calls::REVERSAL_WIDTHS, |n| calls::reverse(&t, &marks, lengths(n)), dice, tally)
+    judge(
+        "reverse",
+        rules::reverse(&t, &marks),
+        || calls::reverse(&t, &marks, [long; 6]),
+        &calls::REVERSAL_WIDTHS,
+        |n| calls::reverse(&t, &marks, lengths(n)),
+        dice,
+        tally,
+    )
 }
 
 /// The successors' lists, or empty ones where succession refuses.
@@ -237,4 +253,3 @@ fn check(what: &str, found: u32, expected: u32) -> Result<(), String> {
         Err(format!("{what} at the limit: {found} where 01 says {expected}"))
     }
 }
-

@@ -3,7 +3,8 @@
 use crate::original::{distance, Lists, Repaired};
 use crate::tables::{Tables, ABSENT, CONNECTION, EDGE, JUNCTION, LANE, PAIR, ROAD};
 
-/// A map in one of two spellings: names as they are and edges as bits, or some names so that they need quotation marks, and edges in decimal where 15 digits are enough.
+/// A map in one of two spellings: names as they are and edges as bits, or some names so that they need quotation marks,
+/// and edges in decimal where 15 digits are enough.
 pub struct Form<'a> {
     pub map: &'a Tables,
     pub plain: bool,
@@ -103,7 +104,8 @@ impl Form<'_> {
         let inside = if r[2..4] == [ABSENT, 0] { Vec::new() } else { [b" inside ", &self.word(&r[2..4])[..]].concat() };
         let own = &self.map.sections[r[18] as usize..(r[18] + r[19]) as usize];
         let sections: String = own.iter().map(|s| format!(" {s}")).collect();
-        [b"road ", &self.word(r)[..], &inside, &self.target("from", &r[4..11]), &self.target("to", &r[11..18]), b" sections", sections.as_bytes(), b"\n"].concat()
+        [b"road ", &self.word(r)[..], &inside, &self.target("from", &r[4..11]), &self.target("to", &r[11..18]), b" sections", sections.as_bytes(), b"\n"]
+            .concat()
     }
 
     fn connection(&self, c: &[u32]) -> Vec<u8> {
@@ -174,7 +176,8 @@ impl Form<'_> {
 
     /// `lanes links`.
     pub fn links(&self, lists: &Lists) -> Vec<u8> {
-        let list = |ids: &[u32]| if ids.is_empty() { b" none".to_vec() } else { ids.iter().flat_map(|&i| [b" ", &self.label(self.row(i))[..]].concat()).collect() };
+        let list =
+            |ids: &[u32]| if ids.is_empty() { b" none".to_vec() } else { ids.iter().flat_map(|&i| [b" ", &self.label(self.row(i))[..]].concat()).collect() };
         let lanes = self.rows().into_iter().zip(lists.successors.iter().zip(&lists.predecessors));
         lanes.flat_map(|(l, (s, p))| [&self.label(l)[..], b" onward:", &list(s), b"; before:", &list(p), b"\n"].concat()).collect()
     }
@@ -182,7 +185,10 @@ impl Form<'_> {
     /// `lanes gaps`.
     pub fn gaps(&self, lists: &Lists, gaps: &[[u32; 3]]) -> Vec<u8> {
         let rows = self.rows();
-        let line = |g: &[u32; 3]| [&self.label(rows[g[0] as usize])[..], b" to ", &self.label(rows[g[1] as usize]), format!(": {} (bits {:08x})\n", width(g[2], 6), g[2]).as_bytes()].concat();
+        let line = |g: &[u32; 3]| {
+            [&self.label(rows[g[0] as usize])[..], b" to ", &self.label(rows[g[1] as usize]), format!(": {} (bits {:08x})\n", width(g[2], 6), g[2]).as_bytes()]
+                .concat()
+        };
         let links = lists.successors.iter().map(Vec::len).sum();
         let sum = format!("gaps: {} in {}\n", counted(gaps.len(), "gap"), counted(links, "link"));
         gaps.iter().flat_map(line).chain(sum.bytes()).collect()
@@ -264,13 +270,26 @@ impl Form<'_> {
     /// `lanes check`, and with `--all`.
     pub fn check(&self, found: &Repaired, lists: &Lists, gaps: &[[u32; 3]], all: bool) -> Vec<u8> {
         let t = self.map;
-        let sizes = [(t.roads.len() / ROAD, "road"), (t.sections.len(), "section"), (t.junctions.len() / JUNCTION, "junction"), (t.connections.len() / CONNECTION, "connection"), (t.pairs.len() / PAIR, "pair"), (t.lanes.len() / LANE, "lane")];
+        let sizes = [
+            (t.roads.len() / ROAD, "road"),
+            (t.sections.len(), "section"),
+            (t.junctions.len() / JUNCTION, "junction"),
+            (t.connections.len() / CONNECTION, "connection"),
+            (t.pairs.len() / PAIR, "pair"),
+            (t.lanes.len() / LANE, "lane"),
+        ];
         let sizes: Vec<String> = sizes.iter().map(|&(n, what)| counted(n, what)).collect();
         let (repairs, repaired) = Self::rows_and_sum(&self.repair(found));
         let links: usize = lists.successors.iter().map(Vec::len).sum();
         let both = self.rows().into_iter().zip(&lists.successors).filter(|(l, _)| l[5] == 2).flat_map(|(_, ids)| ids).filter(|&&i| self.row(i)[5] == 2).count();
         let none = |lists: &[Vec<u32>]| counted(lists.iter().filter(|l| l.is_empty()).count(), "lane");
-        let linked = format!("links: {}, {}; {} with none onward, {} with none before", counted(links, "link"), counted(both, "two-way link"), none(&lists.successors), none(&lists.predecessors));
+        let linked = format!(
+            "links: {}, {}; {} with none onward, {} with none before",
+            counted(links, "link"),
+            counted(both, "two-way link"),
+            none(&lists.successors),
+            none(&lists.predecessors)
+        );
         let listed = if all { self.rows_of_links(lists) } else { Vec::new() };
         let wide = format!("gaps: {} in {}{}", counted(gaps.len(), "gap"), counted(links, "link"), if gaps.len() > 1 { ", the widest first" } else { "" });
         let lost = self.lost(found, lists);

@@ -16,7 +16,10 @@ pub struct Count {
 
 impl Count {
     pub fn print(&self) {
-        println!("  list lookups: {} beside the original's lists, {} of rows outside, {} with damaged offsets or lists, {} of them emptied by the damage", self.lists, self.outside, self.damaged, self.emptied);
+        println!(
+            "  list lookups: {} beside the original's lists, {} of rows outside, {} with damaged offsets or lists, {} of them emptied by the damage",
+            self.lists, self.outside, self.damaged, self.emptied
+        );
         println!("  name lookups: {} in the text, {} empty, absent or misplaced", self.placed, self.empty);
     }
 }
@@ -112,7 +115,9 @@ fn damaged(p: &Packed, rows: usize, dice: &mut Dice, count: &mut Count) -> Resul
 
 /// The names of a map, absent ones among them.
 fn names(m: &Tables) -> Vec<[u32; 2]> {
-    let of = |table: &[u32], width: usize, at: &[usize]| -> Vec<[u32; 2]> { table.chunks(width).flat_map(|r| at.iter().map(|&k| [r[k], r[k + 1]]).collect::<Vec<_>>()).collect() };
+    let of = |table: &[u32], width: usize, at: &[usize]| -> Vec<[u32; 2]> {
+        table.chunks(width).flat_map(|r| at.iter().map(|&k| [r[k], r[k + 1]]).collect::<Vec<_>>()).collect()
+    };
     [of(&m.roads, ROAD, &[0, 2, 6, 13]), of(&m.junctions, JUNCTION, &[0]), of(&m.connections, CONNECTION, &[0, 2]), of(&m.lanes, LANE, &[1])].concat()
 }
 

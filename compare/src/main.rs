@@ -1,4 +1,6 @@
-//! Runs the original and this library on random maps and compares repaired tables, warnings, lists and gap rows; then faulty tables; then sequences of reversals; then attribute reading; then lookups of lists and names, roots and distances.
+//! Runs the original and this library on random maps and compares repaired tables, warnings, lists and gap rows; then
+//! faulty tables; then sequences of reversals; then attribute reading; then lookups of lists and names, roots and
+//! distances.
 use compare::original::Lists;
 use compare::tables::{Dice, Tables, CONNECTION, LANE};
 use compare::{damage, lookups, maps, measures, original, ours, raw, turned};
@@ -26,7 +28,10 @@ struct Counts {
 impl Counts {
     fn print(&self) {
         let seen = &self.seen;
-        println!("  beside the original: {} warnings, {} connections added, {} successors, {} two-way lanes with successors, {} gap rows", seen.warnings, seen.added, seen.successors, seen.two_way, seen.gaps);
+        println!(
+            "  beside the original: {} warnings, {} connections added, {} successors, {} two-way lanes with successors, {} gap rows",
+            seen.warnings, seen.added, seen.successors, seen.two_way, seen.gaps
+        );
         println!("  damaged tables:");
         self.tally.print();
         println!("  reversals: {} accepted, {} refused", self.turned.accepted, self.turned.refused);

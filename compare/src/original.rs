@@ -86,11 +86,7 @@ fn xml(t: &Tables) -> String {
             let c = &t.connections[c * CONNECTION..(c + 1) * CONNECTION];
             let to = if w[2] == 1 { "linkedRoad" } else { "connectingRoad" };
             let at = if c[4] == 1 { "end" } else { "start" };
-            s.push_str(&format!(
-                "<connection id=\"0\" incomingRoad=\"{}\" {to}=\"{}\" contactPoint=\"{at}\">",
-                t.stand_in(c[0], c[1]),
-                t.stand_in(c[2], c[3])
-            ));
+            s.push_str(&format!("<connection id=\"0\" incomingRoad=\"{}\" {to}=\"{}\" contactPoint=\"{at}\">", t.stand_in(c[0], c[1]), t.stand_in(c[2], c[3])));
             for p in c[5] as usize..(c[5] + c[6]) as usize {
                 s.push_str(&format!("<laneLink from=\"{}\" to=\"{}\"/>", t.pairs[2 * p] as i32, t.pairs[2 * p + 1] as i32));
             }
@@ -129,7 +125,9 @@ pub fn repair(t: &Tables) -> Repaired {
         found.junctions.push(
             conns[&id]
                 .iter()
-                .map(|c| (c.incoming_road.clone(), c.connecting_road.clone(), contact(c.contact), c.lane_links.iter().map(|&(a, b)| (a as u32, b as u32)).collect()))
+                .map(|c| {
+                    (c.incoming_road.clone(), c.connecting_road.clone(), contact(c.contact), c.lane_links.iter().map(|&(a, b)| (a as u32, b as u32)).collect())
+                })
                 .collect(),
         );
     }
@@ -226,7 +224,17 @@ pub fn read(t: &Tables) -> Read {
         contact: if c[4] == 1 { Contact::End } else { Contact::Start },
         lane_links: t.pairs[2 * c[5] as usize..2 * (c[5] + c[6]) as usize].chunks(2).map(|p| (number(p[0]), number(p[1]))).collect(),
     };
-    let junctions = t.junctions.chunks(JUNCTION).map(|j| (t.stand_in(j[0], j[1]), j[2], t.connections[j[3] as usize * CONNECTION..(j[3] + j[4]) as usize * CONNECTION].chunks(CONNECTION).map(connection).collect())).collect();
+    let junctions = t
+        .junctions
+        .chunks(JUNCTION)
+        .map(|j| {
+            (
+                t.stand_in(j[0], j[1]),
+                j[2],
+                t.connections[j[3] as usize * CONNECTION..(j[3] + j[4]) as usize * CONNECTION].chunks(CONNECTION).map(connection).collect(),
+            )
+        })
+        .collect();
     let (lanes, metas) = lanes(t);
     Read { roads: roads(t), junctions, lanes, metas }
 }

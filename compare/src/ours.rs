@@ -21,10 +21,14 @@ pub fn repair(t: &Tables) -> (Tables, Repaired) {
     }
     for j in m.junctions.chunks(JUNCTION) {
         let cs = &m.connections[j[3] as usize * CONNECTION..(j[3] + j[4]) as usize * CONNECTION];
-        found.junctions.push(cs.chunks(CONNECTION).map(|c| -> Connection {
-            let ps = &m.pairs[c[5] as usize * 2..(c[5] + c[6]) as usize * 2];
-            (m.stand_in(c[0], c[1]), m.stand_in(c[2], c[3]), c[4], ps.chunks(2).map(|p| (p[0], p[1])).collect())
-        }).collect());
+        found.junctions.push(
+            cs.chunks(CONNECTION)
+                .map(|c| -> Connection {
+                    let ps = &m.pairs[c[5] as usize * 2..(c[5] + c[6]) as usize * 2];
+                    (m.stand_in(c[0], c[1]), m.stand_in(c[2], c[3]), c[4], ps.chunks(2).map(|p| (p[0], p[1])).collect())
+                })
+                .collect(),
+        );
     }
     for w in warnings.chunks(4) {
         assert_eq!(w[0], 3);

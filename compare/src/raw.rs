@@ -26,8 +26,32 @@ pub struct Raw {
 
 const WORDS: [&str; 12] = ["", "a", "b", "end", "End", "start", "junction", "road", "direct", "virtual", "default", "a\"<&"];
 const NUMBERS: [&str; 26] = [
-    "1", "-1", "2", "-2", "+1", "+", "-", "", "+-1", "-+1", "007", "-0", "+0", "0", "2147483647", "2147483648", "-2147483648", "-2147483649", "+2147483647", "00000000000000000000000000001", "-00000000002147483648",
-    "99999999999999999999", " 1", "1 ", "1x", "\u{661}",
+    "1",
+    "-1",
+    "2",
+    "-2",
+    "+1",
+    "+",
+    "-",
+    "",
+    "+-1",
+    "-+1",
+    "007",
+    "-0",
+    "+0",
+    "0",
+    "2147483647",
+    "2147483648",
+    "-2147483648",
+    "-2147483649",
+    "+2147483647",
+    "00000000000000000000000000001",
+    "-00000000002147483648",
+    "99999999999999999999",
+    " 1",
+    "1 ",
+    "1x",
+    "\u{661}",
 ];
 
 impl Raw {
@@ -89,7 +113,12 @@ impl Maker<'_> {
             self.raw.targets.extend([0, ABSENT, 0, ABSENT, 0, ABSENT, 0, ABSENT, 0]);
             return;
         }
-        let row = [self.of(&["junction", "road", "Junction", ""], 4), self.word(6), self.of(&["end", "start", "End", "ends", "en", ""], 4), self.of(&["0", "1.5", ""], 2)];
+        let row = [
+            self.of(&["junction", "road", "Junction", ""], 4),
+            self.word(6),
+            self.of(&["end", "start", "End", "ends", "en", ""], 4),
+            self.of(&["0", "1.5", ""], 2),
+        ];
         self.raw.targets.push(1);
         self.raw.targets.extend(row.concat());
     }
@@ -98,7 +127,15 @@ impl Maker<'_> {
         let first = (self.raw.connections.len() / RAW_CONNECTION) as u32;
         let count = self.dice.below(5) as u32;
         for _ in 0..count {
-            let row = [self.of(&["0", "7", ""], 4), self.of(&["virtual", "default", "Virtual"], 2), self.word(6), self.word(6), self.word(6), self.of(&["end", "start", "End", ""], 4)].concat();
+            let row = [
+                self.of(&["0", "7", ""], 4),
+                self.of(&["virtual", "default", "Virtual"], 2),
+                self.word(6),
+                self.word(6),
+                self.word(6),
+                self.of(&["end", "start", "End", ""], 4),
+            ]
+            .concat();
             let begin = (self.raw.links.len() / RAW_LINK) as u32;
             let links = self.dice.below(4) as u32;
             for _ in 0..links {
@@ -131,13 +168,21 @@ pub fn random(dice: &mut Dice) -> Raw {
 
 /// The words that a target is: its name as it was read.
 fn target_words(t: Option<LinkTarget>, name: &[u32]) -> [u32; 7] {
-    t.map_or([0; 7], |t| [1, u32::from(t.elem == ElemType::Junction), name[0], name[1], u32::from(original::at_end(t.contact)), u32::from(t.contact_given), u32::from(t.along)])
+    t.map_or([0; 7], |t| {
+        [1, u32::from(t.elem == ElemType::Junction), name[0], name[1], u32::from(original::at_end(t.contact)), u32::from(t.contact_given), u32::from(t.along)]
+    })
 }
 
 fn targets(raw: &Raw) -> Result<(), String> {
     let mut expected = Vec::new();
     for two in raw.targets.chunks(2 * RAW_TARGET) {
-        let element = |tag: &str, r: &[u32]| if r[0] == 1 { format!("<{tag}{}/>", attributes(raw, r, &[(1, "elementType"), (3, "elementId"), (5, "contactPoint"), (7, "elementS")])) } else { String::new() };
+        let element = |tag: &str, r: &[u32]| {
+            if r[0] == 1 {
+                format!("<{tag}{}/>", attributes(raw, r, &[(1, "elementType"), (3, "elementId"), (5, "contactPoint"), (7, "elementS")]))
+            } else {
+                String::new()
+            }
+        };
         let (p, s) = two.split_at(RAW_TARGET);
         let xml = format!("<road><link>{}{}</link></road>", element("predecessor", p), element("successor", s));
         let doc = roxmltree::Document::parse(&xml).unwrap();
@@ -182,7 +227,10 @@ fn xml(raw: &Raw, rows: std::ops::Range<usize>) -> String {
     for j in raw.junctions.chunks(RAW_JUNCTION).take(rows.end).skip(rows.start) {
         s += &format!("<junction{}>", attributes(raw, j, &[(0, "id"), (2, "type"), (4, "mainRoad")]));
         for c in raw.connections.chunks(RAW_CONNECTION).skip(j[6] as usize).take(j[7] as usize) {
-            s += &format!("<connection{}>", attributes(raw, c, &[(0, "id"), (2, "type"), (4, "incomingRoad"), (6, "connectingRoad"), (8, "linkedRoad"), (10, "contactPoint")]));
+            s += &format!(
+                "<connection{}>",
+                attributes(raw, c, &[(0, "id"), (2, "type"), (4, "incomingRoad"), (6, "connectingRoad"), (8, "linkedRoad"), (10, "contactPoint")])
+            );
             for l in raw.links.chunks(RAW_LINK).skip(c[12] as usize).take(c[13] as usize) {
                 s += &format!("<laneLink{}/>", attributes(raw, l, &[(0, "from"), (2, "to")]));
             }
@@ -222,14 +270,31 @@ fn read_junctions(raw: &Raw) -> Result<(), String> {
         let text = xml(raw, j..j + 1);
         let doc = roxmltree::Document::parse(&text).unwrap();
         let (found, _) = junctions(doc.root_element(), &mut HashMap::new());
-        let theirs: Vec<_> = found.values().next().unwrap().iter().map(|c| (c.incoming_road.clone(), c.connecting_road.clone(), u32::from(original::at_end(c.contact)), c.lane_links.clone())).collect();
+        let theirs: Vec<_> = found
+            .values()
+            .next()
+            .unwrap()
+            .iter()
+            .map(|c| (c.incoming_road.clone(), c.connecting_road.clone(), u32::from(original::at_end(c.contact)), c.lane_links.clone()))
+            .collect();
         let name = |n: &[u32]| raw.attribute(n).unwrap();
         let ours: Vec<_> = cs[row[3] as usize * CONNECTION..(row[3] + row[4]) as usize * CONNECTION]
             .chunks(CONNECTION)
-            .map(|c| (name(&c[0..2]), name(&c[2..4]), c[4], ps[2 * c[5] as usize..2 * (c[5] + c[6]) as usize].chunks(PAIR).map(|p| (p[0] as i32, p[1] as i32)).collect::<Vec<_>>()))
+            .map(|c| {
+                (
+                    name(&c[0..2]),
+                    name(&c[2..4]),
+                    c[4],
+                    ps[2 * c[5] as usize..2 * (c[5] + c[6]) as usize].chunks(PAIR).map(|p| (p[0] as i32, p[1] as i32)).collect::<Vec<_>>(),
+                )
+            })
             .collect();
         let kind = raw.attribute(&raw.junctions[j * RAW_JUNCTION + 2..][..2]);
-        let kind = match kind.as_deref() { Some("direct") => 1, Some("virtual") => 2, _ => 0 };
+        let kind = match kind.as_deref() {
+            Some("direct") => 1,
+            Some("virtual") => 2,
+            _ => 0,
+        };
         if theirs != ours || row[..3] != [raw.junctions[j * RAW_JUNCTION], raw.junctions[j * RAW_JUNCTION + 1], kind] {
             return Err(format!("reading junction {j}\n theirs {theirs:?}\n ours   {ours:?}"));
         }
@@ -255,7 +320,11 @@ fn whole(raw: &Raw, dice: &mut Dice) -> Result<(), String> {
     for n in &names {
         let target = |dice: &mut Dice| {
             let m = names[dice.below(names.len())];
-            if dice.one_in(2) { [0; 7] } else { [1, 0, m[0], m[1], dice.below(2) as u32, 1, 0] }
+            if dice.one_in(2) {
+                [0; 7]
+            } else {
+                [1, 0, m[0], m[1], dice.below(2) as u32, 1, 0]
+            }
         };
         t.roads.extend([n[0], n[1], ABSENT, 0]);
         t.roads.extend(target(dice));
@@ -352,7 +421,15 @@ fn damaged(map: &Raw, dice: &mut Dice, tally: &mut Tally) -> Result<(), String> 
     let long = 4 * (raw.targets.len() + raw.lanes.len() + raw.junctions.len() + raw.connections.len() + raw.links.len()) + 4;
     judge("targets", rules::read_targets(&raw), || calls::read_targets(&raw, long), &[7], |n| calls::read_targets(&raw, n[0]), dice, tally)?;
     judge("lanes", rules::read_lanes(&raw), || calls::read_lanes(&raw, long), &[4], |n| calls::read_lanes(&raw, n[0]), dice, tally)?;
-    judge("junctions", rules::read_junctions(&raw), || calls::read_junctions(&raw, [long; 4]), &calls::READING_WIDTHS, |n| calls::read_junctions(&raw, lengths_of(n)), dice, tally)
+    judge(
+        "junctions",
+        rules::read_junctions(&raw),
+        || calls::read_junctions(&raw, [long; 4]),
+        &calls::READING_WIDTHS,
+        |n| calls::read_junctions(&raw, lengths_of(n)),
+        dice,
+        tally,
+    )
 }
 
 /// Reading beside the original.

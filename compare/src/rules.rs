@@ -31,7 +31,9 @@ fn target_worded(t: &Tables, w: &[u32]) -> bool {
 }
 
 fn map_worded(t: &Tables) -> bool {
-    t.roads.chunks(ROAD).all(|r| placed(t, &r[0..2]) && (r[2..4] == [ABSENT, 0] || placed(t, &r[2..4])) && target_worded(t, &r[4..11]) && target_worded(t, &r[11..18]))
+    t.roads
+        .chunks(ROAD)
+        .all(|r| placed(t, &r[0..2]) && (r[2..4] == [ABSENT, 0] || placed(t, &r[2..4])) && target_worded(t, &r[4..11]) && target_worded(t, &r[11..18]))
         && t.junctions.chunks(JUNCTION).all(|j| placed(t, &j[0..2]) && j[2] <= 2)
         && t.connections.chunks(CONNECTION).all(|c| placed(t, &c[0..2]) && placed(t, &c[2..4]) && c[4] <= 1)
 }
@@ -74,11 +76,7 @@ fn first(rules: &[(u32, &dyn Fn() -> bool)]) -> u32 {
 
 /// 3, 4 and 5.
 fn map_rules(t: &Tables) -> u32 {
-    first(&[
-        (3, &|| !repeats(t.roads.chunks(ROAD).map(|r| t.bytes(r[0], r[1])))),
-        (4, &|| sections_fit(t)),
-        (5, &|| links_fit(t)),
-    ])
+    first(&[(3, &|| !repeats(t.roads.chunks(ROAD).map(|r| t.bytes(r[0], r[1])))), (4, &|| sections_fit(t)), (5, &|| links_fit(t))])
 }
 
 /// The row of the road of a name.
@@ -181,7 +179,10 @@ fn raw_text(raw: &Raw) -> bool {
 pub fn read_targets(raw: &Raw) -> u32 {
     first(&[
         (1, &|| raw_text(raw) && sized(raw.targets.len(), RAW_TARGET, ROWS)),
-        (2, &|| raw_names(raw, &raw.targets, RAW_TARGET, 1, 4) && raw.targets.chunks(RAW_TARGET).all(|r| r[0] == 1 || (r[0] == 0 && r[1..].chunks(2).all(|n| n == [ABSENT, 0])))),
+        (2, &|| {
+            raw_names(raw, &raw.targets, RAW_TARGET, 1, 4)
+                && raw.targets.chunks(RAW_TARGET).all(|r| r[0] == 1 || (r[0] == 0 && r[1..].chunks(2).all(|n| n == [ABSENT, 0])))
+        }),
     ])
 }
 
@@ -193,8 +194,20 @@ pub fn read_lanes(raw: &Raw) -> u32 {
 /// Reading of junctions, but for 9.
 pub fn read_junctions(raw: &Raw) -> u32 {
     first(&[
-        (1, &|| raw_text(raw) && sized(raw.junctions.len(), RAW_JUNCTION, ROWS) && sized(raw.connections.len(), RAW_CONNECTION, ROWS) && sized(raw.links.len(), RAW_LINK, ROWS)),
-        (2, &|| raw_names(raw, &raw.junctions, RAW_JUNCTION, 0, 3) && raw_names(raw, &raw.connections, RAW_CONNECTION, 0, 6) && raw_names(raw, &raw.links, RAW_LINK, 0, 2)),
-        (5, &|| follow(raw.junctions.chunks(RAW_JUNCTION).map(|j| (j[6], j[7])), raw.connections.len() / RAW_CONNECTION) && follow(raw.connections.chunks(RAW_CONNECTION).map(|c| (c[12], c[13])), raw.links.len() / RAW_LINK)),
+        (1, &|| {
+            raw_text(raw)
+                && sized(raw.junctions.len(), RAW_JUNCTION, ROWS)
+                && sized(raw.connections.len(), RAW_CONNECTION, ROWS)
+                && sized(raw.links.len(), RAW_LINK, ROWS)
+        }),
+        (2, &|| {
+            raw_names(raw, &raw.junctions, RAW_JUNCTION, 0, 3)
+                && raw_names(raw, &raw.connections, RAW_CONNECTION, 0, 6)
+                && raw_names(raw, &raw.links, RAW_LINK, 0, 2)
+        }),
+        (5, &|| {
+            follow(raw.junctions.chunks(RAW_JUNCTION).map(|j| (j[6], j[7])), raw.connections.len() / RAW_CONNECTION)
+                && follow(raw.connections.chunks(RAW_CONNECTION).map(|c| (c[12], c[13])), raw.links.len() / RAW_LINK)
+        }),
     ])
 }

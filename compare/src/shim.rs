@@ -49,4 +49,3 @@ pub struct Road {
     pub length: f64,
     pub geoms: Vec<Geom>,
 }
-

@@ -108,4 +108,3 @@ fn warnings(map: &Tables, now: &Tables, set: &[u32]) -> Result<(), String> {
         Err("the original's warnings differ in more than the end of a marked road".into())
     }
 }
-

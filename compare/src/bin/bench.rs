@@ -147,7 +147,8 @@ fn main() {
 /// How many places the loops below go through: too many for a processor to learn their branches by heart.
 const PLACES: usize = 65_536;
 
-/// The seconds of calls that do not wait for each other. Bits are added up: a float would be put away and fetched around each call, which takes longer than a root.
+/// The seconds of calls that do not wait for each other. Bits are added up: a float would be put away and fetched around
+/// each call, which takes longer than a root.
 fn apart(call: impl Fn(usize) -> f32) -> f64 {
     clocked(|| (0..PLACES).fold(0u32, |sum, i| sum.wrapping_add(call(i).to_bits())))
 }
@@ -193,7 +194,8 @@ fn distances(what: &str, times: usize, two: &[Two], ready: bool) {
     }
 }
 
-/// The lines across two lanes that meet: some metres long, some kilometres from the origin, up to a centimetre apart. One lane in eight opens out of nothing, one in eight is half as wide.
+/// The lines across two lanes that meet: some metres long, some kilometres from the origin, up to a centimetre apart. One
+/// lane in eight opens out of nothing, one in eight is half as wide.
 fn lane_ends(dice: &mut Dice) -> Two {
     let (x, y, z) = (dice.below(100_000) as f32 * 0.05, dice.below(100_000) as f32 * 0.05, dice.below(1000) as f32 * 0.1);
     let (turn, wide) = (dice.below(6283) as f32 * 0.001, 2.5 + dice.below(150) as f32 * 0.01);

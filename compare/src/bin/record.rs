@@ -12,8 +12,8 @@
 //! Every other word of an output must stay what it was before the call.
 use compare::calls;
 use compare::original;
-use compare::tables::{Dice, Tables, LANE};
 use compare::raw::{self, Raw};
+use compare::tables::{Dice, Tables, LANE};
 use compare::{damage, maps, ours, reversal, rules};
 
 fn put(kind: u32, lists: &[Vec<u32>]) {
@@ -88,7 +88,9 @@ fn admitted(t: &Tables, dice: &mut Dice) {
     load(t);
     let (m, found) = ours::repair(t);
     assert_eq!(found, original::repair(t), "record what the two agree on");
-    let warnings = calls::repair(t, [t.roads.len(), t.junctions.len(), 2 * t.connections.len(), 2 * t.pairs.len(), 4 * t.connections.len()]).contents(&calls::REPAIR_WIDTHS).remove(4);
+    let warnings = calls::repair(t, [t.roads.len(), t.junctions.len(), 2 * t.connections.len(), 2 * t.pairs.len(), 4 * t.connections.len()])
+        .contents(&calls::REPAIR_WIDTHS)
+        .remove(4);
     step(2, &[], 0, vec![m.roads.clone(), m.junctions.clone(), m.connections.clone(), m.pairs.clone(), warnings], dice);
     let marks: Vec<u32> = (0..t.roads.len() / 20).map(|_| dice.below(2) as u32).collect();
     let broken = rules::reverse(t, &marks);
