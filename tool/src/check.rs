@@ -1,9 +1,10 @@
 //! What `lanes check` says of a map, as facts: for the summary and for JSON.
 use crate::found::{Found, Gap};
 use crate::labels::counted;
-use crate::map::{Map, Tables, CONNECTION, EDGE, LANE, TARGET};
+use crate::map::{Map, Tables};
 use std::cmp::Reverse;
 use std::collections::HashMap;
+use vorzhyket::sizes::{CONNECTION, EDGE, LANE, TARGET};
 use vorzhyket::ABSENT;
 
 /// A lane inside a junction that can be entered and not left, or left and not entered: a movement that the file lost.

@@ -1,7 +1,8 @@
 //! The lane graph for Graphviz: a node for each lane, an arrow for each link. A link that runs both ways is one arrow
 //! with two heads.
 use crate::found::Found;
-use crate::map::{Tables, LANE};
+use crate::map::Tables;
+use vorzhyket::sizes::LANE;
 
 /// `lanes dot`
 pub fn graph(found: &Found) -> Vec<u8> {

@@ -1,10 +1,8 @@
 //! What the library finds in a map: its calls, one after the other.
-use crate::map::{Tables, CONNECTION, EDGE, LANE, MOST_IDENTITIES, PAIR};
+use crate::map::Tables;
 use std::collections::HashMap;
+use vorzhyket::sizes::{CONNECTION, EDGE, GAP, LANE, MOST_IDENTITIES, PAIR, WARNING};
 use vorzhyket::{ListOutputs, Lists, Refusal, RepairOutputs, ReversalOutputs, Side};
-
-const WARNING: usize = 4;
-const GAP: usize = 3;
 
 /// A link whose lanes do not meet: rows of lanes, and the bits of its width.
 #[derive(Clone, Debug, PartialEq)]

@@ -2,7 +2,8 @@
 //! replacement character, so two names can look alike there. A number that is not finite is null. At most five rows of
 //! each kind stand in it, and the lists of links not at all; with `--all` every row does.
 use crate::check::{Check, Lost, PlacedGap};
-use crate::map::{Tables, WrongLength, CONNECTION, JUNCTION, LANE, PAIR, ROAD};
+use crate::map::{Tables, WrongLength};
+use vorzhyket::sizes::{CONNECTION, JUNCTION, LANE, PAIR, ROAD};
 
 const MOST_SHOWN: usize = 5;
 

@@ -1,6 +1,7 @@
 //! Lanes, names, counts and widths in print.
 use crate::form;
-use crate::map::{Tables, JUNCTION};
+use crate::map::Tables;
+use vorzhyket::sizes::JUNCTION;
 
 /// A number and what it counts, with an s where it is not 1.
 pub fn counted(n: usize, what: &str) -> String {

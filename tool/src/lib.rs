@@ -19,10 +19,11 @@ pub mod xodr;
 
 use check::Check;
 use found::Refused;
-use map::{Map, ROAD};
+use map::Map;
 use options::{Asked, Command, Options};
 use std::ffi::OsString;
 use std::io::{self, ErrorKind, IsTerminal, Write};
+use vorzhyket::sizes::ROAD;
 
 /// The exit status: nothing found, or done; something found; no map, or a bad command line.
 const NOTHING: u8 = 0;

@@ -1,5 +1,6 @@
 //! The library's limits: a map over one of them is refused with every total beside its limit.
-use crate::map::{Tables, CONNECTION, JUNCTION, LANE, MOST_ROWS, MOST_ROWS_REPAIR, MOST_TEXT, PAIR, ROAD};
+use crate::map::Tables;
+use vorzhyket::sizes::{CONNECTION, JUNCTION, LANE, MOST_ROWS, MOST_ROWS_REPAIR, MOST_TEXT, PAIR, ROAD};
 
 /// What is said of a map that is over a limit. Repair can double connections and pairs, so it takes half as many.
 pub fn over(t: &Tables, repairs: bool) -> Option<String> {

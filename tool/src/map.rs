@@ -1,21 +1,7 @@
 //! A map as the library's tables (include/vorzhyket.h), and where each row stands in the file.
 use std::collections::HashMap;
+use vorzhyket::sizes::{LANE, ROAD};
 use vorzhyket::ABSENT;
-
-/// Words in a row of each table; floats in a row of edges.
-pub const TARGET: usize = 7;
-pub const ROAD: usize = 20;
-pub const JUNCTION: usize = 5;
-pub const CONNECTION: usize = 7;
-pub const PAIR: usize = 2;
-pub const LANE: usize = 10;
-pub const EDGE: usize = 12;
-
-/// The library's limits.
-pub const MOST_TEXT: usize = 1_048_576;
-pub const MOST_ROWS: usize = 16_384;
-pub const MOST_ROWS_REPAIR: usize = 8_192;
-pub const MOST_IDENTITIES: usize = 131_072;
 
 /// The tables of a map. Edges stand for every lane or for none.
 #[derive(Clone, Debug, Default, PartialEq)]

@@ -1,10 +1,11 @@
 //! A refusal in words: call, number, what it means, and the table, row and line that it is about.
 use crate::found::Refused;
 use crate::labels;
-use crate::map::{Fault, Lines, Tables, JUNCTION, LANE, PAIR, ROAD};
+use crate::map::{Fault, Lines, Tables};
 use std::collections::hash_map::Entry;
 use std::collections::{HashMap, HashSet};
 use std::hash::Hash;
+use vorzhyket::sizes::{JUNCTION, LANE, PAIR, ROAD};
 use vorzhyket::Refusal;
 
 /// A lane number that has no negative.

@@ -1,7 +1,8 @@
 //! Repairs, links and gaps, a line for each.
 use crate::found::{Found, Gap};
 use crate::labels::{self, counted};
-use crate::map::{Tables, CONNECTION, LANE};
+use crate::map::Tables;
+use vorzhyket::sizes::{CONNECTION, LANE};
 
 /// A line with its end.
 fn line(parts: &[&[u8]], out: &mut Vec<u8>) {

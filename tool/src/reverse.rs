@@ -1,7 +1,8 @@
 //! Maps written again: as they were read, or with the reference lines of some roads reversed.
 use crate::form;
 use crate::labels;
-use crate::map::{Fault, Tables, ROAD};
+use crate::map::{Fault, Tables};
+use vorzhyket::sizes::ROAD;
 
 /// Marks of the roads that have these names, or the place among the names of the first that no road has.
 pub fn marks<'a>(t: &Tables, names: impl Iterator<Item = &'a [u8]>) -> Result<Vec<u32>, usize> {

@@ -1,8 +1,8 @@
 //! `lanes check` in words: a summary that fits a screen, or every row.
 use crate::check::Check;
 use crate::labels::{self, counted};
-use crate::map::{CONNECTION, JUNCTION, LANE, PAIR, ROAD};
 use crate::report;
+use vorzhyket::sizes::{CONNECTION, JUNCTION, LANE, PAIR, ROAD};
 
 /// The most lines of a summary, and the most rows of a kind in it.
 const SCREEN: usize = 24;

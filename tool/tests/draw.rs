@@ -1,8 +1,9 @@
 //! Drawings: each is read back as XML.
 use lanes::draw;
 use lanes::found::{Found, Gap};
-use lanes::map::{Map, Names, Outline, Tables, MOST_ROWS};
+use lanes::map::{Map, Names, Outline, Tables};
 use roxmltree::{Document, Node};
+use vorzhyket::sizes::MOST_ROWS;
 
 const FORWARD: u32 = 0;
 const BACKWARD: u32 = 1;

@@ -37,6 +37,7 @@
 #[rustfmt::skip]
 mod ffi;
 mod refusal;
+pub mod sizes;
 
 pub use refusal::Refusal;
 

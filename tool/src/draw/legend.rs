@@ -5,7 +5,8 @@ use super::trace::text;
 use super::words::{breadth, count, words};
 use super::{MOST_LABELS, MOST_MARKS};
 use crate::found::Found;
-use crate::map::{Map, LANE, ROAD};
+use crate::map::Map;
+use vorzhyket::sizes::{LANE, ROAD};
 
 /// The height of the legend's line, and of a line of remarks below it.
 const LINE: f64 = 64.0;

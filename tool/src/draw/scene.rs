@@ -2,8 +2,9 @@
 use super::shape::{distance, halfway, joint, shortest, Point, Segment, Shape, Way};
 use super::trace::thinned;
 use crate::found::Found;
-use crate::map::{Map, Tables, LANE, ROAD};
+use crate::map::{Map, Tables};
 use std::collections::HashMap;
+use vorzhyket::sizes::{LANE, ROAD};
 use vorzhyket::ABSENT;
 
 /// The sheet's width; the space above the map for the title; the room kept free around the lanes.

@@ -1,5 +1,6 @@
 //! Where a lane lies, as seen from above, and where two lanes meet or fail to.
-use crate::map::{Map, Outline, EDGE};
+use crate::map::{Map, Outline};
+use vorzhyket::sizes::EDGE;
 
 /// A place seen from above.
 pub type Point = [f64; 2];

@@ -1,6 +1,7 @@
 //! A map read from plain text: each line a row of a table.
 use super::words::{lines, Words};
-use crate::map::{Fault, Lines, Map, Names, Tables, EDGE, LANE, TARGET};
+use crate::map::{Fault, Lines, Map, Names, Tables};
+use vorzhyket::sizes::{EDGE, LANE, TARGET};
 use vorzhyket::ABSENT;
 
 const KINDS: &str = "road, junction, connection, pair, lane or edges";

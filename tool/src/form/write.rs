@@ -1,9 +1,10 @@
 //! A map written as lines, from which the same tables are read again.
 use super::number::written;
 use super::words::is_blank;
-use crate::map::{Tables, CONNECTION, EDGE, JUNCTION, LANE, PAIR, ROAD};
+use crate::map::Tables;
 use std::borrow::Cow;
 use std::slice::Chunks;
+use vorzhyket::sizes::{CONNECTION, EDGE, JUNCTION, LANE, PAIR, ROAD};
 use vorzhyket::ABSENT;
 
 /// Does a name need quotation marks? So it does where it is empty, begins with # or a mark, or has a blank.

@@ -1,14 +1,10 @@
 //! Junctions with their connections and lane links: their attributes, read by the library in pieces that it takes.
 use super::document::{children, shown, Element, LineStarts};
 use super::links::refused;
-use crate::map::{Fault, Map, Names, CONNECTION, JUNCTION, MOST_ROWS, MOST_TEXT, PAIR};
+use crate::map::{Fault, Map, Names};
 use std::collections::HashSet;
+use vorzhyket::sizes::{CONNECTION, JUNCTION, MOST_ROWS, MOST_TEXT, PAIR, RAW_CONNECTION, RAW_JUNCTION, RAW_LANE_LINK, WARNING};
 use vorzhyket::{read_junctions, JunctionOutputs, RawJunctions};
-
-const RAW_JUNCTION: usize = 8;
-const RAW_CONNECTION: usize = 14;
-const RAW_LINK: usize = 4;
-const WARNING: usize = 4;
 
 /// Reads the junctions into the map's tables, lines and notes; only those of these names, where names are given.
 pub fn read<'a>(root: Element<'a>, kept: Option<&HashSet<&str>>, lines: &'a LineStarts, names: &mut Names, map: &mut Map) -> Result<(), Fault> {
@@ -237,4 +233,5 @@ fn lost() -> Fault {
 }
 
 /// Words of a raw row are as the library wants them.
-const _: () = assert!(2 * JUNCTION_NAMES.len() + 2 == RAW_JUNCTION && 2 * CONNECTION_NAMES.len() + 2 == RAW_CONNECTION && 2 * LINK_NAMES.len() == RAW_LINK);
+const _: () =
+    assert!(2 * JUNCTION_NAMES.len() + 2 == RAW_JUNCTION && 2 * CONNECTION_NAMES.len() + 2 == RAW_CONNECTION && 2 * LINK_NAMES.len() == RAW_LANE_LINK);

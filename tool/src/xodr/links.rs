@@ -2,12 +2,9 @@
 use super::document::{child, Element};
 use super::lanes::Lane;
 use super::roads::Road;
-use crate::map::{Fault, Names, MOST_ROWS, MOST_TEXT, TARGET};
+use crate::map::{Fault, Names};
+use vorzhyket::sizes::{LINKS, MOST_ROWS, MOST_TEXT, RAW_LANE, RAW_TARGET, TARGET};
 use vorzhyket::Refusal;
-
-const RAW_TARGET: usize = 9;
-const RAW_LANE: usize = 4;
-const LINKS: usize = 4;
 
 /// The two targets of each road, with names in the map's text: fourteen words a road.
 pub fn targets(roads: &[Road], names: &mut Names) -> Result<Vec<u32>, Fault> {

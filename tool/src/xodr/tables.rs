@@ -6,7 +6,8 @@ use super::outline::outlines;
 use super::profile::Seam;
 use super::roads::Road;
 use super::Choice;
-use crate::map::{Fault, Map, Names, WrongLength, TARGET};
+use crate::map::{Fault, Map, Names, WrongLength};
+use vorzhyket::sizes::{LINKS, TARGET};
 use vorzhyket::ABSENT;
 
 /// Beyond this many metres from 0,0 an f32 no longer resolves a millimetre.
@@ -46,7 +47,7 @@ pub fn add_roads(roads: &[Road], names: &mut Names, map: &mut Map) -> Result<(),
 /// Adds a row for each lane of a type that was chosen, with its edges and its outline.
 pub fn add_lanes(roads: &[Road], choice: &Choice, lines: &LineStarts, names: &mut Names, map: &mut Map) -> Result<(), Fault> {
     let links = lane_links(roads.iter().flat_map(|r| &r.sections).flat_map(|s| s.lanes()).filter(|l| choice.takes(l.element)))?;
-    let mut links = links.chunks(4);
+    let mut links = links.chunks(LINKS);
     for road in roads {
         let name = names.place(road.name.as_bytes());
         for section in &road.sections {

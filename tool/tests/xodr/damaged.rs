@@ -1,7 +1,7 @@
 //! Damaged files: each is read or refused, and none brings the reader down.
 use crate::file;
-use lanes::map::{CONNECTION, EDGE, JUNCTION, LANE, PAIR, ROAD};
 use lanes::xodr::{self, Choice};
+use vorzhyket::sizes::{CONNECTION, EDGE, JUNCTION, LANE, PAIR, ROAD};
 
 /// Numbers that are the same on every run (xorshift).
 struct Dice(u64);

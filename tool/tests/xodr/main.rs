@@ -6,9 +6,10 @@ mod hostile;
 mod outlines;
 mod plain;
 
-use lanes::map::{Fault, Map, EDGE};
+use lanes::map::{Fault, Map};
 use lanes::xodr::{self, Choice};
 use std::path::PathBuf;
+use vorzhyket::sizes::EDGE;
 
 /// Everything but outlines.
 const ALL: Choice = Choice { types: None, area: None, edges: true, outlines: false };

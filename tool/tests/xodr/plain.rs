@@ -1,5 +1,6 @@
 //! A map's rows as lines, in the words of the plain-text form, so that tests can be read.
-use lanes::map::{Tables, CONNECTION, JUNCTION, LANE, PAIR, ROAD};
+use lanes::map::Tables;
+use vorzhyket::sizes::{CONNECTION, JUNCTION, LANE, PAIR, ROAD};
 use vorzhyket::ABSENT;
 
 const ENDS: [&str; 2] = ["start", "end"];
