@@ -5,13 +5,13 @@ use words::rows;
 use words::tests::both;
 ghost use mathlib.Core.Path.{_≡_};
 ghost use mathlib.Core.Bool.{true, false, not, _&&_};
-ghost use Prim.Native.Nat.{_+_, _*_, _/_, _≤_, _<_};
+ghost use Prim.Native.Nat.{_+_, _*_, _-_, _/_, _≤_, _<_};
 ghost use lib.ListN.{length};
 ghost use Rattle.model.specs.Rows.{table, partsFit};
-ghost use Rattle.words.specs.Rows.{any, all, span};
+ghost use Rattle.words.specs.Rows.{any, all, nameAt};
 ghost use Rattle.words.specs.Chain.{Chained};
 ghost use Rattle.words.specs.Keys.{nameHash, nameBefore, idBefore};
-ghost use Rattle.rules.specs.ByRow.{listedBy, listedAt, Owned};
+ghost use Rattle.rules.specs.ByRow.{listedBy, listedAt, roadRowOf, Owned};
 
 // 6: no identity twice.
 pub fn identities_once(lanes: &[u32]) -> bool
@@ -33,6 +33,48 @@ fn section_known(roads: &[u32], sections: &[u32], road: usize, section: u32) -> 
         return false;
     }
     parts::listed(parts::numbers(roads, sections, road - 1), section)
+}
+
+// Whether lane i names its road by the same words as the lane before it.
+fn named_alike(lanes: &[u32], i: usize) -> bool
+    requires { ⌜ (i < 16384) × (i * 10 + 10 ≤ length (now lanes)) ⌝ }
+    ensures { λ q. ⌜ (q ≡ true → (0 < i)
+        × (nameAt 10 1 (now (lanes .entry)) (i - 1) ≡ nameAt 10 1 (now (lanes .entry)) i)) ⌝ }
+{
+    if i == 0 {
+        return false;
+    }
+    let before = (i - 1) * 10 + 1;
+    let at = i * 10 + 1;
+    if lanes[before] != lanes[at] {
+        return false;
+    }
+    lanes[before + 1] == lanes[at + 1]
+}
+
+// The row plus 1 of lane i's road, 0 where it is unknown. The lanes of a road mostly stand together, so the road of the
+// lane before, which `owner` has, is taken where the two have their names from one place.
+fn road_of(
+    text: &[u8],
+    roads: &[u32],
+    lanes: &[u32],
+    heads: &[u32],
+    next: &[u32],
+    owner: &[u32],
+    i: usize,
+) -> usize
+    requires { ⌜ (length (now roads) / 20 ≤ 16384) × (i < 16384) × (i * 10 + 10 ≤ length (now lanes))
+        × (length (now heads) ≡ 16384) × (length (now next) ≡ 16384) × (length (now owner) ≡ 16384) ⌝ }
+    requires { ⌜ Chained (nameHash (now text) 20 0 (now roads)) (length (now roads) / 20) (now heads) (now next) ⌝ }
+    requires { ⌜ Owned (now text) (now roads) (now lanes) i (now owner) ⌝ }
+    ensures { λ q. ⌜ q ≡ roadRowOf (now (text .entry)) (now (roads .entry)) (nameAt 10 1 (now (lanes .entry)) i) ⌝ }
+{
+    if named_alike(lanes, i) {
+        return rows::word(owner, i - 1);
+    }
+    let s = rows::word(lanes, i * 10 + 1);
+    let l = rows::word(lanes, i * 10 + 1 + 1);
+    index::find_name(text, roads, 20, 0, heads, next, roads.len() / 20, s, l)
 }
 
 // 7: fills `owner` with each lane's road, its row plus 1 (0 where it is unknown), and returns whether each lane's section
@@ -60,9 +102,7 @@ pub fn lanes_listed(
     let mut every = true;
     let mut i = 0;
     while i < n {
-        let s = rows::word(lanes, i * 10 + 1);
-        let l = rows::word(lanes, i * 10 + 1 + 1);
-        let f = index::find_name(text, roads, 20, 0, heads, next, roads.len() / 20, s, l);
+        let f = road_of(text, roads, lanes, heads, next, owner, i);
         owner[i] = f as u32;
         every = both(every, section_known(roads, sections, f, lanes[i * 10 + 3]));
         i += 1;

@@ -3,15 +3,16 @@
 use Prim.Native.Nat.{_+_, _*_, _-_, _/_, _<_, _≤_}
 use native.Mathlib.Omega.{arith}
 use borrow.Author.Needs.{needs}
-use mathlib.Core.Path.{_≡_, refl, ap₂, _∙_}
+use mathlib.Core.Path.{_≡_, refl}
 use mathlib.Core.Bool.{true, false}
 use lib.ListN.{length}
 use Rattle.model.specs.Rows.{partsFit, table}
 use Rattle.words.specs.Chain.{Chained}
 use Rattle.words.specs.Keys.{bears, nameBefore, nameHash}
-use Rattle.words.specs.Rows.{any, lastOf, nameAt, span}
+use Rattle.words.specs.Rows.{any, lastOf, nameAt}
 use Rattle.words.proofs.Chains.{found-le}
 use Rattle.words.proofs.KeyLaws.{row-in, rows-in}
+use Rattle.rules.specs.ByRow.{roadRowOf}
 use Rattle.rules.proofs.Forms.{Listing, all-listed, listing-more, listing-none}
 use Rattle.rules.proofs.lanes.lanes_listed.Statement.{statement}
 use Rattle.rules.proofs.lanes.lanes_listed.Tie as tie
@@ -76,66 +77,39 @@ module _ (turn : Turn) where
   owner-fits = omega (arith, turn .loop-test .taken, head .loop .inv .room, few-lanes start)
 
 -- the row that was found is that of lane i's road
-module _ (found : tie.After-find-name Inv-loop μ-loop) where
-  abbrev second : tie.After-word2 Inv-loop μ-loop
-  second = search
-
+module _ (found : tie.After-road-of Inv-loop μ-loop) where
   abbrev turn : Turn
   turn = search
 
-  road-small : found .find-name .result ≤ length (start turn .args .roads .now) / 20
-  road-small = found-le _ _ (found .find-name .ensures)
-
-  road-is : found .find-name .result
+  road-is : found .road-of .result
       ≡ lastOf (length (start turn .args .roads .now) / 20)
       (bears (start turn .args .text .now) 20 0 (start turn .args .roads .now)
       (nameAt 10 1 (start turn .args .lanes .now) (head turn .loop .i)))
-  road-is =
-      let first : tie.After-word Inv-loop μ-loop = search in
-      let name-is = ap₂ span (first .word .ensures .0) (second .word2 .ensures .0) in
-      found .find-name .ensures ∙ rw name-is
+  unfolding roadRowOf
+  road-is = found .road-of .ensures
+
+  road-small : found .road-of .result ≤ length (start turn .args .roads .now) / 20
+  road-small = found-le _ _ road-is
 
 loop-holds : tie.Need-loop-holds Inv-loop μ-loop
 loop-holds c =
     let start : Start = search in
     listing-none (owners start)
 
-mul-word : tie.Need-mul-word Inv-loop μ-loop
-mul-word c = omega (arith, lane-fits (search))
-
-add-word : tie.Need-add-word Inv-loop μ-loop
-add-word c = omega (arith, lane-fits (search))
-
-word-requires : tie.Need-word-requires Inv-loop μ-loop
-word-requires c κs = omega (arith, lane-fits (search))
-
-mul-word-2 : tie.Need-mul-word-2 Inv-loop μ-loop
-mul-word-2 c = omega (arith, lane-fits (search))
-
-add-word-2 : tie.Need-add-word-2 Inv-loop μ-loop
-add-word-2 c = omega (arith, lane-fits (search))
-
-add-word-3 : tie.Need-add-word-3 Inv-loop μ-loop
-add-word-3 c = omega (arith, lane-fits (search))
-
-word-requires-2 : tie.Need-word-requires-2 Inv-loop μ-loop
-word-requires-2 c κs = omega (arith, lane-fits (search))
-
-find-name-requires : tie.Need-find-name-requires Inv-loop μ-loop
-find-name-requires c κs =
-    let first : tie.After-word Inv-loop μ-loop = search in
+road-of-requires : tie.Need-road-of-requires Inv-loop μ-loop
+road-of-requires c κs =
+    let turn : Turn = search in
+    let head : Head = search in
     let start : Start = search in (
       (
-        omega arith,
-        omega arith,
-        rows-in _ 20,
         few-roads start,
+        omega (arith, turn .loop-test .taken, few-lanes start),
+        omega (arith, lane-fits turn),
         buckets start,
-        omega (arith, links start, few-roads start),
-        first .word .ensures .1,
-        c .word2 .ensures .1,
+        links start,
+        head .loop .inv .room,
       ),
-      chained start,
+      (chained start, head .loop .inv .owned),
     )
 
 cast-owner : tie.Need-cast-owner Inv-loop μ-loop
@@ -200,14 +174,7 @@ lanes-listed-spec =
     Inv-loop
     μ-loop
     loop-holds
-    mul-word
-    add-word
-    word-requires
-    mul-word-2
-    add-word-2
-    add-word-3
-    word-requires-2
-    find-name-requires
+    road-of-requires
     cast-owner
     mul-owner
     slice-write-owner
