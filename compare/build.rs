@@ -1,8 +1,11 @@
 //! Takes links.rs, gaps.rs and coords.rs of libopendrive-rs from the checkout that LIBOPENDRIVE names, at build time.
-//! Only `across` is replaced, by the lent points; the build fails if the source is not as expected. Behind two of the files stand doors to private functions, for the benchmark and for the distance.
+//! Only `across` is replaced, by the lent points; the build fails if the source is not as expected. Behind two of the files stand doors to private functions,
+//! for the benchmark, the distance and its places, and `distance` once more, with the places u and v in its answer.
 use std::{env, fs, path::PathBuf};
 
 const ACROSS: &str = "fn across(lane: &Lane, end: bool) -> [Point; 2] {";
+const DISTANCE: &str = "fn distance([p, q]: [Point; 2], [r, s]: [Point; 2]) -> f32 {\n";
+const LENGTH: &str = "\n    ((p + d1 * u) - (r + d2 * v)).length()\n}\n";
 
 /// Appended to links.rs: the repair of one junction row, as `junctions` does it after reading.
 const LINKS_DOORS: &str = "
@@ -18,10 +21,18 @@ pub(crate) fn repair_row(id: &str, kind: u32, conns: &mut Vec<JunctionConn>, roa
 }
 ";
 
-/// Appended to gaps.rs.
+/// Appended to gaps.rs, behind `closest`. The pairs of a link's ends come in the order in which `link_gaps` measures them.
 const GAPS_DOORS: &str = "
 pub(crate) fn distance_of(first: &[Point; 2], second: &[Point; 2]) -> f32 {
     distance(*first, *second)
+}
+
+pub(crate) fn closest_of(first: &[Point; 2], second: &[Point; 2]) -> (f32, f32, f32) {
+    closest(*first, *second)
+}
+
+pub(crate) fn pairs_of_ends(lane: &Lane, to: &Lane) -> Vec<[[Point; 2]; 2]> {
+    ends(lane, Direction::Forward).flat_map(|exit| ends(to, Direction::Backward).map(move |entry| [exit, entry])).collect()
 }
 ";
 
@@ -37,7 +48,8 @@ fn main() {
     };
     fs::write(out.join("links.rs"), read("src/parse/links.rs") + LINKS_DOORS).unwrap();
     fs::write(out.join("coords.rs"), read("src/coords.rs")).unwrap();
-    fs::write(out.join("gaps.rs"), with_lent_points(&read("src/parse/gaps.rs")) + GAPS_DOORS).unwrap();
+    let gaps = read("src/parse/gaps.rs");
+    fs::write(out.join("gaps.rs"), with_lent_points(&gaps) + "\n" + &closest(&gaps) + GAPS_DOORS).unwrap();
     let path = |file: &str| format!("{:?}", out.join(file).display().to_string());
     fs::write(
         out.join("original.rs"),
@@ -63,4 +75,14 @@ fn with_lent_points(source: &str) -> String {
     let end = body + source[body..].find("\n}\n").expect("`across` does not end as expected");
     assert!(source[body..end].contains("lane.center.points()"), "`across` is not as expected");
     format!("{}\n    lane.ends[usize::from(end)]{}", &source[..body], &source[end..])
+}
+
+/// The text of `distance` as a function of its own, `closest`, that answers the distance, u and v.
+fn closest(source: &str) -> String {
+    let at = source.find(DISTANCE).expect("gaps.rs has no `distance` as expected");
+    assert_eq!(source.matches("fn distance(").count(), 1, "gaps.rs has `distance` more than once");
+    let body = at + DISTANCE.len();
+    let end = body + source[body..].find("\n}\n").expect("`distance` does not end as expected") + "\n}\n".len();
+    let steps = source[body..end].strip_suffix(LENGTH).expect("`distance` does not answer the length between the places u and v, as expected");
+    format!("fn closest([p, q]: [Point; 2], [r, s]: [Point; 2]) -> (f32, f32, f32) {{\n{steps}\n    (((p + d1 * u) - (r + d2 * v)).length(), u, v)\n}}\n")
 }

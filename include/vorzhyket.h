@@ -32,7 +32,9 @@ enum {
     VZ_EDGE = 12,       /* floats of a lane: two points at its start, two at its end */
     VZ_WARNING = 4,     /* of repair: 3, junction row, road row, end; of reading: 1, raw junction row, raw connection
                            row, 0, or 2, raw junction row, raw connection row, raw lane link row */
-    VZ_GAP = 3,         /* lane row, successor row, bits of the gap */
+    VZ_GAP = 5,         /* lane row, successor row, bits of the gap, bits of u and v: how far along the lane's end and
+                           the successor's, from first point to second, 0 to 1, the two come closest; never -0, and 0
+                           and 0 where the gap is infinite */
     /* attributes as a file has them: every name may be absent */
     VZ_RAW_TARGET = 9,      /* element flag, elementType, elementId, contactPoint, elementS; flag 0 has all absent */
     VZ_RAW_JUNCTION = 8,    /* id, type, mainRoad, raw connection part */
@@ -109,7 +111,8 @@ uint32_t vz_succession(
     uint32_t written[4]);
 
 /* Measures the gap of every lane link, by the successors' offsets and identities. Writes a row for each link whose
- * gap is not at most 0.1. Refuses by 1 to 11. */
+ * gap is not at most 0.1. Of a two-way lane's ends the first pair with the least distance counts: the lane's end before
+ * its start, then the successor's likewise. Refuses by 1 to 11. */
 uint32_t vz_gaps(
     const uint8_t *text, size_t text_length,
     const uint32_t *roads, size_t roads_length,
@@ -162,8 +165,10 @@ void vz_name(const uint8_t *text, size_t text_length, uint32_t start, uint32_t l
  * and leaves out as it was. */
 uint32_t vz_root(float x, float *out);
 
-/* The distance of two segments of two points each. */
-float vz_distance(const float first[6], const float second[6]);
+/* The distance of two segments of two points each. Writes u and v to places: how far along the first segment and along
+ * the second, from first point to second, 0 to 1, the two come closest. Either may be -0, and a NaN only where the
+ * distance is one. */
+float vz_distance(const float first[6], const float second[6], float places[2]);
 
 /* Reads targets. Writes a target for each raw target: none where the flag is 0 or elementId is absent. Refuses by 1, 2
  * and 9. */

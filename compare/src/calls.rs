@@ -200,7 +200,10 @@ pub fn root(x: f32) -> (u32, f32) {
     (answer, out)
 }
 
+/// The distance, u and v.
 #[inline]
-pub fn distance(first: &[f32; 6], second: &[f32; 6]) -> f32 {
-    unsafe { vz_distance(first, second) }
+pub fn distance(first: &[f32; 6], second: &[f32; 6]) -> [f32; 3] {
+    let mut places = [f32::from_bits(UNTOUCHED); 2];
+    let gap = unsafe { vz_distance(first, second, &mut places) };
+    [gap, places[0], places[1]]
 }

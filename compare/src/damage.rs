@@ -1,7 +1,7 @@
 //! Faulty tables: which refusal they get by document 01, and that it changes no lent word.
 use crate::calls::{self, Outcome};
 use crate::rules;
-use crate::tables::{Dice, Tables, ABSENT, CONNECTION, EDGE, JUNCTION, LANE, PAIR, ROAD};
+use crate::tables::{Dice, Tables, ABSENT, CONNECTION, EDGE, GAP, JUNCTION, LANE, PAIR, ROAD};
 use std::collections::BTreeMap;
 
 /// How often each call gave each refusal.
@@ -148,8 +148,16 @@ pub fn run(map: &Tables, dice: &mut Dice, tally: &mut Tally) -> Result<(), Strin
     if dice.one_in(3) {
         spoil(&mut offsets, &mut list, dice);
     }
-    let rows = 3 * list.len() + 3;
-    judge("gaps", rules::gaps(&t, &offsets, &list), || calls::gaps(&t, &offsets, &list, rows), &[3], |n| calls::gaps(&t, &offsets, &list, n[0]), dice, tally)?;
+    let rows = GAP * list.len() + 3;
+    judge(
+        "gaps",
+        rules::gaps(&t, &offsets, &list),
+        || calls::gaps(&t, &offsets, &list, rows),
+        &[GAP],
+        |n| calls::gaps(&t, &offsets, &list, n[0]),
+        dice,
+        tally,
+    )?;
     let mut marks: Vec<u32> = (0..t.roads.len() / ROAD).map(|_| dice.below(2) as u32).collect();
     match dice.below(12) {
         0 => marks.push(0),

@@ -1,6 +1,6 @@
 //! A map in the plain text of docs/MAP-FORMAT.md, and what the tool `lanes` has to print of it: written from that document,
 //! beside what the original finds.
-use crate::original::{distance, Lists, Repaired};
+use crate::original::{distance, GapRow, Lists, Repaired};
 use crate::tables::{Tables, ABSENT, CONNECTION, EDGE, JUNCTION, LANE, PAIR, ROAD};
 
 /// A map in one of two spellings: names as they are and edges as bits, or some names so that they need quotation marks,
@@ -32,12 +32,20 @@ fn width(bits: u32, places: u32) -> String {
     format!("{}.{:0width$} m", scaled / tens, scaled % tens, width = places as usize)
 }
 
-/// A coordinate to the centimetre; one that is huge or none with an exponent.
-fn coordinate(x: f64) -> String {
+/// Metres with so many places after the point; what is huge or no number with an exponent.
+fn metres(x: f64, places: usize) -> String {
     if x.abs() < 1e12 {
-        return format!("{x:.2}").replace("-0.00", "0.00");
+        let (text, zero) = (format!("{x:.places$}"), format!("{:.places$}", 0.0));
+        return if text == format!("-{zero}") { zero } else { text };
     }
     format!("{x:e}")
+}
+
+/// A place on an edge: at the lane's end (1) or its start (0), metres along it from its first point, x and y.
+struct Place {
+    end: usize,
+    along: f64,
+    at: [f64; 2],
 }
 
 /// The ends by which traffic leaves a lane, or comes into it: 1 for its end, 0 for its start.
@@ -183,11 +191,21 @@ impl Form<'_> {
     }
 
     /// `lanes gaps`.
-    pub fn gaps(&self, lists: &Lists, gaps: &[[u32; 3]]) -> Vec<u8> {
+    pub fn gaps(&self, lists: &Lists, gaps: &[GapRow]) -> Vec<u8> {
         let rows = self.rows();
-        let line = |g: &[u32; 3]| {
-            [&self.label(rows[g[0] as usize])[..], b" to ", &self.label(rows[g[1] as usize]), format!(": {} (bits {:08x})\n", width(g[2], 6), g[2]).as_bytes()]
-                .concat()
+        let line = |g: &GapRow| {
+            let labels = [0, 1].map(|k| self.label(rows[g[k] as usize]));
+            let mut out = [&labels[0][..], b" to ", &labels[1], format!(": {} (bits {:08x})\n", width(g[2], 6), g[2]).as_bytes()].concat();
+            let Some(places) = self.places(g) else {
+                out.extend(b"  no place: coordinates are no numbers, or too large\n");
+                return out;
+            };
+            for (label, Place { end, along, at }) in labels.iter().zip(places) {
+                let (end, [x, y]) = (["start", "end"][end], at.map(|c| metres(c, 3)));
+                let place = format!(" at its {end}, {} m from the first point: x {x} m, y {y} m\n", metres(along, 3));
+                out.extend([b"  ", &label[..], place.as_bytes()].concat());
+            }
+            out
         };
         let links = lists.successors.iter().map(Vec::len).sum();
         let sum = format!("gaps: {} in {}\n", counted(gaps.len(), "gap"), counted(links, "link"));
@@ -222,24 +240,33 @@ impl Form<'_> {
         (rows, sum)
     }
 
-    /// The middle of the exit from which the gap is measured.
-    fn place(&self, g: &[u32; 3]) -> [f64; 2] {
+    /// Where the exit and the entry of a gap come closest; none where it is infinite. Of several pairs of ends that are as
+    /// far apart it is the first: exits end before start, then entries likewise.
+    fn places(&self, g: &GapRow) -> Option<[Place; 2]> {
         let across = |row: u32, end: usize| -> [f32; 6] { self.map.edges[row as usize * EDGE + 6 * end..][..6].try_into().unwrap() };
         let way = |row: u32| self.map.lanes[row as usize * LANE + 5];
-        let exits = ends(way(g[0]), true);
-        let near = |&&x: &&usize| ends(way(g[1]), false).iter().any(|&e| distance(&across(g[0], x), &across(g[1], e)).to_bits() == g[2]);
-        let e = across(g[0], *exits.iter().find(near).unwrap_or(&exits[0]));
-        [0, 1].map(|k| (f64::from(e[k]) + f64::from(e[k + 3])) / 2.0)
+        if g[2] == f32::INFINITY.to_bits() {
+            return None;
+        }
+        let entries = ends(way(g[1]), false);
+        let pairs = ends(way(g[0]), true).into_iter().flat_map(|exit| entries.iter().map(move |&entry| [exit, entry]));
+        let near = |&[exit, entry]: &[usize; 2]| distance(&across(g[0], exit), &across(g[1], entry)).to_bits() == g[2];
+        let ends = pairs.into_iter().find(near).expect("a pair that is as far apart as the gap is wide");
+        Some([0, 1].map(|k| {
+            let (p, part) = (across(g[k], ends[k]).map(f64::from), f64::from(f32::from_bits(g[3 + k])));
+            let [dx, dy, dz] = [p[3] - p[0], p[4] - p[1], p[5] - p[2]];
+            Place { end: ends[k], along: part * (dx * dx + dy * dy + dz * dz).sqrt(), at: [p[0] + part * dx, p[1] + part * dy] }
+        }))
     }
 
-    /// The gaps as `check` shows them, widest first.
-    fn wide_gaps(&self, gaps: &[[u32; 3]]) -> Vec<Vec<u8>> {
+    /// The gaps as `check` shows them, widest first, with the place on the exit.
+    fn wide_gaps(&self, gaps: &[GapRow]) -> Vec<Vec<u8>> {
         let (rows, mut gaps) = (self.rows(), gaps.to_vec());
         gaps.sort_by(|a, b| f32::from_bits(b[2]).total_cmp(&f32::from_bits(a[2])));
-        let row = |g: &[u32; 3]| {
-            let [x, y] = self.place(g).map(coordinate);
+        let row = |g: &GapRow| {
+            let at = self.places(g).map_or(", no place".into(), |[exit, _]| format!(", at {}, {}", metres(exit.at[0], 2), metres(exit.at[1], 2)));
             let (from, to) = (self.label(rows[g[0] as usize]), self.label(rows[g[1] as usize]));
-            [format!("{} from ", width(g[2], 3)).as_bytes(), &from, b" to ", &to, format!(", at {x}, {y}").as_bytes()].concat()
+            [format!("{} from ", width(g[2], 3)).as_bytes(), &from, b" to ", &to, at.as_bytes()].concat()
         };
         gaps.iter().map(row).collect()
     }
@@ -268,7 +295,7 @@ impl Form<'_> {
     }
 
     /// `lanes check`, and with `--all`.
-    pub fn check(&self, found: &Repaired, lists: &Lists, gaps: &[[u32; 3]], all: bool) -> Vec<u8> {
+    pub fn check(&self, found: &Repaired, lists: &Lists, gaps: &[GapRow], all: bool) -> Vec<u8> {
         let t = self.map;
         let sizes = [
             (t.roads.len() / ROAD, "road"),

@@ -1,7 +1,7 @@
 //! Runs the original and this library on random maps and compares repaired tables, warnings, lists and gap rows; then
 //! faulty tables; then sequences of reversals; then attribute reading; then lookups of lists and names, roots and
 //! distances.
-use compare::original::Lists;
+use compare::original::{GapRow, Lists, Near};
 use compare::tables::{Dice, Tables, CONNECTION, LANE};
 use compare::{damage, lookups, maps, measures, original, ours, raw, turned};
 
@@ -13,6 +13,62 @@ struct Seen {
     successors: usize,
     two_way: usize,
     gaps: usize,
+    places: Places,
+}
+
+/// What the places of the gap rows were chosen from.
+#[derive(Default)]
+struct Places {
+    /// Rows with a place between 0 and 1.
+    inside: usize,
+    /// Rows of which a place is -0 before it is written.
+    minus_zero: usize,
+    infinite: usize,
+    /// Those of them with a pair of ends that is infinitely far apart at other places than 0.
+    far: usize,
+    /// Rows with a pair of ends whose distance is a NaN beside one whose distance is none.
+    nan: usize,
+    /// Rows with more than one pair of ends.
+    choice: usize,
+    /// Those of them of which another pair than the first is least.
+    later: usize,
+    /// Those of which several pairs are least.
+    ties: usize,
+    /// Those of which several pairs are least and show different places.
+    unlike: usize,
+    /// Those of them of which a later pair has a lesser square, and the same root.
+    squares: usize,
+}
+
+impl Places {
+    fn add(&mut self, row: &GapRow, pairs: &[Near]) {
+        let gap = f32::from_bits(row[2]);
+        let least: Vec<&Near> = pairs.iter().filter(|p| p.distance == gap && gap.is_finite()).collect();
+        let minus = |x: &f32| *x == 0.0 && x.is_sign_negative();
+        let inside = |&x: &u32| (f32::MIN_POSITIVE..1.0).contains(&f32::from_bits(x));
+        self.inside += usize::from(row[3..].iter().any(inside));
+        self.minus_zero += usize::from(least.first().is_some_and(|p| p.places.iter().any(minus)));
+        self.infinite += usize::from(gap.is_infinite());
+        self.far += usize::from(gap.is_infinite() && pairs.iter().any(|p| p.distance == gap && p.places != [0.0; 2]));
+        self.nan += usize::from(gap.is_finite() && pairs.iter().any(|p| p.distance.is_nan()));
+        self.choice += usize::from(pairs.len() > 1);
+        self.later += usize::from(pairs[0].distance != gap && gap.is_finite());
+        self.ties += usize::from(least.len() > 1);
+        self.unlike += usize::from(least.iter().any(|p| p.places != least[0].places));
+        self.squares += usize::from(least.iter().any(|p| p.square < least[0].square && p.places != least[0].places));
+    }
+
+    fn print(&self) {
+        println!(
+            "  rows whose places are between 0 and 1: {}; -0 and written 0: {}; of an infinite gap: {}, {} of them left out; with a NaN passed over: {}",
+            self.inside, self.minus_zero, self.infinite, self.far, self.nan
+        );
+        println!("  rows with several pairs of ends: {}, {} of them with a later one least", self.choice, self.later);
+        println!(
+            "  rows with several least pairs of ends: {}, {} of them with different places, {} of these with a later one of lesser square",
+            self.ties, self.unlike, self.squares
+        );
+    }
 }
 
 /// All that was counted.
@@ -32,9 +88,10 @@ impl Counts {
             "  beside the original: {} warnings, {} connections added, {} successors, {} two-way lanes with successors, {} gap rows",
             seen.warnings, seen.added, seen.successors, seen.two_way, seen.gaps
         );
+        seen.places.print();
         println!("  damaged tables:");
         self.tally.print();
-        println!("  reversals: {} accepted, {} refused", self.turned.accepted, self.turned.refused);
+        self.turned.print();
         self.lookups.print();
         self.measures.print();
     }
@@ -59,6 +116,7 @@ fn beside(t: &Tables, seen: &mut Seen) -> Result<(Tables, Lists), String> {
     seen.successors += b.0.successors.iter().map(Vec::len).sum::<usize>();
     seen.two_way += t.lanes.chunks(LANE).zip(&b.0.successors).filter(|(l, s)| l[5] == 2 && !s.is_empty()).count();
     seen.gaps += b.1.len();
+    a.1.iter().zip(original::pairs(t, &a.1)).for_each(|(row, pairs)| seen.places.add(row, &pairs));
     Ok((m, a.0))
 }
 
@@ -80,7 +138,8 @@ fn main() {
     say("limits", damage::limits());
     say("exponents", measures::exponents(&mut counts.measures));
     for k in 0..n {
-        let t = maps::random(&mut dice);
+        let mut t = maps::random(&mut dice);
+        maps::on_a_grid(&mut t, &mut others);
         say(&format!("map {k}"), beside(&t, &mut counts.seen).and_then(|(m, lists)| lookups::run(&m, &lists, &mut others, &mut counts.lookups)));
         say(&format!("map {k} damaged"), damage::run(&t, &mut dice, &mut counts.tally));
         say(&format!("map {k} reversed"), turned::run(&t, &mut dice, &mut counts.turned));

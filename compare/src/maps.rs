@@ -36,6 +36,27 @@ fn float(dice: &mut Dice) -> f32 {
     }
 }
 
+/// The points across the lanes of half of the maps anew: each lane's on a coarse grid of its own height. There several pairs
+/// of ends of two-way lanes are equally far apart, at other places, and places are -0; or nearly so, by a square that differs
+/// where its root may not. Now and then a coordinate is one that no grid has.
+pub fn on_a_grid(t: &mut Tables, dice: &mut Dice) {
+    if dice.one_in(2) {
+        return;
+    }
+    let (size, nearly) = (2 + dice.below(3), dice.one_in(3));
+    for lane in t.edges.chunks_mut(EDGE) {
+        let height = dice.below(3) as f32 * 0.5;
+        for (k, x) in lane.iter_mut().enumerate() {
+            *x = match dice.below(200) {
+                0..=3 => float(dice),
+                4..=9 => -0.0,
+                _ if k % 3 == 2 => height,
+                _ => (dice.below(size) as f32 - 1.0) * 0.5 + if nearly { dice.below(4) as f32 / 4096.0 } else { 0.0 },
+            };
+        }
+    }
+}
+
 /// What a random map is made with.
 struct Maker<'a> {
     dice: &'a mut Dice,

@@ -1,4 +1,4 @@
-//! Root and distance, bit for bit beside f32::sqrt and the `distance` of gaps.rs; a NaN only has to be a NaN.
+//! Root, and distance with its places u and v, bit for bit beside f32::sqrt and the `distance` of gaps.rs; a NaN only has to be a NaN.
 use crate::calls::{self, UNTOUCHED};
 use crate::original;
 use crate::tables::Dice;
@@ -16,12 +16,42 @@ pub struct Count {
     zero: u64,
     infinite: u64,
     nan: u64,
+    places: Places,
+}
+
+/// What places came out, u and v alike.
+#[derive(Default)]
+struct Places {
+    inside: u64,
+    zero: u64,
+    minus_zero: u64,
+    one: u64,
+    nan: u64,
+}
+
+impl Places {
+    fn add(&mut self, x: f32) {
+        let count = if x.is_nan() {
+            &mut self.nan
+        } else if x == 1.0 {
+            &mut self.one
+        } else if x != 0.0 {
+            &mut self.inside
+        } else if x.is_sign_negative() {
+            &mut self.minus_zero
+        } else {
+            &mut self.zero
+        };
+        *count += 1;
+    }
 }
 
 impl Count {
     pub fn print(&self) {
         println!("  roots: {} beside f32::sqrt, {} of them a NaN; {} refused below zero", self.roots, self.root_nan, self.refused);
         println!("  distances: {} beside gaps.rs, {} of them 0, {} infinite, {} a NaN", self.distances, self.zero, self.infinite, self.nan);
+        let p = &self.places;
+        println!("  their places u and v: {} between 0 and 1, {} at 0, {} at -0, {} at 1, {} a NaN", p.inside, p.zero, p.minus_zero, p.one, p.nan);
     }
 }
 
@@ -125,10 +155,15 @@ fn segments(dice: &mut Dice) -> [Segment; 2] {
 /// The distance of two segments beside the original's, either one first.
 fn distance([a, b]: [Segment; 2], count: &mut Count) -> Result<(), String> {
     for (first, second) in [(&a, &b), (&b, &a)] {
-        let (theirs, found) = (original::distance(first, second), calls::distance(first, second));
-        if !same(found, theirs) {
-            return Err(format!("the distance of {first:?} and {second:?}: {found:e}, theirs {theirs:e}"));
+        let (theirs, all, answer) = (original::distance(first, second), original::closest(first, second), calls::distance(first, second));
+        if !same(all[0], theirs) {
+            return Err(format!("`distance` of {first:?} and {second:?} is {theirs:e}, and {:e} where it tells its places", all[0]));
         }
+        if !answer.iter().zip(all).all(|(&a, b)| same(a, b)) {
+            return Err(format!("distance, u and v of {first:?} and {second:?}: {answer:?}, theirs {all:?}"));
+        }
+        let found = answer[0];
+        answer[1..].iter().for_each(|&x| count.places.add(x));
         count.distances += 1;
         count.zero += u64::from(found == 0.0);
         count.infinite += u64::from(found.is_infinite());

@@ -2,7 +2,7 @@
 use crate::coords::Point;
 use crate::parse::links::{junctions, resolve, Contact, ElemType, JunctionConn, LaneMeta, LinkTarget, RoadInfo, Topology};
 use crate::parse::{link_gaps, RoadEnd, Warning};
-use crate::tables::{Tables, ABSENT, CONNECTION, EDGE, JUNCTION, LANE, ROAD};
+use crate::tables::{Tables, ABSENT, CONNECTION, EDGE, GAP, JUNCTION, LANE, ROAD};
 use crate::{Direction, Lane, LaneId};
 use std::collections::HashMap;
 
@@ -19,6 +19,9 @@ pub struct Repaired {
     /// Junction name, road name, end.
     pub warnings: Vec<(String, String, u32)>,
 }
+
+/// Lane row, successor row, gap bits, u bits, v bits.
+pub type GapRow = [u32; GAP];
 
 #[derive(Debug, PartialEq, Default)]
 pub struct Lists {
@@ -184,8 +187,14 @@ fn lanes(t: &Tables) -> (Vec<Lane>, Vec<LaneMeta>) {
     out
 }
 
-/// Repair, then `resolve`, then `link_gaps`: the lists of every lane, and the gap rows (lane row, successor row, gap bits).
-pub fn lists_and_gaps(t: &Tables) -> (Lists, Vec<[u32; 3]>) {
+/// A map's lanes with their lists, and what names them.
+pub struct Linked {
+    lanes: Vec<Lane>,
+    metas: Vec<LaneMeta>,
+}
+
+/// Repair, then `resolve`.
+pub fn linked(t: &Tables) -> Linked {
     let (roads, conns, _) = run(t);
     let (mut lanes, metas) = lanes(t);
     let mut topo = Topology { roads, junctions: conns, ..Topology::default() };
@@ -194,14 +203,65 @@ pub fn lists_and_gaps(t: &Tables) -> (Lists, Vec<[u32; 3]>) {
     }
     topo.metas = metas;
     resolve(&mut lanes, &topo);
+    Linked { lanes, metas: topo.metas }
+}
+
+/// How many gap warnings `link_gaps` gives.
+#[inline(never)]
+pub fn gap_count(map: &Linked) -> usize {
+    link_gaps(&map.lanes, &map.metas).len()
+}
+
+/// How far apart a pair of ends is, and where.
+pub struct Near {
+    pub distance: f32,
+    pub places: [f32; 2],
+    /// The square that the distance is the root of.
+    pub square: f32,
+}
+
+/// For each gap row its pairs of ends.
+pub fn pairs(t: &Tables, gaps: &[GapRow]) -> Vec<Vec<Near>> {
+    let (lanes, _) = lanes(t);
+    gaps.iter().map(|g| pairs_of(&lanes[g[0] as usize], &lanes[g[1] as usize])).collect()
+}
+
+/// The pairs of ends by which a link can lead on, in the order of `link_gaps`.
+fn pairs_of(lane: &Lane, to: &Lane) -> Vec<Near> {
+    let near = |[[p, q], [r, s]]: [Segment; 2]| {
+        let (distance, u, v) = crate::parse::gaps::closest_of(&[p, q], &[r, s]);
+        let between = (p + (q - p) * u) - (r + (s - r) * v);
+        Near { distance, places: [u, v], square: between.dot(between) }
+    };
+    crate::parse::gaps::pairs_of_ends(lane, to).into_iter().map(near).collect()
+}
+
+/// The bits of the first least distance that is finite and of its places, with -0 as 0; of infinity, 0, 0 where none is.
+fn first_least(pairs: &[Near]) -> [u32; 3] {
+    let mut least = [f32::INFINITY, 0.0, 0.0];
+    for p in pairs {
+        if p.distance < least[0] {
+            least = [p.distance, p.places[0] + 0.0, p.places[1] + 0.0];
+        }
+    }
+    least.map(f32::to_bits)
+}
+
+/// Repair, then `resolve`, then `link_gaps`: the lists of every lane, and the gap rows. The places u and v are those of the
+/// first pair of ends that is as far apart as `link_gaps` says.
+pub fn lists_and_gaps(t: &Tables) -> (Lists, Vec<GapRow>) {
+    let Linked { lanes, metas } = linked(t);
     let ids = |l: &[LaneId]| l.iter().map(|i| i.0 as u32).collect::<Vec<_>>();
     let lists = Lists { successors: lanes.iter().map(|l| ids(&l.successors)).collect(), predecessors: lanes.iter().map(|l| ids(&l.predecessors)).collect() };
-    let row = |road: &str, section: usize, lane: i32| topo.metas.iter().position(|m| m.road == road && m.section == section && m.od_id == lane).unwrap() as u32;
-    let gaps = link_gaps(&lanes, &topo.metas)
+    let row = |road: &str, section: usize, lane: i32| metas.iter().position(|m| m.road == road && m.section == section && m.od_id == lane).unwrap() as u32;
+    let gaps = link_gaps(&lanes, &metas)
         .into_iter()
         .map(|w| {
             let Warning::LinkGap { road_id, section, lane, to_road_id, to_section, to_lane, gap } = w else { panic!("{w:?}") };
-            [row(&road_id, section, lane), row(&to_road_id, to_section, to_lane), (gap as f32).to_bits()]
+            let (from, to, bits) = (row(&road_id, section, lane), row(&to_road_id, to_section, to_lane), (gap as f32).to_bits());
+            let least = first_least(&pairs_of(&lanes[from as usize], &lanes[to as usize]));
+            assert_eq!(bits, least[0], "`link_gaps` has another gap than the first least pair");
+            [from, to, bits, least[1], least[2]]
         })
         .collect();
     (lists, gaps)
@@ -291,6 +351,19 @@ pub fn distance(first: &[f32; 6], second: &[f32; 6]) -> f32 {
 #[inline(never)]
 pub fn distance_in_place(first: &Segment, second: &Segment) -> f32 {
     crate::parse::gaps::distance_of(first, second)
+}
+
+/// The original's distance of two segments, with the places u and v.
+#[inline(never)]
+pub fn closest(first: &[f32; 6], second: &[f32; 6]) -> [f32; 3] {
+    closest_in_place(&segment(first), &segment(second))
+}
+
+/// The same of two segments that stand ready.
+#[inline(never)]
+pub fn closest_in_place(first: &Segment, second: &Segment) -> [f32; 3] {
+    let (distance, u, v) = crate::parse::gaps::closest_of(first, second);
+    [distance, u, v]
 }
 
 /// The original's length check: the sum that it reports.

@@ -1,7 +1,7 @@
 //! This library, run on the tables' maps, with answers in the form of the original's.
 use crate::calls;
-use crate::original::{Connection, Lists, Repaired, Target};
-use crate::tables::{Tables, CONNECTION, JUNCTION, LANE, ROAD};
+use crate::original::{Connection, GapRow, Lists, Repaired, Target};
+use crate::tables::{Tables, CONNECTION, GAP, JUNCTION, LANE, ROAD};
 
 fn target(t: &Tables, at: usize) -> Target {
     let w = &t.roads[at..at + 7];
@@ -39,12 +39,12 @@ pub fn repair(t: &Tables) -> (Tables, Repaired) {
 }
 
 /// Succession and the gap check by this library, on repaired tables.
-pub fn lists_and_gaps(m: &Tables) -> (Lists, Vec<[u32; 3]>) {
+pub fn lists_and_gaps(m: &Tables) -> (Lists, Vec<GapRow>) {
     let n = Tables::rows(&m.lanes, LANE);
     let ids = 2 * m.lanes.len() + 2 * m.pairs.len() + 5;
     let [so, si, po, pi]: [Vec<u32>; 4] = calls::succession(m, [n + 2, ids, n + 3, ids]).contents(&calls::LIST_WIDTHS).try_into().unwrap();
     let cut = |o: &[u32], i: &[u32]| (0..n).map(|l| i[o[l] as usize..o[l + 1] as usize].to_vec()).collect::<Vec<_>>();
     let lists = Lists { successors: cut(&so, &si), predecessors: cut(&po, &pi) };
-    let gaps = calls::gaps(m, &so, &si, 3 * si.len() + 3).contents(&[3]).remove(0);
-    (lists, gaps.chunks(3).map(|r| [r[0], r[1], r[2]]).collect())
+    let gaps = calls::gaps(m, &so, &si, GAP * si.len() + 3).contents(&[GAP]).remove(0);
+    (lists, gaps.chunks(GAP).map(|r| r.try_into().unwrap()).collect())
 }

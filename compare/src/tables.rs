@@ -7,6 +7,7 @@ pub const CONNECTION: usize = 7;
 pub const PAIR: usize = 2;
 pub const LANE: usize = 10;
 pub const EDGE: usize = 12;
+pub const GAP: usize = 5;
 pub const ABSENT: u32 = u32::MAX;
 
 #[derive(Clone, Debug, Default, PartialEq)]

@@ -1,15 +1,30 @@
-//! Sequences of reversals: the tables after them, and the lists and gap rows that the original finds on them.
+//! Sequences of reversals: the tables after them, and the lists and gap rows that the original finds on them, and this library
+//! as well. Of a row whose lanes are not both one-way the places may be others.
 use crate::calls::{self, REVERSAL_WIDTHS};
-use crate::original;
+use crate::original::{self, GapRow};
+use crate::ours;
 use crate::reversal;
 use crate::rules;
-use crate::tables::{Dice, Tables, ROAD};
+use crate::tables::{Dice, Tables, LANE, ROAD};
 
-/// How many reversals were accepted and refused.
+/// How many reversals were accepted and refused, and the gap rows after them.
 #[derive(Default)]
 pub struct Count {
-    pub accepted: u64,
-    pub refused: u64,
+    accepted: u64,
+    refused: u64,
+    one_way: u64,
+    two_way: u64,
+    elsewhere: u64,
+}
+
+impl Count {
+    pub fn print(&self) {
+        println!("  reversals: {} accepted, {} refused", self.accepted, self.refused);
+        println!(
+            "  gap rows after them: {} of one-way lanes, the same in all words; {} of others, the same but for the places, which differ in {}",
+            self.one_way, self.two_way, self.elsewhere
+        );
+    }
 }
 
 /// The lengths that the outputs need.
@@ -92,10 +107,33 @@ pub fn run(map: &Tables, dice: &mut Dice, count: &mut Count) -> Result<(), Strin
     if set.iter().all(|&s| s == 0) && !same(map, &now) {
         return Err("an empty set changed the tables".into());
     }
-    if original::lists_and_gaps(map) != original::lists_and_gaps(&now) {
-        return Err("the original finds other lists or gaps after the reversals".into());
+    let (first, last) = (original::lists_and_gaps(map), original::lists_and_gaps(&now));
+    if first.0 != last.0 {
+        return Err("the original finds other lists after the reversals".into());
+    }
+    gap_rows(map, &first.1, &last.1, count)?;
+    if ours::lists_and_gaps(&ours::repair(&now).0) != last {
+        return Err("the two find other lists or gaps after the reversals".into());
     }
     warnings(map, &now, &set)
+}
+
+/// The gap rows after reversals are those before: three words of each, and all of a row whose two lanes are one-way.
+fn gap_rows(map: &Tables, first: &[GapRow], last: &[GapRow], count: &mut Count) -> Result<(), String> {
+    let one_way = |row: u32| map.lanes[row as usize * LANE + 5] != 2;
+    let wrong = || Err(format!("the original finds other gaps after the reversals\n before {first:?}\n after  {last:?}"));
+    if first.len() != last.len() {
+        return wrong();
+    }
+    for (a, b) in first.iter().zip(last) {
+        let both = one_way(a[0]) && one_way(a[1]);
+        if a[..3] != b[..3] || (both && a != b) {
+            return wrong();
+        }
+        *(if both { &mut count.one_way } else { &mut count.two_way }) += 1;
+        count.elsewhere += u64::from(a != b);
+    }
+    Ok(())
 }
 
 /// The original's warnings differ only in the end of a marked road.

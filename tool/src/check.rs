@@ -2,9 +2,11 @@
 use crate::found::{Found, Gap};
 use crate::labels::counted;
 use crate::map::{Map, Tables};
+use crate::place::Places;
+use crate::way::Way;
 use std::cmp::Reverse;
 use std::collections::HashMap;
-use vorzhyket::sizes::{CONNECTION, EDGE, LANE, TARGET};
+use vorzhyket::sizes::{CONNECTION, LANE, TARGET};
 use vorzhyket::ABSENT;
 
 /// A lane inside a junction that can be entered and not left, or left and not entered: a movement that the file lost.
@@ -15,11 +17,11 @@ pub struct Lost {
     pub entered: bool,
 }
 
-/// A gap, and where the lane ends before it: x and y in metres, from 0, 0.
+/// A gap, and where it is.
 #[derive(Clone, Debug, PartialEq)]
 pub struct PlacedGap {
     pub gap: Gap,
-    pub at: [f64; 2],
+    pub places: Option<Places>,
 }
 
 /// The facts. Gaps stand widest first.
@@ -77,7 +79,7 @@ impl<'a> Check<'a> {
 }
 
 fn is_two_way(t: &Tables, row: usize) -> bool {
-    t.lane(row)[5] == 2
+    Way::of(t.lane(row)[5]) == Way::Both
 }
 
 /// The links between two two-way lanes.
@@ -98,7 +100,8 @@ fn lost(map: &Map, found: &Found, part: bool) -> Vec<Lost> {
         if entered == left || t.road(road)[2] == ABSENT {
             continue;
         }
-        let ends = if entered { exits(t, lane) } else { entries(t, lane) };
+        let way = Way::of(words[5]);
+        let ends = if entered { way.exits() } else { way.entries() };
         let is_cut = |end: bool| part && leads_out(t, &rows, road, end);
         let is_no_loss = |&end: &bool| is_outermost(t, road, words[3], end) && (leads_along(map, found, road, end) || is_cut(end));
         if !ends.iter().any(is_no_loss) {
@@ -134,45 +137,10 @@ fn leads_out(t: &Tables, rows: &HashMap<&[u8], usize>, road: usize, end: bool) -
 
 /// The gaps, widest first.
 fn placed(map: &Map, found: &Found) -> Vec<PlacedGap> {
-    let mut gaps: Vec<PlacedGap> = found.gaps.iter().map(|gap| PlacedGap { gap: gap.clone(), at: place(map, gap) }).collect();
+    let mut gaps: Vec<PlacedGap> = found.gaps.iter().map(|gap| PlacedGap { gap: gap.clone(), places: Places::of(map, gap) }).collect();
     // the bits of numbers that are not negative ascend with them
     gaps.sort_by_key(|g| Reverse(g.gap.bits));
     gaps
-}
-
-/// The two points of a lane at its end, or at its start.
-fn across(t: &Tables, row: usize, end: bool) -> [f32; 6] {
-    let from = row * EDGE + if end { 6 } else { 0 };
-    std::array::from_fn(|k| t.edges[from + k])
-}
-
-/// The ends by which traffic leaves a lane: true for its end, false for its start.
-fn exits(t: &Tables, row: usize) -> &'static [bool] {
-    match t.lane(row)[5] {
-        0 => &[true],
-        1 => &[false],
-        _ => &[true, false],
-    }
-}
-
-/// The ends by which traffic comes into a lane.
-fn entries(t: &Tables, row: usize) -> &'static [bool] {
-    match t.lane(row)[5] {
-        0 => &[false],
-        1 => &[true],
-        _ => &[true, false],
-    }
-}
-
-/// The middle of the lane's exit; of a two-way lane's two, that which is as far from the successor as the gap is wide.
-fn place(map: &Map, gap: &Gap) -> [f64; 2] {
-    let t = &map.tables;
-    let far = |exit: bool, entry: bool| vorzhyket::distance(&across(t, gap.lane, exit), &across(t, gap.successor, entry)).to_bits();
-    let exits = exits(t, gap.lane);
-    let is_at = |exit: &&bool| entries(t, gap.successor).iter().any(|&entry| far(**exit, entry) == gap.bits);
-    let exit = exits.iter().find(is_at).unwrap_or(&exits[0]);
-    let e = across(t, gap.lane, *exit).map(f64::from);
-    [map.origin[0] + (e[0] + e[3]) / 2.0, map.origin[1] + (e[1] + e[4]) / 2.0]
 }
 
 #[cfg(test)]

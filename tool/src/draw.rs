@@ -2,8 +2,8 @@
 //!
 //! Lanes are areas, coloured by direction: their outlines where the file has curves, else the quads of their edges.
 //! A fine line runs through each lane from entry to exit and on into the lanes that follow; it ends in a bar where no
-//! lane follows or none leads in. A ring marks each gap. Sizes follow the sheet, so that ten lanes and ten thousand
-//! are legible; where lanes are about as thin as a line, the fine lines are left out.
+//! lane follows or none leads in. A ring marks each gap, where its two edges come closest. Sizes follow the sheet, so
+//! that ten lanes and ten thousand are legible; where lanes are about as thin as a line, the fine lines are left out.
 mod lanes;
 mod legend;
 mod marks;
@@ -14,8 +14,8 @@ mod words;
 
 use crate::found::Found;
 use crate::map::Map;
+use crate::way::Way;
 use scene::{Scene, HEAD, WIDTH};
-use shape::Way;
 use trace::text;
 
 /// Lanes in one path of fine lines.
@@ -99,7 +99,7 @@ fn picture(map: &Map, found: &Found, scene: &Scene) -> String {
     if linked {
         lanes::lines(&mut out, scene);
     }
-    marks::marks(&mut out, &map.tables, scene);
+    marks::marks(&mut out, map, scene);
     legend::legend(&mut out, scene, &remarks, linked);
     out.push_str("</svg>\n");
     out

@@ -4,12 +4,22 @@ use std::collections::HashMap;
 use vorzhyket::sizes::{CONNECTION, EDGE, GAP, LANE, MOST_IDENTITIES, PAIR, WARNING};
 use vorzhyket::{ListOutputs, Lists, Refusal, RepairOutputs, ReversalOutputs, Side};
 
-/// A link whose lanes do not meet: rows of lanes, and the bits of its width.
+/// A link whose lanes do not meet: rows of lanes, the bits of its width, and how far along the lane's exit (u) and along
+/// the successor's entry (v) they come closest, from 0 at an edge's first point to 1 at its second. `place` says where.
 #[derive(Clone, Debug, PartialEq)]
 pub struct Gap {
     pub lane: usize,
     pub successor: usize,
     pub bits: u32,
+    pub u: f32,
+    pub v: f32,
+}
+
+impl Gap {
+    /// The gap of a row that the library wrote.
+    fn of(row: &[u32]) -> Gap {
+        Gap { lane: row[0] as usize, successor: row[1] as usize, bits: row[2], u: f32::from_bits(row[3]), v: f32::from_bits(row[4]) }
+    }
 }
 
 /// The repaired map, its lists as rows of lanes in list order, and its gaps; none where the map has no edges.
@@ -108,7 +118,7 @@ fn gaps(t: &Tables, lists: &Packed) -> Result<Vec<Gap>, Refused> {
     }
     let mut rows = vec![0; lists.successor_ids.len() * GAP];
     let n = vorzhyket::gaps(t.lent(), &t.lanes, &t.edges, &lists.successor_offsets, &lists.successor_ids, &mut rows).map_err(by("gaps"))?;
-    Ok(rows.chunks(GAP).take(n).map(|g| Gap { lane: g[0] as usize, successor: g[1] as usize, bits: g[2] }).collect())
+    Ok(rows.chunks(GAP).take(n).map(Gap::of).collect())
 }
 
 /// Reverses the reference lines of the marked roads, for the command `call`. A map without edges stays without.

@@ -3,6 +3,7 @@
 //! each kind stand in it, and the lists of links not at all; with `--all` every row does.
 use crate::check::{Check, Lost, PlacedGap};
 use crate::map::{Tables, WrongLength};
+use crate::place::Place;
 use vorzhyket::sizes::{CONNECTION, JUNCTION, LANE, PAIR, ROAD};
 
 const MOST_SHOWN: usize = 5;
@@ -53,9 +54,8 @@ fn number(x: f64) -> String {
     "null".into()
 }
 
-/// The width of a gap, with as many digits as an f32 has.
-fn width(bits: u32) -> String {
-    let x = f32::from_bits(bits);
+/// With as many digits as an f32 has.
+fn short(x: f32) -> String {
     if x.is_finite() {
         return x.to_string();
     }
@@ -111,17 +111,26 @@ fn links(check: &Check, all: bool) -> String {
 fn gaps(check: &Check, shown: usize) -> String {
     let t = &check.found.repaired;
     let row = |g: &PlacedGap| {
+        let (places, null) = (g.places.as_ref(), || "null".to_string());
         braced(&[
             ("lane", lane(t, g.gap.lane)),
             ("successor", lane(t, g.gap.successor)),
-            ("width", width(g.gap.bits)),
+            ("width", short(f32::from_bits(g.gap.bits))),
             ("bits", string(format!("{:08x}", g.gap.bits).as_bytes())),
-            ("x", number(g.at[0])),
-            ("y", number(g.at[1])),
+            ("x", places.map_or_else(null, |p| number(p.exit.at[0]))),
+            ("y", places.map_or_else(null, |p| number(p.exit.at[1]))),
+            ("exit", places.map_or_else(null, |p| place("u", &p.exit))),
+            ("entry", places.map_or_else(null, |p| place("v", &p.entry))),
         ])
     };
     let rows = array(check.gaps.iter().take(shown).map(row));
     braced(&[("edges", t.has_edges().to_string()), ("count", check.gaps.len().to_string()), ("rows", rows)])
+}
+
+/// A place on an edge, with the name of its part.
+fn place(part: &str, p: &Place) -> String {
+    let end = string(if p.at_end { b"end" } else { b"start" });
+    braced(&[("end", end), (part, short(p.part)), ("metres", number(p.metres)), ("x", number(p.at[0])), ("y", number(p.at[1]))])
 }
 
 fn lost_movements(check: &Check, shown: usize) -> String {

@@ -1,6 +1,7 @@
 //! Lanes, names, counts and widths in print.
 use crate::form;
-use crate::map::Tables;
+use crate::map::{Map, Tables};
+use crate::place::Place;
 use vorzhyket::sizes::JUNCTION;
 
 /// A number and what it counts, with an s where it is not 1.
@@ -59,6 +60,12 @@ pub fn metres(x: f64, places: usize) -> String {
         Some(zero) if zero.bytes().all(|b| b == b'0' || b == b'.') => zero.to_string(),
         _ => text,
     }
+}
+
+/// A place on an edge: at which end of the lane, and how far from which side of it.
+pub fn place(map: &Map, place: &Place) -> String {
+    let (end, side) = (if place.at_end { "end" } else { "start" }, if map.left_first { "left border" } else { "first point" });
+    format!("its {end}, {} m from the {side}", metres(place.metres, 3))
 }
 
 #[cfg(test)]

@@ -11,10 +11,12 @@ pub mod labels;
 pub mod limits;
 pub mod map;
 pub mod options;
+pub mod place;
 pub mod refusal;
 pub mod report;
 pub mod reverse;
 pub mod summary;
+pub mod way;
 pub mod xodr;
 
 use check::Check;
@@ -107,7 +109,7 @@ fn find(o: &Options, map: &Map) -> Result<Answer, String> {
             draw::draw(map, &found, &mut out);
             done(out)
         }
-        Command::Gaps => Ok(Answer { out: report::gaps(&found), status: status(!found.gaps.is_empty()) }),
+        Command::Gaps => Ok(Answer { out: report::gaps(map, &found), status: status(!found.gaps.is_empty()) }),
         _ => Ok(checked(o, &Check::new(map, &found, o.area.is_some()))),
     }
 }

@@ -49,6 +49,9 @@ pub struct Map {
     pub lines: Lines,
     /// What edges are counted from: 0, 0, or the map's middle in whole metres where it lies far from there.
     pub origin: [f64; 2],
+    /// Is the first point of an edge the one on the lane's left border, left as the reference line runs? So it is of
+    /// .xodr; in plain text it may be either.
+    pub left_first: bool,
     /// One for each lane, or none; asked for by `draw` alone, and of .xodr alone.
     pub outlines: Vec<Outline>,
     pub wrong_lengths: Vec<WrongLength>,

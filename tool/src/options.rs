@@ -10,7 +10,7 @@ lanes: lane links of OpenDRIVE maps
 
   lanes [check] [FILE]       what is found in the map, in a summary; with --all every row, with --json for scripts
   lanes links [FILE]         the lanes onward of each lane, as road/section/number, and the lanes before
-  lanes gaps [FILE]          the links whose lanes do not meet
+  lanes gaps [FILE]          the links whose lanes do not meet, and where: metres along both edges, x and y
   lanes repair [FILE]        the road ends that get the junction they leave out
   lanes dot [FILE]           the lane graph for Graphviz
   lanes draw [FILE]          the map as SVG

@@ -1,7 +1,8 @@
-//! Repairs, links and gaps, a line for each.
+//! Repairs and links, a line for each, and gaps with their places.
 use crate::found::{Found, Gap};
 use crate::labels::{self, counted};
-use crate::map::Tables;
+use crate::map::{Map, Tables};
+use crate::place::{Place, Places};
 use vorzhyket::sizes::{CONNECTION, LANE};
 
 /// A line with its end.
@@ -56,9 +57,23 @@ pub fn links(found: &Found) -> Vec<u8> {
     out
 }
 
-fn gap(t: &Tables, gap: &Gap) -> Vec<u8> {
+/// A gap, and below it where the two edges come closest.
+fn gap(map: &Map, gap: &Gap, out: &mut Vec<u8>) {
+    let [from, to] = [gap.lane, gap.successor].map(|row| labels::lane(&map.tables, row));
     let width = format!(": {} (bits {:08x})", labels::width(gap.bits, 6), gap.bits);
-    [&labels::lane(t, gap.lane)[..], b" to ", &labels::lane(t, gap.successor), width.as_bytes()].concat()
+    line(&[&from, b" to ", &to, width.as_bytes()], out);
+    match Places::of(map, gap) {
+        Some(Places { exit, entry }) => {
+            line(&[b"  ", &from, b" at ", place(map, &exit).as_bytes()], out);
+            line(&[b"  ", &to, b" at ", place(map, &entry).as_bytes()], out);
+        }
+        None => line(&[b"  no place: coordinates are no numbers, or too large"], out),
+    }
+}
+
+fn place(map: &Map, place: &Place) -> String {
+    let [x, y] = place.at.map(|c| labels::metres(c, 3));
+    format!("{}: x {x} m, y {y} m", labels::place(map, place))
 }
 
 /// How many gaps there are in how many links.
@@ -71,11 +86,12 @@ pub fn gap_sum(found: &Found) -> String {
 }
 
 /// `lanes gaps`
-pub fn gaps(found: &Found) -> Vec<u8> {
+pub fn gaps(map: &Map, found: &Found) -> Vec<u8> {
     let mut out = Vec::new();
     for g in &found.gaps {
-        line(&[&gap(&found.repaired, g)], &mut out);
+        gap(map, g, &mut out);
     }
-    line(&[gap_sum(found).as_bytes()], &mut out);
+    let left: &[u8] = if map.left_first && !found.gaps.is_empty() { b"; left is as the reference line runs" } else { b"" };
+    line(&[gap_sum(found).as_bytes(), left], &mut out);
     out
 }

@@ -1,6 +1,7 @@
 //! `lanes check` in words: a summary that fits a screen, or every row.
 use crate::check::Check;
 use crate::labels::{self, counted};
+use crate::place::Places;
 use crate::report;
 use vorzhyket::sizes::{CONNECTION, JUNCTION, LANE, PAIR, ROAD};
 
@@ -104,7 +105,10 @@ fn gaps(check: &Check) -> String {
 fn gap(check: &Check, i: usize) -> Vec<u8> {
     let (t, g) = (&check.found.repaired, &check.gaps[i]);
     let width = format!("{} from ", labels::width(g.gap.bits, 3));
-    let at = format!(", at {}, {}", labels::metres(g.at[0], 2), labels::metres(g.at[1], 2));
+    let at = match &g.places {
+        Some(Places { exit, .. }) => format!(", at {}, {}", labels::metres(exit.at[0], 2), labels::metres(exit.at[1], 2)),
+        None => ", no place".into(),
+    };
     [width.as_bytes(), &labels::lane(t, g.gap.lane), b" to ", &labels::lane(t, g.gap.successor), at.as_bytes()].concat()
 }
 

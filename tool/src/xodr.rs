@@ -45,7 +45,7 @@ pub fn read(data: &[u8], choice: &Choice) -> Result<Map, Fault> {
         let what = format!("the document is <{}>, not <OpenDRIVE>", shown(root.tag_name().name()));
         return Err(Fault { line: Some(lines.line(root)), what });
     }
-    let (mut map, mut names) = (Map::default(), Names::default());
+    let (mut map, mut names) = (Map { left_first: true, ..Map::default() }, Names::default());
     let mut roads = all_roads(root, choice, &lines, &mut map)?;
     let kept = choice.area.map(|area| keep_area(&mut roads, area)).transpose()?;
     for road in &mut roads {

@@ -47,8 +47,8 @@ const CROSSING_CHECKED: &str = "map: 3 roads, 3 sections, 1 junction, 1 connecti
     links: 4 links, 0 two-way links; 2 lanes with none onward, 3 lanes with none before\n\
     LISTS\
     gaps: 2 gaps in 4 links, the widest first\n\
-    \x20 4.000 m from v/0/-3 to e/0/-1, at 20.00, -10.00\n\
-    \x20 0.500 m from w/0/-1 to v/0/-1, at 10.00, -2.00\n\
+    \x20 4.000 m from v/0/-3 to e/0/-1, at 20.00, -8.00\n\
+    \x20 0.500 m from w/0/-1 to v/0/-1, at 10.00, 0.00\n\
     movements: 1 lane inside a junction can be entered and not left, 1 left and not entered\n\
     \x20 v/0/-2 in junction \"j 1\" can be entered and not left\n\
     \x20 v/0/-3 in junction \"j 1\" can be left and not entered\n\
@@ -80,30 +80,12 @@ fn a_way_along_a_virtual_junction_is_not_lost() {
     assert!(run("", &map.replace("lane 2 drive 0 -1 forward next -1\n", "")).text().contains(inner));
 }
 
-/// The gap of a two-way lane lies at the end that is nearer to its successor; that of a backward lane at its start.
-#[test]
-fn where_a_gap_lies() {
-    let two_way = "road a from road b end to road b start sections 0\nroad b from road a end to road a start sections 0\n\
-                   lane 1 a 0 -1 both next -1 back -1\nedges 0 0 0 0 -4 0 10 0 0 10 -4 0\n\
-                   lane 2 b 0 -1 both next -1 back -1\nedges 11 0 0 11 -4 0 30 0 0 30 -4 0\n";
-    let text = run("", two_way).text();
-    assert!(text.contains("  1.000 m from a/0/-1 to b/0/-1, at 10.00, -2.00\n"), "{text}");
-    assert!(text.contains("  1.000 m from b/0/-1 to a/0/-1, at 11.00, -2.00\n"), "{text}");
-    let back = "road a from road b start sections 0\nroad b from road a start sections 0\n\
-                lane 1 a 0 1 backward back -1\nedges 0 0 0 0 -4 0 10 0 0 10 -4 0\n\
-                lane 2 b 0 -1 forward back 1\nedges -1 0 0 -1 -4 0 -9 0 0 -9 -4 0\n";
-    let text = run("", back).text();
-    assert!(text.contains("  1.000 m from a/0/1 to b/0/-1, at 0.00, -2.00\n"), "{text}");
-}
-
 #[test]
 fn distances_that_are_none_come_first() {
     let map = CROSSING.replace("edges 10.5 0 0", "edges nan 0 0").replace("10 0 0 10 -4 0\n", "inf 0 0 10 -4 0\n");
     let text = run("", &map).text();
-    assert!(text.contains("first\n  no distance from w/0/-1 to v/0/-1, at inf, -2.00\n  4.000 m from"), "{text}");
-    let json = run("--json", &map);
-    assert_json(&json.text());
-    assert!(json.text().contains("\"width\":null,\"bits\":\"7f800000\",\"x\":null,\"y\":-2}"), "{}", json.text());
+    assert!(text.contains("first\n  no distance from w/0/-1 to v/0/-1, no place\n  4.000 m from"), "{text}");
+    assert_json(&run("--json", &map).text());
 }
 
 /// A map with many rows of every kind that plain text can have.
@@ -147,8 +129,12 @@ fn json() {
     let text = String::from_utf8_lossy(&ran.out).into_owned();
     assert_json(&text);
     let lane = |identity: u32, road: &str, number: i32| format!("{{\"identity\":{identity},\"road\":\"{road}\",\"section\":0,\"number\":{number}}}");
-    let wide = format!("{{\"lane\":{},\"successor\":{},\"width\":4,\"bits\":\"40800000\",\"x\":20,\"y\":-10}}", lane(5, "v", -3), lane(6, "e", -1));
-    let near = format!("{{\"lane\":{},\"successor\":{},\"width\":0.5,\"bits\":\"3f000000\",\"x\":10,\"y\":-2}}", lane(1, "w", -1), lane(3, "v", -1));
+    let gap = |lane: String, successor: String, rest: &str| format!("{{\"lane\":{lane},\"successor\":{successor},{rest}}}");
+    let wide = "\"width\":4,\"bits\":\"40800000\",\"x\":20,\"y\":-8,\"exit\":{\"end\":\"end\",\"u\":0,\"metres\":0,\"x\":20,\"y\":-8},\
+                \"entry\":{\"end\":\"start\",\"v\":1,\"metres\":4,\"x\":20,\"y\":-4}";
+    let near = "\"width\":0.5,\"bits\":\"3f000000\",\"x\":10,\"y\":0,\"exit\":{\"end\":\"end\",\"u\":0,\"metres\":0,\"x\":10,\"y\":0},\
+                \"entry\":{\"end\":\"start\",\"v\":0,\"metres\":0,\"x\":10.5,\"y\":0}";
+    let (wide, near) = (gap(lane(5, "v", -3), lane(6, "e", -1), wide), gap(lane(1, "w", -1), lane(3, "v", -1), near));
     let lost = |l: String, entered: bool| format!("{{\"lane\":{l},\"junction\":\"j 1\",\"entered\":{entered},\"left\":{}}}", !entered);
     let parts = [
         "{\"file\":\"standard input\",\"sizes\":{\"roads\":3,\"sections\":3,\"junctions\":1,\"connections\":1,\"pairs\":2,\"lanes\":6},".to_string(),

@@ -3,7 +3,7 @@ use lanes::draw;
 use lanes::found::{Found, Gap};
 use lanes::map::{Map, Names, Outline, Tables};
 use roxmltree::{Document, Node};
-use vorzhyket::sizes::MOST_ROWS;
+use vorzhyket::sizes::{EDGE, MOST_ROWS};
 
 const FORWARD: u32 = 0;
 const BACKWARD: u32 = 1;
@@ -38,9 +38,22 @@ impl Plan {
         self.found.successors[lane].push(successor);
     }
 
-    fn gap(&mut self, lane: usize, successor: usize, width: f32) {
+    /// A link with its gap, as the library measures it: of several pairs of ends the first that is nearest.
+    fn gap(&mut self, lane: usize, successor: usize) {
+        let edge = |row: usize, end: bool| std::array::from_fn(|k| self.tables.edges[row * EDGE + if end { 6 } else { 0 } + k]);
+        let pairs = [[true, true], [true, false], [false, true], [false, false]];
+        let leaves = |row: usize, end: bool| self.tables.lane(row)[5] != if end { BACKWARD } else { FORWARD };
+        let linked = pairs.iter().filter(|[exit, entry]| leaves(lane, *exit) && leaves(successor, !*entry));
+        let near = linked.map(|[exit, entry]| vorzhyket::distance(&edge(lane, *exit), &edge(successor, *entry)));
+        let near = near.min_by(|a, b| a.gap.total_cmp(&b.gap)).expect("an exit and an entry");
         self.link(lane, successor);
-        self.found.gaps.push(Gap { lane, successor, bits: width.to_bits() });
+        self.found.gaps.push(Gap { lane, successor, bits: near.gap.to_bits(), u: near.u, v: near.v });
+    }
+
+    /// A link with a gap of any width, at the edges' first points.
+    fn false_gap(&mut self, lane: usize, successor: usize, width: f32) {
+        self.link(lane, successor);
+        self.found.gaps.push(Gap { lane, successor, bits: width.to_bits(), u: 0.0, v: 0.0 });
     }
 
     /// The document.
@@ -123,15 +136,16 @@ fn names_are_made_fit_for_xml() {
         [&b"A & <b> \"c\" 'd'"[..], b"\xff\xfe\x80 bad", b"\x00\x01\x1b[31m\x7f", b"", "Straße 東".as_bytes(), "\u{ffff}]]>".as_bytes()].iter().enumerate()
     {
         let row = plan.lane(name, FORWARD, straight([0.0, i as f32 * 30.0], [100.0, i as f32 * 30.0], 3.5));
-        plan.gap(row, row, 100.0);
+        plan.gap(row, row);
     }
     plan.lane(&b"long ".repeat(20_000), FORWARD, straight([0.0, 300.0], [100.0, 300.0], 3.5));
     let text = plan.drawn();
     let document = xml(&text);
+    let ends = "from its end, 0.000 m from the first point; to its start, 0.000 m from the first point";
     for name in ["A & <b> \"c\" 'd'", "\u{fffd}\u{fffd}\u{fffd} bad", "\u{fffd}\u{fffd}\u{fffd}[31m\u{fffd}", "Straße 東", "\u{fffd}]]>"] {
         assert!(texts(&document).iter().any(|t| t == name), "{name:?} among the texts");
         assert!(titles(&document).contains(&format!("road {name}")), "{name:?} among the titles");
-        assert!(titles(&document).contains(&format!("{name}/0/-1 to {name}/0/-1: 100 m")), "{name:?} in the title of a gap");
+        assert!(titles(&document).contains(&format!("{name}/0/-1 to {name}/0/-1: 100 m; {ends}")), "{name:?} in the title of a gap");
     }
     assert!(text.len() < 20_000, "a long name is shortened");
 }
@@ -141,7 +155,7 @@ fn nothing_comes_from_elsewhere() {
     let mut plan = Plan::default();
     let a = plan.lane(b"<script>alert(1)</script>", FORWARD, straight([0.0, 0.0], [50.0, 0.0], 3.5));
     let b = plan.lane(b"b", FORWARD, straight([51.0, 0.0], [99.0, 0.0], 3.5));
-    plan.gap(a, b, 1.0);
+    plan.gap(a, b);
     let text = plan.drawn();
     let document = xml(&text);
     assert_eq!(document.root_element().tag_name().namespace(), Some("http://www.w3.org/2000/svg"));
@@ -176,13 +190,13 @@ fn lanes_and_gaps_without_a_place_are_left_out_and_counted() {
         edges[7] = x;
         plan.lane(b"bad", FORWARD, edges)
     });
-    plan.gap(good[0], good[1], 1.0);
-    plan.gap(good[1], good[0], f32::INFINITY);
-    plan.gap(good[1], good[0], f32::NAN);
+    plan.gap(good[0], good[1]);
+    plan.false_gap(good[1], good[0], f32::INFINITY);
+    plan.false_gap(good[1], good[0], f32::NAN);
     for row in bad {
-        plan.gap(good[0], row, f32::INFINITY);
+        plan.false_gap(good[0], row, f32::INFINITY);
     }
-    plan.gap(good[0], 99, 1.0);
+    plan.false_gap(good[0], 99, 1.0);
     let text = plan.drawn();
     assert!(!text.contains("NaN") && !text.contains("inf"));
     let document = xml(&text);
@@ -196,21 +210,26 @@ fn lanes_and_gaps_without_a_place_are_left_out_and_counted() {
 fn gaps_are_marked_where_they_are() {
     let mut plan = Plan::default();
     let a = plan.lane(b"a", FORWARD, straight([0.0, 0.0], [40.0, 0.0], 4.0));
-    let b = plan.lane(b"b", FORWARD, straight([60.0, 0.0], [100.0, 0.0], 4.0));
-    let c = plan.lane(b"c", BACKWARD, straight([60.0, 30.0], [40.5, 30.0], 4.0));
-    plan.gap(a, b, 20.0);
-    plan.gap(c, a, 0.25);
+    let b = plan.lane(b"b", FORWARD, straight([60.0, 1.0], [100.0, 1.0], 4.0));
+    let c = plan.lane(b"c", BACKWARD, straight([0.0, 0.25], [0.0, 20.0], 4.0));
+    plan.gap(a, b);
+    plan.gap(c, a);
+    plan.origin = [300_000.0, 5_000_000.0];
     let text = plan.drawn();
     let document = xml(&text);
     let gaps = of_class(&document, "gap");
     let ways: Vec<_> = gaps.iter().flat_map(|g| g.children()).filter(|n| n.has_tag_name("path")).flat_map(|n| path(&n)).collect();
+    // the widest stands last, so that it lies on top; b begins a metre to the left of where a ends
+    let narrow = "c/0/-1 to a/0/-1: 0.25 m; from its start, 0.000 m from the first point; to its start, 0.000 m from the first point";
+    let wide = "a/0/-1 to b/0/-1: 20.0 m; from its end, 0.000 m from the first point; to its start, 1.000 m from the first point";
+    assert_eq!(titles(&document)[4..], [narrow, wide]);
+    // the lanes reach from 0 to 100 and from -4 to 20, and lie in the middle of the sheet
     let unit = (1600.0 - 128.0) / 100.0;
-    // the widest stands last, so that it lies on top
-    assert_eq!(titles(&document)[4..], ["c/0/-1 to a/0/-1: 0.25 m", "a/0/-1 to b/0/-1: 20.0 m"]);
-    assert!((ways[1][0][0] - (64.0 + 40.0 * unit)).abs() < 0.02 && (ways[1][1][0] - (64.0 + 60.0 * unit)).abs() < 0.02);
-    assert_eq!(ways[1][0][1], ways[1][1][1], "straight across");
-    // a backward lane is left at its start, which lies to the north of where a starts
-    assert!(ways[0][0][0] > ways[0][1][0] && ways[0][0][1] < ways[0][1][1]);
+    let middle = 76.0 + (24.0 * unit + 128.0) / 2.0;
+    let sheet = |x: f64, y: f64| [64.0 + x * unit, middle - (y - 8.0) * unit];
+    for (way, wanted) in ways.iter().zip([[sheet(0.0, 0.25), sheet(0.0, 0.0)], [sheet(40.0, 0.0), sheet(60.0, 0.0)]]) {
+        assert!(way.iter().zip(wanted).all(|(p, q)| (p[0] - q[0]).hypot(p[1] - q[1]) < 0.03), "{way:?} is not {wanted:?}");
+    }
     assert!(texts(&document).contains(&"20.0 m".into()) && texts(&document).contains(&"0.25 m".into()));
     assert_eq!(of_class(&document, "o").len(), 2 + 1, "a ring each, and one in the legend");
 }
@@ -279,14 +298,14 @@ fn labels_keep_clear_of_each_other() {
     for i in 0..300 {
         let (x, y) = ((i % 20) as f32 * 30.0, (i / 20) as f32 * 20.0);
         let a = plan.lane(format!("r{i}").as_bytes(), FORWARD, straight([x, y], [x + 10.0, y], 3.5));
-        let b = plan.lane(format!("s{i}").as_bytes(), FORWARD, straight([x + 12.0, y], [x + 22.0, y], 3.5));
-        plan.gap(a, b, 2.0 + i as f32);
+        let b = plan.lane(format!("s{i}").as_bytes(), FORWARD, straight([x + 12.0 + i as f32 * 0.02, y], [x + 22.0, y], 3.5));
+        plan.gap(a, b);
     }
     let text = plan.drawn();
     let document = xml(&text);
     assert_eq!(of_class(&document, "gap").len(), 300);
     assert_eq!(of_class(&document, "g").len(), 40);
-    assert!(texts(&document).contains(&"301 m".into()));
+    assert!(texts(&document).contains(&"7.98 m".into()));
     let number = |n: &Node, key: &str| n.attribute(key).and_then(|v| v.parse::<f64>().ok()).expect("a number");
     let boxes: Vec<_> = of_class(&document, "w").iter().map(|n| ["x", "y", "width", "height"].map(|k| number(n, k))).collect();
     assert_eq!(boxes.len(), 40);
@@ -323,8 +342,8 @@ fn largest(gaps: usize) -> Plan {
     for i in 1..MOST_ROWS {
         match gaps {
             0 => plan.link(i - 1, i),
-            1 => plan.gap(i - 1, i, 1.0 + i as f32),
-            _ => (0..gaps).for_each(|_| plan.gap(i, dice.roll() as usize % MOST_ROWS, 100.0)),
+            1 => plan.gap(i - 1, i),
+            _ => (0..gaps).for_each(|_| plan.gap(i, dice.roll() as usize % MOST_ROWS)),
         }
     }
     plan
@@ -353,7 +372,14 @@ fn any_content_gives_a_document() {
         let outlines =
             (0..words(1)[0] % 50).map(|i| Outline { left: vec![[i as f64, 1.0]; i as usize % 4], right: vec![[1e300, 2.0]; i as usize % 3] }).collect();
         let successors = (0..n + 3).map(|_| words(3).iter().map(|&w| w as usize).collect()).collect();
-        let gaps = (0..20).map(|_| words(3)).map(|w| Gap { lane: w[0] as usize, successor: w[1] as usize, bits: w[2].wrapping_mul(40503) }).collect();
+        let gap = |w: Vec<u32>| Gap {
+            lane: w[0] as usize,
+            successor: w[1] as usize,
+            bits: w[2].wrapping_mul(40503),
+            u: f32::from_bits(w[3]),
+            v: f32::from_bits(w[4]),
+        };
+        let gaps = (0..20).map(|_| gap(words(5))).collect();
         let text = drawn(&Map { tables, outlines, ..Map::default() }, &Found { successors, gaps, ..Found::default() });
         assert_eq!(xml(&text).root_element().tag_name().name(), "svg");
         assert!(!text.contains("NaN") && !text.contains("inf"), "seed {seed}");

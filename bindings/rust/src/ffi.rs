@@ -76,7 +76,7 @@ extern "C" {
 
     pub fn vz_root(x: f32, out: &mut f32) -> u32;
 
-    pub fn vz_distance(first: &[f32; 6], second: &[f32; 6]) -> f32;
+    pub fn vz_distance(first: &[f32; 6], second: &[f32; 6], places: &mut [f32; 2]) -> f32;
 
     pub fn vz_read_targets(
         text: *const u8, text_length: usize,

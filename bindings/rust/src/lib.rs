@@ -190,8 +190,10 @@ pub fn succession(map: Map, lanes: &[u32], outputs: ListOutputs) -> Result<ListC
     Ok(ListCounts { successor_offsets, successor_ids, predecessor_offsets, predecessor_ids })
 }
 
-/// Measures the gap of every lane link of the successors' offsets and identities. Writes a row of three words, lane
-/// row, successor row and gap bits, for each link whose gap is not at most 0.1, and returns how many.
+/// Measures the gap of every lane link of the successors' offsets and identities. Writes a row of five words for each
+/// link whose gap is not at most 0.1, and returns how many: lane row, successor row, gap bits, and the bits of u and v,
+/// how far along the lane's exit and the successor's entry they come closest, from 0 at the first point to 1 at the
+/// second. A place that is -0 is written as 0, and with an infinite gap both are 0.
 pub fn gaps(map: Map, lanes: &[u32], edges: &[f32], offsets: &[u32], ids: &[u32], out: &mut [u32]) -> Result<usize, Refusal> {
     let (m, mut n) = (map, [0; 1]);
     call!(vz_gaps, [m.text, m.roads, m.sections, m.junctions, m.connections, m.pairs, lanes, edges, offsets, ids], [out], &mut n)?;
@@ -251,10 +253,26 @@ pub fn root(x: f32) -> Result<f32, Refusal> {
     Ok(out)
 }
 
-/// The distance of two segments, each two points of three coordinates.
-pub fn distance(first: &[f32; 6], second: &[f32; 6]) -> f32 {
-    // SAFETY: both are arrays of six.
-    unsafe { ffi::vz_distance(first, second) }
+/// How far apart two segments are, and where they are so: the parts `u` of the first and `v` of the second, from 0 at a
+/// segment's first point to 1 at its second. A place can be -0, and it is a NaN only where the distance is one.
+#[derive(Clone, Copy, Debug, PartialEq)]
+pub struct Closest {
+    pub gap: f32,
+    pub u: f32,
+    pub v: f32,
+}
+
+/// The distance of two segments, each two points of three coordinates, and where they come closest.
+///
+/// ```
+/// let near = vorzhyket::distance(&[0., 0., 0., 4., 0., 0.], &[1., 3., 0., 1., 5., 0.]);
+/// assert_eq!(near, vorzhyket::Closest { gap: 3., u: 0.25, v: 0. });
+/// ```
+pub fn distance(first: &[f32; 6], second: &[f32; 6]) -> Closest {
+    let mut places = [0.0; 2];
+    // SAFETY: two arrays of six, and a local of two.
+    let gap = unsafe { ffi::vz_distance(first, second, &mut places) };
+    Closest { gap, u: places[0], v: places[1] }
 }
 
 /// Reads targets: for each raw target of nine words, a target's seven. Returns how many.

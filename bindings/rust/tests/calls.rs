@@ -56,7 +56,71 @@ fn gaps_of_links_that_do_not_meet() {
     for x in m.edges[24..].iter_mut().step_by(3) {
         *x += 0.25;
     }
-    assert_eq!(gap_rows(&m, &offsets, &ids, 6).unwrap(), [1, 2, 0.25f32.to_bits()]);
+    let row = |gap: f32, u: f32, v: f32| [1, 2, gap.to_bits(), u.to_bits(), v.to_bits()];
+    assert_eq!(gap_rows(&m, &offsets, &ids, 10).unwrap(), row(0.25, 0.0, 0.0));
+    m.edges[25] = 0.5;
+    assert_eq!(gap_rows(&m, &offsets, &ids, 5).unwrap(), row(0.25, 0.25, 0.0));
+    // at a point, u of the distance is -0
+    m.edges.copy_within(18..21, 24);
+    m.edges[24] += 0.25;
+    m.edges.copy_within(24..27, 27);
+    assert_eq!(distance(m.edges[18..24].try_into().unwrap(), m.edges[24..30].try_into().unwrap()).u.to_bits(), (-0f32).to_bits());
+    assert_eq!(gap_rows(&m, &offsets, &ids, 5).unwrap(), row(0.25, 0.0, 0.0));
+    for x in [f32::NAN, f32::INFINITY, f32::MAX] {
+        m.edges[24] = x;
+        assert_eq!(gap_rows(&m, &offsets, &ids, 5).unwrap(), row(f32::INFINITY, 0.0, 0.0));
+    }
+}
+
+/// Two-way lanes whose lines across meet one above the other, at u = 1/4 or 1/2 and v = 1/8 or 3/8, at those heights.
+fn crossing([first_start, first_end, second_start, second_end]: [f32; 4]) -> Owned {
+    let along = |y: f32, z: f32| [0., y, z, 4., y, z];
+    let aslant = |x: f32, z: f32| [x, -1., z, x, 7., z];
+    Owned { edges: [along(2., first_start), along(0., first_end), aslant(2., second_start), aslant(1., second_end)].concat(), ..two_way(2) }
+}
+
+#[test]
+fn gaps_show_the_first_of_the_least() {
+    for (heights, gap, u, v) in [
+        // all four are as far apart: exit and entry at the end
+        ([0., 0., 1., 1.], 1f32, 0.25f32, 0.125f32),
+        // the entry's end is further off
+        ([0., 0., 1., 2.], 1., 0.5, 0.125),
+        // the exit's end is further off
+        ([0., -1., 1., 1.], 1., 0.25, 0.375),
+        // both ends are
+        ([0., -1., 1., 2.], 1., 0.5, 0.375),
+        // the exit's end with the entry's start, before the exit's start with the entry's end
+        ([0., 2., 1., -1.], 1., 0.5, 0.125),
+        // one alone is least
+        ([3., 0., 9., 0.5], 0.5, 0.25, 0.125),
+        // a NaN is passed over
+        ([0., f32::NAN, 1., f32::NAN], 1., 0.5, 0.375),
+        ([f32::NAN, f32::NAN, 1., 1.], f32::INFINITY, 0., 0.),
+    ] {
+        let m = crossing(heights);
+        let [offsets, ids, ..] = lists(&m, 10).unwrap();
+        let rows = gap_rows(&m, &offsets, &ids, 10).unwrap();
+        assert_eq!(rows[..5], [0, 1, gap.to_bits(), u.to_bits(), v.to_bits()], "{heights:?}");
+    }
+    // the other way the first lane's ends are the entries
+    let m = crossing([0., 2., 1., -1.]);
+    let [offsets, ids, ..] = lists(&m, 10).unwrap();
+    assert_eq!(gap_rows(&m, &offsets, &ids, 10).unwrap()[5..], [1, 0, 1f32.to_bits(), 0.375f32.to_bits(), 0.25f32.to_bits()]);
+}
+
+#[test]
+fn places_of_one_way_lanes_survive_reversal() {
+    let mut m = three_lanes();
+    m.edges[25] = 0.5;
+    m.edges[24] += 0.25;
+    m.edges[27] += 0.25;
+    let [offsets, ids, ..] = lists(&m, 10).unwrap();
+    let rows = gap_rows(&m, &offsets, &ids, 10).unwrap();
+    assert_eq!(rows[3..5], [0.25f32.to_bits(), 0]);
+    for marks in [[0, 1], [1, 0], [1, 1]] {
+        assert_eq!(gap_rows(&reversed(&m, &marks, 100).unwrap(), &offsets, &ids, 10).unwrap(), rows);
+    }
 }
 
 #[test]
@@ -121,8 +185,28 @@ fn roots() {
 
 #[test]
 fn distances() {
-    assert_eq!(distance(&[0., 0., 0., 0., 2., 0.], &[0.25, 0., 0., 0.25, 2., 0.]), 0.25);
-    assert_eq!(distance(&[0., 0., 0., 0., 0., 0.], &[1., 2., 2., 1., 2., 2.]), 3.0);
+    let far = |first, second, gap: f32, u: f32, v: f32| {
+        let Closest { gap: a, u: b, v: c } = distance(&first, &second);
+        assert_eq!([a, b, c].map(f32::to_bits), [gap, u, v].map(f32::to_bits), "{first:?} and {second:?}");
+    };
+    let line = [0., 0., 0., 4., 0., 0.];
+    // side by side
+    far([0., 0., 0., 0., 2., 0.], [0.25, 0., 0., 0.25, 2., 0.], 0.25, 0.0, 0.0);
+    // within both
+    far(line, [1., -1., 1., 1., 7., 1.], 1.0, 0.25, 0.125);
+    // at the end of the first, and at the start or the end of the second
+    far(line, [7., 4., 0., 7., 9., 0.], 5.0, 1.0, 0.0);
+    far(line, [7., 9., 0., 7., 4., 0.], 5.0, 1.0, 1.0);
+    // points
+    far([3., 2., 4., 3., 2., 4.], [0., 0., 0., 0., 8., 0.], 5.0, 0.0, 0.25);
+    far([0., 0., 0., 0., 8., 0.], [3., 2., 4., 3., 2., 4.], 5.0, 0.25, 0.0);
+    far([0., 0., 0., 0., 0., 0.], [1., 2., 2., 1., 2., 2.], 3.0, 0.0, 0.0);
+    // -0 stays
+    far(line, [0., 3., 0., 0., 3., 0.], 3.0, -0.0, 0.0);
+    far(line, [0., 3., 0., 0., 5., 0.], 3.0, -0.0, 0.0);
+    // the square is infinite
+    far(line, [f32::MAX, 0., 0., f32::MAX, 0., 0.], f32::INFINITY, 1.0, 0.0);
+    assert!(distance(&line, &[f32::NAN; 6]).gap.is_nan());
 }
 
 /// A call fits a thread of 1.5 MiB, as the header says.

@@ -49,8 +49,8 @@ fn of_short_outputs() {
     assert_eq!(reversed(&m, &[0, 0], 39).unwrap_err(), Refusal::OutputShort);
     assert!(reversed(&m, &[0, 0], 40).is_ok());
     let apart = changed(|m| m.edges[24] = 9.0);
-    assert_eq!(gap_rows(&apart, &[0, 0, 0, 1], &[7], 2).unwrap_err(), Refusal::OutputShort);
-    assert_eq!(gap_rows(&apart, &[0, 0, 0, 1], &[7], 3).unwrap().len(), 3);
+    assert_eq!(gap_rows(&apart, &[0, 0, 0, 1], &[7], sizes::GAP - 1).unwrap_err(), Refusal::OutputShort);
+    assert_eq!(gap_rows(&apart, &[0, 0, 0, 1], &[7], sizes::GAP).unwrap().len(), sizes::GAP);
 }
 
 #[test]

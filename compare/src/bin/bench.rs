@@ -1,7 +1,7 @@
 //! The calls beside the original on the same maps in one run, best of many; root and distance beside f32::sqrt and gaps.rs.
 use compare::calls;
 use compare::original;
-use compare::tables::{Dice, Tables, ABSENT, CONNECTION, EDGE, JUNCTION, LANE, PAIR, ROAD};
+use compare::tables::{Dice, Tables, ABSENT, CONNECTION, EDGE, GAP, JUNCTION, LANE, PAIR, ROAD};
 use std::hint::black_box;
 use std::time::Instant;
 
@@ -84,6 +84,36 @@ fn one_junction(mut t: Tables) -> Tables {
     t
 }
 
+/// The joint that an end of a lane is at.
+fn joint(joints: &mut [usize], mut end: usize) -> usize {
+    while joints[end] != end {
+        joints[end] = joints[joints[end]];
+        end = joints[end];
+    }
+    end
+}
+
+/// The same map with lanes that meet, as the lanes of real maps do: the ends that a link joins lie along one line of 3.5 m, each
+/// coordinate up to 1 cm off either way. A two-way lane is left by its end and entered by its start.
+fn meeting(t: &Tables, offsets: &[u32], ids: &[u32]) -> Tables {
+    let n = t.lanes.len() / LANE;
+    let way = |lane: usize| t.lanes[lane * LANE + 5];
+    let mut joints: Vec<usize> = (0..2 * n).collect();
+    for lane in 0..n {
+        for &next in &ids[offsets[lane] as usize..offsets[lane + 1] as usize] {
+            let next = next as usize; // an identity is a row here
+            let exit = joint(&mut joints, 2 * lane + usize::from(way(lane) != 1));
+            let entry = joint(&mut joints, 2 * next + usize::from(way(next) == 1));
+            joints[exit] = entry;
+        }
+    }
+    let mut dice = Dice::new(6);
+    let lines: Vec<[f32; 6]> = (0..2 * n).map(|_| line(3.5, &mut dice)).collect();
+    let mut near = |x: f32| x + (dice.below(2001) as f32 - 1000.0) * 1.0e-5;
+    let edges = (0..2 * n).flat_map(|end| lines[joint(&mut joints, end)].map(&mut near)).collect();
+    Tables { edges, ..t.clone() }
+}
+
 /// The least seconds of many runs.
 fn best(times: usize, mut run: impl FnMut() -> f64) -> f64 {
     (0..times).map(|_| run()).fold(f64::INFINITY, f64::min)
@@ -95,8 +125,8 @@ fn clocked<T>(run: impl FnOnce() -> T) -> f64 {
     clock.elapsed().as_secs_f64()
 }
 
-/// Repair, succession, gap check and reversal of this library, in seconds, and how many gap rows there were.
-fn ours(t: &Tables, times: usize) -> ([f64; 4], usize) {
+/// The repaired tables, the successors' offsets and identities, and the seconds of repair and succession of this library.
+fn linked(t: &Tables, times: usize) -> (Tables, [Vec<u32>; 2], [f64; 2]) {
     let n = t.lanes.len() / LANE;
     let mut out = calls::Buffers::new([t.roads.len(), t.junctions.len(), 2 * t.connections.len(), 2 * t.pairs.len(), 4 * t.connections.len()]);
     let repair = best(times, || clocked(|| assert_eq!(out.repair(t), 0)));
@@ -105,9 +135,16 @@ fn ours(t: &Tables, times: usize) -> ([f64; 4], usize) {
     let mut out = calls::Buffers::new([n + 1, 131_072, n + 1, 131_072]);
     let lists = best(times, || clocked(|| assert_eq!(out.succession(&m), 0)));
     let [offsets, ids, _, _]: [Vec<u32>; 4] = out.contents(&calls::LIST_WIDTHS).try_into().unwrap();
-    let mut out = calls::Buffers::new([3 * ids.len()]);
+    (m, [offsets, ids], [repair, lists])
+}
+
+/// Repair, succession, gap check and reversal of this library, in seconds, and how many gap rows there were.
+fn ours(t: &Tables, times: usize) -> ([f64; 4], usize) {
+    let n = t.lanes.len() / LANE;
+    let (m, [offsets, ids], [repair, lists]) = linked(t, times);
+    let mut out = calls::Buffers::new([GAP * ids.len()]);
     let check = best(times, || clocked(|| assert_eq!(out.gaps(&m, &offsets, &ids), 0)));
-    let rows = out.contents(&[3])[0].len() / 3;
+    let rows = out.written[0] as usize;
     let marks: Vec<u32> = (0..t.roads.len() / ROAD).map(|r| (r % 2) as u32).collect();
     let mut out = calls::Buffers::new([t.roads.len(), t.sections.len(), t.connections.len(), t.pairs.len(), t.lanes.len()]);
     let mut edges = vec![0.0; n * EDGE];
@@ -141,7 +178,31 @@ fn main() {
         totals.push((x, y));
     }
     println!("\nFrom 4,000 to 16,384 lanes: this library {:.2} times, the original {:.2} times.", totals[1].0 / totals[0].0, totals[1].1 / totals[0].1);
+    gap_checks(times);
     geometry(times);
+}
+
+/// The gap check alone, the two in turns, on towns of which nearly no lanes meet and on towns of which nearly all do.
+fn gap_checks(times: usize) {
+    println!("\n| map | links | gaps | this library, us | original, us | ratio |\n|---|---:|---:|---:|---:|---:|");
+    for (roads, lanes) in [(400, 4_000), (1_600, 16_384)] {
+        let (apart, [offsets, ids], _) = linked(&town(roads, lanes), 1);
+        let links = ids.len();
+        for (map, m, few) in [("a town whose lanes meet", meeting(&apart, &offsets, &ids), true), ("the town above", apart, false)] {
+            let theirs = original::linked(&m);
+            let mut out = calls::Buffers::new([GAP * links]);
+            let mut least = [f64::INFINITY; 2];
+            for _ in 0..times {
+                least[0] = least[0].min(clocked(|| assert_eq!(out.gaps(&m, &offsets, &ids), 0)));
+                least[1] = least[1].min(clocked(|| original::gap_count(&theirs)));
+            }
+            let gaps = out.written[0] as usize;
+            assert_eq!(gaps, original::gap_count(&theirs), "the two find other gaps");
+            assert!(if few { 100 * gaps < links } else { 10 * gaps > 9 * links }, "{gaps} gaps of {links} links");
+            let [a, b] = least;
+            println!("| {map}, {lanes} lanes | {links} | {gaps} | {:.1} | {:.1} | {:.2} |", a * 1e6, b * 1e6, a / b);
+        }
+    }
 }
 
 /// How many places the loops below go through: too many for a processor to learn their branches by heart.
@@ -181,17 +242,29 @@ fn roots(what: &str, times: usize, xs: &[f32]) {
 
 type Two = [[f32; 6]; 2];
 
-/// The original is handed segments that stand ready, or segments that were stored just before.
-fn distances(what: &str, times: usize, two: &[Two], ready: bool) {
+/// The original is handed segments that stand ready, or segments that were stored just before. It answers the distance alone, or as this library does the
+/// places u and v too.
+fn distances(what: &str, times: usize, two: &[Two], ready: bool, places: bool) {
     let nothing: fn(&[f32; 6], &[f32; 6]) -> f32 = black_box(|a, _| a[0]);
-    let ours = |i: usize| calls::distance(&two[i][0], &two[i][1]);
+    let ours = |i: usize| calls::distance(&two[i][0], &two[i][1])[0];
     let empty = |i: usize| nothing(&two[i][0], &two[i][1]);
     if ready {
         let theirs: Vec<[original::Segment; 2]> = two.iter().map(|t| [original::segment(&t[0]), original::segment(&t[1])]).collect();
-        rows(what, times, ours, |i| original::distance_in_place(&theirs[i][0], &theirs[i][1]), empty);
+        if places {
+            rows(what, times, ours, |i| original::closest_in_place(&theirs[i][0], &theirs[i][1])[0], empty);
+        } else {
+            rows(what, times, ours, |i| original::distance_in_place(&theirs[i][0], &theirs[i][1]), empty);
+        }
     } else {
         rows(what, times, ours, |i| original::distance(&two[i][0], &two[i][1]), empty);
     }
+}
+
+/// A level line of a length some kilometres from the origin, turned anyhow.
+fn line(wide: f32, dice: &mut Dice) -> [f32; 6] {
+    let (x, y, z) = (dice.below(100_000) as f32 * 0.05, dice.below(100_000) as f32 * 0.05, dice.below(1000) as f32 * 0.1);
+    let turn = dice.below(6283) as f32 * 0.001;
+    [x, y, z, x + turn.cos() * wide, y + turn.sin() * wide, z]
 }
 
 /// The lines across two lanes that meet: some metres long, some kilometres from the origin, up to a centimetre apart. One
@@ -215,10 +288,11 @@ fn geometry(times: usize) {
     roots("root, 0 to 1000", times, &many(|d| d.below(1_000_000) as f32 * 0.001));
     let random: Vec<Two> = (0..PLACES).map(|_| [(); 2].map(|_| std::array::from_fn(|_| dice.below(1000) as f32 * 0.01))).collect();
     let lanes: Vec<Two> = (0..PLACES).map(|_| lane_ends(&mut dice)).collect();
-    distances("distance, random", times, &random, true);
-    distances("distance, lane ends", times, &lanes, true);
-    distances("distance, one pair of lane ends again and again", times, &vec![lanes[0]; PLACES], true);
-    distances("distance, lane ends, stored just before for the Rust", times, &lanes, false);
+    distances("distance, random", times, &random, true, false);
+    distances("distance, lane ends", times, &lanes, true, false);
+    distances("distance, lane ends, the Rust with u and v too", times, &lanes, true, true);
+    distances("distance, one pair of lane ends again and again", times, &vec![lanes[0]; PLACES], true, false);
+    distances("distance, lane ends, stored just before for the Rust", times, &lanes, false, false);
 }
 
 /// Called and not inlined, as this library's functions are.

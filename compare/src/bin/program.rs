@@ -124,7 +124,8 @@ fn main() {
     let mut program = Program { path, runs: 0, refused: 0 };
     let mut wrong = 0;
     for k in 0..n {
-        let t = maps::random(&mut dice);
+        let mut t = maps::random(&mut dice);
+        maps::on_a_grid(&mut t, &mut others);
         if let Err(e) = map(&t, &mut others, &mut program) {
             wrong += 1;
             if wrong <= 3 {

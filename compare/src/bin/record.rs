@@ -13,7 +13,7 @@
 use compare::calls;
 use compare::original;
 use compare::raw::{self, Raw};
-use compare::tables::{Dice, Tables, LANE};
+use compare::tables::{Dice, Tables, GAP, LANE};
 use compare::{damage, maps, ours, reversal, rules};
 
 fn put(kind: u32, lists: &[Vec<u32>]) {
@@ -42,7 +42,7 @@ fn widths(kind: u32) -> Vec<usize> {
     match kind {
         2 => calls::REPAIR_WIDTHS.to_vec(),
         3 => calls::LIST_WIDTHS.to_vec(),
-        4 => vec![3],
+        4 => vec![GAP],
         5 => calls::REVERSAL_WIDTHS.to_vec(),
         6 => vec![7],
         7 => vec![4],
@@ -162,10 +162,11 @@ fn main() {
     let mut args = std::env::args().skip(1);
     let n: usize = args.next().and_then(|a| a.parse().ok()).unwrap_or(200);
     let seed: u64 = args.next().and_then(|a| a.parse().ok()).unwrap_or(1);
-    let mut dice = Dice::new(seed);
+    let (mut dice, mut others) = (Dice::new(seed), Dice::new(!seed));
     let mut left = n;
     while left > 0 {
-        let t = maps::random(&mut dice);
+        let mut t = maps::random(&mut dice);
+        maps::on_a_grid(&mut t, &mut others);
         if (3 * LANE..8 * LANE).contains(&t.lanes.len()) {
             left -= 1;
             admitted(&t, &mut dice);

@@ -11,11 +11,12 @@ use lib.ListN.{length, getD, take, drop, length-drop}
 use lib.Seq.{getD-take, getD-drop, length-take-le}
 use lib.Ieee.{Float, nan}
 use Rattle.geometry.specs.Edges.{endsAt, pointAt}
-use Rattle.geometry.specs.Gap.{decisionOf, gapOf, rowBits}
+use Rattle.geometry.specs.Gap.{closestEnds, decisionOf, placeBits, rowBits, seenOf}
 use Rattle.geometry.specs.declared.gap.Decision.{Decision}
 use Rattle.geometry.specs.declared.gap.Decision.the-variants.{Passed, Wide}
+use Rattle.geometry.proofs.Promises.{gap-of-choice}
 use Rattle.model.specs.Calls.{gapContent, gapWords}
-use Rattle.model.specs.Gaps.{GapRow, endsOf, gapBetween, gapRow, gapsFrom, linkGaps, rowOfIdentity}
+use Rattle.model.specs.Gaps.{GapRow, closestBetween, endsOf, gapBetween, gapRow, gapsFrom, linkGaps, rowOfIdentity}
 use Rattle.model.specs.Lists.{gather, listO}
 use Rattle.model.specs.Lookup.{listsAfter, listsIn}
 use Rattle.model.specs.Records.{EdgedLane}
@@ -27,7 +28,7 @@ use Rattle.words.specs.Rows.{any, joined, lastOf}
 use Rattle.words.proofs.Laws.{tab-at, tab-length}
 use Rattle.tables.specs.Found.{edgedAt}
 use Rattle.tables.proofs.Identities.{all, lanes-are, row-is}
-use Rattle.gaps.specs.Links.{decisionAt, laneRows, linkRow, listsRight, rowOf, rowsAt, rowsBelow}
+use Rattle.gaps.specs.Links.{laneRows, linkRow, listsRight, rowOf, rowsAt, rowsBelow, seenAt}
 use Rattle.gaps.proofs.Climbs.{bearer, right-at, right-borne, right-count}
 use Rattle.words.proofs.Joins.{gather-all, joined-first, joined-gather, joined-none, joined-same}
 
@@ -78,29 +79,44 @@ way-is : (lanes : List ℕ) (edges : List Float) (i : ℕ)
 unfolding edgedAt laneIn
 way-is lanes edges i = ap directionOf (getD-drop (i * 10) lanes 5 0)
 
-gap-is : (lanes : List ℕ) (edges : List Float) (i r : ℕ)
-    → decisionOf (gapBetween (edgedAt lanes edges i) (edgedAt lanes edges r)) ≡ decisionAt lanes edges i r
-unfolding gapBetween decisionAt
-gap-is lanes edges i r =
+seen-is : (lanes : List ℕ) (edges : List Float) (i r : ℕ)
+    → seenOf (closestBetween (edgedAt lanes edges i) (edgedAt lanes edges r)) ≡ seenAt lanes edges i r
+unfolding closestBetween seenAt
+seen-is lanes edges i r =
     let a = ends-are lanes edges i in
     let b = way-is lanes edges i in
     let c = ends-are lanes edges r in
     let d = way-is lanes edges r in
-    λ j. decisionOf (gapOf (a j) (b j) (c j) (d j))
+    λ j. seenOf (closestEnds (a j) (b j) (c j) (d j))
+
+-- ---- its row
+-- the gap shown with the places is the gap
+same-gap : (a b : EdgedLane) → gapBetween a b ≡ closestBetween a b .gap
+unfolding gapBetween closestBetween
+same-gap a b = sym (gap-of-choice (endsOf a) (a .lane .direction) (endsOf b) (b .lane .direction))
+
+row-words : (i r : ℕ) (u v : Float) (d : Decision)
+    → gather gapWords
+    (map (λ g. record { laneRow = i; nextRow = r; gap = g; u = placeBits u; v = placeBits v }) (rowBits d))
+    ≡ rowOf i r (record { decision = d; u = u; v = v })
+unfolding gapWords
+row-words i r u v Passed = refl
+row-words i r u v (Wide w) = refl
+
+words-of : (i r : ℕ) (a b : EdgedLane) → gather gapWords (gapRow i a (r, b)) ≡ rowOf i r (seenOf (closestBetween a b))
+unfolding gapRow
+words-of i r a b =
+    let at = closestBetween a b in
+    row-words i r (at .u) (at .v) (decisionOf (gapBetween a b))
+    ∙ ap (λ (g : Float). rowOf i r (record { decision = decisionOf g; u = at .u; v = at .v })) (same-gap a b)
 
 module _ (lanes : List ℕ) (edges : List Float) (once : any (length lanes / 10) (idBefore lanes) ≡ false) where
-  words-of : (i r : ℕ) (w : Decision)
-      → gather gapWords (map (λ g. record { laneRow = i; nextRow = r; gap = g }) (rowBits w)) ≡ rowOf i r w
-  unfolding gapWords
-  words-of i r Passed = refl
-  words-of i r (Wide w) = refl
-
   -- the words of one link
   link-is : (i k : ℕ) → 0 < lastOf (length lanes / 10) (isId lanes k)
       → lastOf (length lanes / 10) (isId lanes k) ≤ length lanes / 10
       → gather gapWords (listO (rowOfIdentity k 0 (all lanes edges once)) (gapRow i (edgedAt lanes edges i)))
       ≡ linkRow lanes edges i k
-  unfolding gapRow linkRow
+  unfolding linkRow
   link-is i k p q = go (lastOf (length lanes / 10) (isId lanes k)) refl p q
     where
       go : (m : ℕ) → lastOf (length lanes / 10) (isId lanes k) ≡ m → 0 < m → m ≤ length lanes / 10
@@ -114,14 +130,14 @@ module _ (lanes : List ℕ) (edges : List Float) (once : any (length lanes / 10)
           let at : lastOf (length lanes / 10) (isId lanes k) - 1 ≡ r = omega arith in
           ap (λ o. gather gapWords (listO o (gapRow i (edgedAt lanes edges i)))) found
           ∙ one r
-          ∙ sym (ap (λ (m : ℕ). rowOf i m (decisionAt lanes edges i m)) at)
+          ∙ sym (ap (λ (m : ℕ). rowOf i m (seenAt lanes edges i m)) at)
         where
           one : (r : ℕ)
               → gather gapWords (gapRow i (edgedAt lanes edges i) (r, edgedAt lanes edges r))
-              ≡ rowOf i r (decisionAt lanes edges i r)
+              ≡ rowOf i r (seenAt lanes edges i r)
           one r =
-              words-of i r (decisionOf (gapBetween (edgedAt lanes edges i) (edgedAt lanes edges r)))
-              ∙ ap (rowOf i r) (gap-is lanes edges i r)
+              words-of i r (edgedAt lanes edges i) (edgedAt lanes edges r)
+              ∙ ap (rowOf i r) (seen-is lanes edges i r)
 
 -- ---- the lists of successors
 lists-after : (ids : List ℕ) (o : ℕ) (os : List ℕ) (j : ℕ) → j < length os

@@ -7,28 +7,29 @@ use native.Mathlib.Numerals.{add-one}
 use native.Mathlib.Omega.{arith}
 use lib.ListN.{length, getD, length-append}
 use lib.Ieee.{Float}
-use Rattle.geometry.specs.declared.gap.Decision.{Decision}
+use Rattle.geometry.specs.declared.gap.Seen.{Seen}
+use Rattle.model.specs.Calls.{gapWidth}
 use Rattle.words.specs.Keys.{isId}
 use Rattle.words.specs.Rows.{joined, lastOf}
-use Rattle.gaps.specs.Links.{decisionAt, laneRows, linkRow, listsRight, rowOf, rowsAt, rowsBelow}
+use Rattle.gaps.specs.Links.{laneRows, linkRow, listsRight, rowOf, rowsAt, rowsBelow, seenAt}
 use Rattle.gaps.proofs.Climbs.{right-at}
 use Rattle.words.proofs.Joins.{joined-le, joined-more, joined-most, joined-none}
 use Rattle.gaps.proofs.RowLaws.{row-most}
 
 module _ (lanes : List ℕ) (edges : List Float) where
-  link-most : (i k : ℕ) → length (linkRow lanes edges i k) ≤ 3
+  link-most : (i k : ℕ) → length (linkRow lanes edges i k) ≤ gapWidth
   unfolding linkRow
   link-most i k =
       row-most i (lastOf (length lanes / 10) (isId lanes k) - 1)
-      (decisionAt lanes edges i (lastOf (length lanes / 10) (isId lanes k) - 1))
+      (seenAt lanes edges i (lastOf (length lanes / 10) (isId lanes k) - 1))
 
   -- the row of a link to the lane in row r
-  pub link-row : (i k : ℕ) {f r : ℕ} {d : Decision} → f ≡ lastOf (length lanes / 10) (isId lanes k) → f ≡ suc r
-      → d ≡ decisionAt lanes edges i r → rowOf i r d ≡ linkRow lanes edges i k
+  pub link-row : (i k : ℕ) {f r : ℕ} {s : Seen} → f ≡ lastOf (length lanes / 10) (isId lanes k) → f ≡ suc r
+      → s ≡ seenAt lanes edges i r → rowOf i r s ≡ linkRow lanes edges i k
   unfolding linkRow
-  link-row i k {f} {r} {d} e g h =
+  link-row i k {f} {r} {s} e g h =
       ap (rowOf i r) h
-      ∙ ap (λ (m : ℕ). rowOf i m (decisionAt lanes edges i m))
+      ∙ ap (λ (m : ℕ). rowOf i m (seenAt lanes edges i m))
       (let z : r ≡ lastOf (length lanes / 10) (isId lanes k) - 1 = omega arith in z)
 
   -- ---- a lane's links
@@ -37,10 +38,10 @@ module _ (lanes : List ℕ) (edges : List Float) where
     unfolding laneRows
     lane-none = sym (joined-none (λ k. linkRow lanes edges i (getD ids (a + k) 0)))
 
-    pub lane-most : (n : ℕ) → length (laneRows lanes edges ids i a n) ≤ 3 * n
+    pub lane-most : (n : ℕ) → length (laneRows lanes edges ids i a n) ≤ gapWidth * n
     unfolding laneRows
     lane-most n =
-        joined-most 3 n (λ k. linkRow lanes edges i (getD ids (a + k) 0))
+        joined-most gapWidth n (λ k. linkRow lanes edges i (getD ids (a + k) 0))
         (λ k. link-most i (getD ids (a + k) 0))
 
     pub lane-le : (n m : ℕ) → n ≤ m
@@ -88,7 +89,7 @@ module _ (lanes : List ℕ) (edges : List Float) where
 
     module _ (right : listsRight lanes offsets ids ≡ true) where
       pub below-most : (i : ℕ) → i ≤ length lanes / 10
-          → length (rowsBelow lanes edges offsets ids i) ≤ 3 * getD offsets i 0
+          → length (rowsBelow lanes edges offsets ids i) ≤ gapWidth * getD offsets i 0
       below-most zero h =
           let empty : length (rowsBelow lanes edges offsets ids 0) ≡ 0 = ap length (sym below-none) in omega arith
       below-most (suc i) h =
@@ -99,11 +100,11 @@ module _ (lanes : List ℕ) (edges : List Float) where
           let rises = climb .0 in
           omega arith
 
-      -- the words of all links, three for each at most
-      pub total-most : length (rowsBelow lanes edges offsets ids (length lanes / 10)) ≤ 3 * length ids
+      -- the words of all links, a row for each at most
+      pub total-most : length (rowsBelow lanes edges offsets ids (length lanes / 10)) ≤ gapWidth * length ids
       total-most = go (length lanes / 10) (native.Mathlib.Nat.le-refl (length lanes / 10))
         where
-          go : (i : ℕ) → i ≤ length lanes / 10 → length (rowsBelow lanes edges offsets ids i) ≤ 3 * length ids
+          go : (i : ℕ) → i ≤ length lanes / 10 → length (rowsBelow lanes edges offsets ids i) ≤ gapWidth * length ids
           go zero h =
               let empty : length (rowsBelow lanes edges offsets ids 0) ≡ 0 = ap length (sym below-none) in
               omega arith

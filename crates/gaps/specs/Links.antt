@@ -4,13 +4,14 @@ use mathlib.Core.Bool.{Bool, true, not, _&&_, cond}
 use mathlib.Core.List.{List, [], _∷_}
 use mathlib.Core.Path.{_≡_}
 use Prim.Native.Nat.{ℕ, suc, _+_, _*_, _-_, _/_, _≤_}
-use lib.Dec.{eqb}
+use lib.Dec.{T, eqb}
 use lib.Ieee.{Float, isNan}
 use lib.ListN.{length, getD}
 use Rattle.geometry.specs.declared.gap.Decision.{Decision}
 use Rattle.geometry.specs.declared.gap.Decision.the-variants.{Passed, Wide}
 use Rattle.geometry.specs.Edges.{endsAt}
-use Rattle.geometry.specs.Gap.{gapOf, decisionOf, rowBits}
+use Rattle.geometry.specs.declared.gap.Seen.{Seen}
+use Rattle.geometry.specs.Gap.{closestEnds, placeBits, rowBits, seenOf}
 use Rattle.model.specs.Lists.{every}
 use Rattle.model.specs.Tables.{directionOf, lanesIn}
 use Rattle.model.specs.Rules.{climbs, borne}
@@ -31,32 +32,38 @@ pub record Put (write : Bool) (at : ℕ) (rows before after : List ℕ) (end : �
 abbrev pub Room : Bool → ℕ → List ℕ → List ℕ → Type 0
 Room write at rows out = write ≡ true → at + length rows ≤ length out
 
--- lane row, successor row and gap bits; no word where the gap is passed
-abbrev pub rowWith : ℕ → ℕ → List ℕ → List ℕ
-rowWith lane next [] = []
-rowWith lane next (b ∷ bs) = lane ∷ next ∷ b ∷ []
+-- lane row, successor row, gap bits and the bits of the two places; no word where the gap is passed
+abbrev pub rowWith : ℕ → ℕ → (u v : Float) → List ℕ → List ℕ
+rowWith lane next u v [] = []
+rowWith lane next u v (b ∷ bs) = lane ∷ next ∷ b ∷ placeBits u ∷ placeBits v ∷ []
 
-abbrev pub rowOf : ℕ → ℕ → Decision → List ℕ
-rowOf lane next d = rowWith lane next (rowBits d)
+abbrev pub rowOf : ℕ → ℕ → Seen → List ℕ
+rowOf lane next seen = rowWith lane next (seen .u) (seen .v) (rowBits (seen .decision))
 
 -- a width that has bits of its own
 abbrev pub isNumber : Decision → Bool
 isNumber Passed = true
 isNumber (Wide w) = not (isNan w)
 
+-- a width and two places that have
+pub record Numbers (seen : Seen) : Type 0 where
+  pub width : T (isNumber (seen .decision))
+  pub u : T (not (isNan (seen .u)))
+  pub v : T (not (isNan (seen .v)))
+
 -- the row of the lane that bears identity k
 abbrev pub rowBearing : List ℕ → ℕ → ℕ
 rowBearing lanes k = lastOf (length lanes / 10) (isId lanes k) - 1
 
--- the decision for a link from the lane in row i to that in row r
-unfoldable pub decisionAt : List ℕ → List Float → ℕ → ℕ → Decision
-decisionAt lanes edges i r =
-    decisionOf (gapOf (endsAt edges i) (directionOf (getD lanes (i * 10 + 5) 0)) (endsAt edges r)
+-- the decision for a link from the lane in row i to that in row r, and where the two come closest
+unfoldable pub seenAt : List ℕ → List Float → ℕ → ℕ → Seen
+seenAt lanes edges i r =
+    seenOf (closestEnds (endsAt edges i) (directionOf (getD lanes (i * 10 + 5) 0)) (endsAt edges r)
     (directionOf (getD lanes (r * 10 + 5) 0)))
 
 -- the words of a link from the lane in row i to the lane of identity k
 unfoldable pub linkRow : List ℕ → List Float → ℕ → ℕ → List ℕ
-linkRow lanes edges i k = rowOf i (rowBearing lanes k) (decisionAt lanes edges i (rowBearing lanes k))
+linkRow lanes edges i k = rowOf i (rowBearing lanes k) (seenAt lanes edges i (rowBearing lanes k))
 
 -- the words of the first n links of the lane in row i, whose identities stand from place a on
 unfoldable pub laneRows : List ℕ → List Float → List ℕ → ℕ → ℕ → ℕ → List ℕ

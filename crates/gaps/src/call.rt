@@ -1,5 +1,6 @@
 // The gap check as a call: its refusals, and its rows.
 use crate::links;
+use crate::links::GAP_ROW;
 use crate::lists;
 use rules::sizes;
 use rules::worded;
@@ -146,20 +147,20 @@ fn write_rows(
     ensures { λ rows q. ⌜ outcome (answerOf q) (now (out .exit))
         ≡ writtenOr9 (tableWriting gapWidth) rows (now (out .entry)) ⌝ }
 {
-    if 3 * ids.len() <= out.len() {
+    if GAP_ROW * ids.len() <= out.len() {
         let n = links::all_rows(lanes, edges, heads, next, offsets, ids, out, true);
-        return Gaps::Written(n / 3);
+        return Gaps::Written(n / GAP_ROW);
     }
     let n = links::all_rows(lanes, edges, heads, next, offsets, ids, out, false);
     if out.len() < n {
         return Gaps::Refused(Verdict::OutputShort);
     }
     let m = links::all_rows(lanes, edges, heads, next, offsets, ids, out, true);
-    Gaps::Written(m / 3)
+    Gaps::Written(m / GAP_ROW)
 }
 
-// The lane links whose ends do not meet, a row of three words each: the lane's row, its successor's row, and the
-// bits of the gap.
+// The lane links whose ends do not meet, a row of five words each: the lane's row, its successor's row, and the bits of
+// the gap and of how far along the lane's end and the successor's the two come closest.
 pub fn link_gaps(
     text: &[u8],
     roads: &[u32],

@@ -1,25 +1,32 @@
-// The rows of the links: each link's decision, and its row written or counted.
+// The rows of the links: what is seen of each link, and its row written or counted.
 use geometry::edges;
 use geometry::gap;
 use geometry::gap::Decision;
 use geometry::gap::Direction;
+use geometry::gap::Seen;
 use tables::lookup;
 use tables::lookup::LaneId;
 use tables::lookup::RowFound;
 use words::rows;
 ghost use mathlib.Core.Path.{_≡_};
-ghost use mathlib.Core.Bool.{true};
+ghost use mathlib.Core.Bool.{true, not};
 ghost use mathlib.Core.List.{List};
 ghost use Prim.Native.Nat.{ℕ, _+_, _*_, _/_, _≤_, _<_};
-ghost use lib.ListN.{length};
 ghost use lib.Dec.{T};
+ghost use lib.Ieee.{isNan};
+ghost use lib.ListN.{length};
+ghost use Rattle.geometry.specs.declared.gap.Decision.the-variants.{Wide};
 ghost use Rattle.model.specs.Tables.{directionOf, lanesIn};
 ghost use Rattle.model.specs.Lists.{every};
 ghost use Rattle.model.specs.Rules.{borne};
+ghost use Rattle.model.specs.Calls.{gapWidth};
 ghost use Rattle.words.specs.Keys.{isId};
 ghost use Rattle.words.specs.Rows.{lastOf};
-ghost use Rattle.gaps.specs.Links.{ById, Lent, Put, Room, rowOf, isNumber, decisionAt, linkRow, laneRows};
+ghost use Rattle.gaps.specs.Links.{ById, Lent, Put, Room, Numbers, rowOf, seenAt, linkRow, laneRows};
 ghost use Rattle.gaps.specs.Links.{rowsBelow, listsRight};
+
+// How many words a row has.
+pub const GAP_ROW: usize = 5;
 
 // Which way a lane's traffic runs, by its word.
 fn direction(word: u32) -> Direction
@@ -32,41 +39,49 @@ fn direction(word: u32) -> Direction
     }
 }
 
-// The decision for a link from the lane in row `lane` to that in row `next`.
-fn link_decision(lanes: &[u32], edges: &[f32], lane: usize, next: usize) -> Decision
+// The decision for a link from the lane in row `lane` to that in row `next`, and where the two come closest.
+fn link_seen(lanes: &[u32], edges: &[f32], lane: usize, next: usize) -> Seen
     requires { ⌜ (lane < length (now lanes) / 10) × (next < length (now lanes) / 10) ⌝ }
     requires { ⌜ length (now edges) ≡ 12 * (length (now lanes) / 10) ⌝ }
-    ensures { λ q. ⌜ (q ≡ decisionAt (now (lanes .entry)) (now (edges .entry)) lane next) × T (isNumber q) ⌝ }
+    ensures { λ q. ⌜ (q ≡ seenAt (now (lanes .entry)) (now (edges .entry)) lane next) × Numbers q ⌝ }
 {
     let leaves = direction(lanes[lane * 10 + 5]);
     let enters = direction(lanes[next * 10 + 5]);
     let from = edges::ends_at(edges, lane);
     let to = edges::ends_at(edges, next);
-    gap::gap_decision(gap::least_gap(from, leaves, to, enters))
+    gap::link_gap(from, leaves, to, enters)
 }
 
-// The place after the row of a decision, which is put at `at` if it is to be written.
-fn put_row(
-    out: &mut [u32],
-    at: usize,
-    write: bool,
-    lane: u32,
-    next: u32,
-    decision: Decision,
-) -> usize
-    requires { ⌜ (at < 1048576) × T (isNumber decision) ⌝ }
-    requires { ⌜ Room write at (rowOf lane next decision) (now out) ⌝ }
-    ensures { λ q. ⌜ Put write at (rowOf lane next decision) (now (out .entry)) (now (out .exit)) q ⌝ }
+// The row of a gap that is wide.
+fn wide_row(lane: u32, next: u32, width: f32, u: f32, v: f32) -> [u32; GAP_ROW]
+    requires { ⌜ T (not (isNan width)) × T (not (isNan u)) × T (not (isNan v)) ⌝ }
+    ensures { λ q. ⌜ q ≡ rowOf lane next (record { decision = Wide width; u = u; v = v }) ⌝ }
 {
+    [
+        lane,
+        next,
+        f32::to_bits(width),
+        gap::place_bits(u),
+        gap::place_bits(v),
+    ]
+}
+
+// The place after the row of what was seen, which is put at `at` if it is to be written.
+fn put_row(out: &mut [u32], at: usize, write: bool, lane: u32, next: u32, seen: Seen) -> usize
+    requires { ⌜ (at < 1048576) × Numbers seen ⌝ }
+    requires { ⌜ Room write at (rowOf lane next seen) (now out) ⌝ }
+    ensures { λ q. ⌜ Put write at (rowOf lane next seen) (now (out .entry)) (now (out .exit)) q ⌝ }
+{
+    let decision = seen.decision;
     match decision {
         Decision::Passed => at,
         Decision::Wide(w) => {
             if !write {
-                return at + 3;
+                return at + GAP_ROW;
             }
-            let row = [lane, next, f32::to_bits(w)];
+            let row = wide_row(lane, next, w, seen.u, seen.v);
             rows::put(out, at, &row);
-            at + 3
+            at + GAP_ROW
         }
     }
 }
@@ -94,8 +109,8 @@ fn link_row(
 {
     match lookup::lane_row(lanes, heads, next, id) {
         RowFound::Row(r) => {
-            let decision = link_decision(lanes, edges, lane, r as usize);
-            put_row(out, at, write, lane as u32, r, decision)
+            let seen = link_seen(lanes, edges, lane, r as usize);
+            put_row(out, at, write, lane as u32, r, seen)
         }
         RowFound::Nothing => at,
     }
@@ -119,7 +134,8 @@ fn lane_rows(
     requires { λ rows. ⌜ laneRows (now lanes) (now edges) (now ids) lane first count ≡ rows ⌝ }
     requires { λ _. ⌜ Lent (now lanes) (now edges) (now heads) (now next) (now ids) ⌝ }
     requires { λ _. ⌜ every (borne (lanesIn (now lanes))) (now ids) ≡ true ⌝ }
-    requires { λ _. ⌜ (lane < length (now lanes) / 10) × (first + count ≤ length (now ids)) × (at ≤ 3 * first) ⌝ }
+    requires { λ _. ⌜ (lane < length (now lanes) / 10) × (first + count ≤ length (now ids))
+        × (at ≤ gapWidth * first) ⌝ }
     requires { λ rows. ⌜ Room write at rows (now out) ⌝ }
     ensures { λ rows q. ⌜ Put write at rows (now (out .entry)) (now (out .exit)) q ⌝ }
 {

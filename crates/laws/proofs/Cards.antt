@@ -3,13 +3,13 @@ use mathlib.Core.Path.{_≡_, refl}
 use mathlib.Core.Option.{none}
 use mathlib.Core.List.{List, [], _∷_}
 use Prim.Native.Nat.{ℕ}
-use lib.Ieee.{binary32, ofBits, toBits, add, sub, mul, div, neg, lt, le, isNan}
+use lib.Ieee.{binary32, ofBits, toBits, add, sub, mul, div, neg, lt, le, eq, isNan}
 use Rattle.geometry.specs.declared.segment.Point.{Point}
 use Rattle.geometry.specs.declared.gap.Direction.the-variants.{Backward, Both}
 use Rattle.geometry.specs.Root.{accepted, belowZero, midpointAbove, midpointBelow, rootAnswer, rootBits, rootOf}
 use Rattle.geometry.specs.Segment.{distanceOf, minusOf, plusOf, timesOf, dotOf, lengthOf, clampOf, freePlace}
-use Rattle.geometry.specs.Segment.{placesApart, placesOf, apartOf}
-use Rattle.geometry.specs.Gap.{minOf, leastFrom, gapOf}
+use Rattle.geometry.specs.Segment.{placesApart, placesOf, placesFor, apartOf}
+use Rattle.geometry.specs.Gap.{minOf, leastFrom, gapOf, better, chosenOf, bestFrom, closestEnds}
 use Rattle.model.proofs.CardMaps.{apart, bits, noLanes, straight, tablesFor, twoPairs, twoWay}
 use Rattle.model.specs.Calls.{gapCall, gapContent, gapRules, gapWords, laneRules, listContent}
 use Rattle.model.specs.Calls.{listLengths, markRules, putLists, putRepaired, putReversed, repairCall}
@@ -18,7 +18,7 @@ use Rattle.model.specs.Calls.{reversalCall, reversalContent, reversalCounts, re
 use Rattle.model.specs.Calls.{reversalRules, rulesTo5, successionCall, successionRules}
 use Rattle.model.specs.Calls.{tableRules, warningRow, wrote}
 use Rattle.model.specs.Claim.{repairedTables}
-use Rattle.model.specs.Gaps.{gapBetween, gapRow, linkGaps}
+use Rattle.model.specs.Gaps.{gapBetween, closestBetween, gapRow, linkGaps}
 use Rattle.model.specs.Repair.{backAt, backEnd, backOf, inVirtual, linked, meetingEnd, meets, missingEnd}
 use Rattle.model.specs.Repair.{missingLink, putTarget, repair, repairJunction, repairRoads, reversed, roadOf}
 use Rattle.model.specs.Repair.{runsBack, startRoads, swapped, vacantEnd, warnOne, warnings, withoutAlong}
@@ -73,10 +73,10 @@ pub bench-cards :
     × Rooted 0x4000_0000 0x3fb5_04f3
     × Rooted 0x0000_0001 0x1a35_04f3
     × Rooted 0x7f7f_ffff 0x5f7f_ffff
-    × (gapCall (apart 0x3dcc_cccd) (0 ∷ 1 ∷ 1 ∷ []) (9 ∷ []) (5 ∷ 6 ∷ 7 ∷ 8 ∷ [])
-    ≡ record { answer = wrote (0 ∷ []); outs = 5 ∷ 6 ∷ 7 ∷ 8 ∷ [] })
-    × (gapCall (apart 0x3dcc_ccce) (0 ∷ 1 ∷ 1 ∷ []) (9 ∷ []) (5 ∷ 6 ∷ 7 ∷ 8 ∷ [])
-    ≡ record { answer = wrote (1 ∷ []); outs = 0 ∷ 1 ∷ 0x3dcc_ccce ∷ 8 ∷ [] })
+    × (gapCall (apart 0x3dcc_cccd) (0 ∷ 1 ∷ 1 ∷ []) (9 ∷ []) (5 ∷ 6 ∷ 7 ∷ 8 ∷ 9 ∷ 10 ∷ [])
+    ≡ record { answer = wrote (0 ∷ []); outs = 5 ∷ 6 ∷ 7 ∷ 8 ∷ 9 ∷ 10 ∷ [] })
+    × (gapCall (apart 0x3dcc_ccce) (0 ∷ 1 ∷ 1 ∷ []) (9 ∷ []) (5 ∷ 6 ∷ 7 ∷ 8 ∷ 9 ∷ 10 ∷ [])
+    ≡ record { answer = wrote (1 ∷ []); outs = 0 ∷ 1 ∷ 0x3dcc_ccce ∷ 0 ∷ 0 ∷ 10 ∷ [] })
     × (toBits binary32
     (distanceOf (at 0 0 ∷ at 0 0x4000_0000 ∷ []) (at 0x3e80_0000 0 ∷ at 0x3e80_0000 0x4000_0000 ∷ []))
     ≡ 0x3e80_0000)
@@ -91,7 +91,8 @@ pub bench-cards :
 unfolding repairedTables rulesTo5 laneRules repairLengths repairCounts putRepaired warningRow repairContent
     repairRules repairCall listLengths putLists listContent successionRules
     successionCall gapWords gapContent gapRules gapCall reversalLengths reversalCounts putReversed
-    reversalContent tableRules markRules reversalRules reversalRefusal reversalCall gapBetween gapRow linkGaps
+    reversalContent tableRules markRules reversalRules reversalRefusal reversalCall gapBetween
+    closestBetween gapRow linkGaps
     linked putTarget vacantEnd swapped backAt roadOf meets inVirtual withoutAlong backEnd missingEnd missingLink
     meetingEnd runsBack backOf reversed repairRoads repairJunction startRoads repair warnOne warnings negated
     mirror mirrored reverseTarget reverseRoad reversePair reverseConnection reverseJunction reverseWarning
@@ -106,8 +107,8 @@ unfolding repairedTables rulesTo5 laneRules repairLengths repairCounts putRepair
     junctionRow laneIn laneRow edgeRow roadsIn pairsIn connectionsIn junctionsIn lanesIn mapOf edgedLanesOf
     roadWords sectionWords allConnections allPairs junctionWords connectionWords pairWords laneWords edgeWords
     tablesOf bytesOf sameIn placed midpointBelow midpointAbove rootBits rootOf belowZero minusOf plusOf timesOf
-    dotOf lengthOf clampOf freePlace placesApart placesOf apartOf minOf leastFrom gapOf ofBits toBits add sub
-    mul div neg lt le isNan
+    dotOf lengthOf clampOf freePlace placesApart placesOf placesFor apartOf minOf leastFrom gapOf better chosenOf
+    bestFrom closestEnds ofBits toBits add sub mul div neg lt le eq isNan
 bench-cards = (
   refl,
   refl,

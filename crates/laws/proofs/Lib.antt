@@ -36,6 +36,7 @@ pub mod Sets
 -- The calls, and sequences of reversals.
 pub mod WordsReversed
 pub mod Sequences
+pub mod Compared
 pub mod SameFound
 pub mod SameWarnings
 pub mod Packed

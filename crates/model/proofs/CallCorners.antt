@@ -115,17 +115,19 @@ succession-short = (refl, refl, refl, refl)
 
 -- ---- the gap check
 -- lanes 7 and 9 lie 2 apart: a row, and the word after it; no room for the row; and a link named twice
-pub gap-rows : (gapCall (apart 0x4000_0000) (0 ∷ 1 ∷ 1 ∷ []) (9 ∷ []) (lent 4)
-    ≡ record { answer = wrote (1 ∷ []); outs = 0 ∷ 1 ∷ 0x4000_0000 ∷ 5 ∷ [] })
-    × Refuses (gapCall (apart 0x4000_0000) (0 ∷ 1 ∷ 1 ∷ []) (9 ∷ []) (lent 2)) 9 (lent 2)
-    × (gapCall (apart 0x4000_0000) (0 ∷ 2 ∷ 2 ∷ []) (9 ∷ 9 ∷ []) (lent 6)
-    ≡ record { answer = wrote (2 ∷ []); outs = 0 ∷ 1 ∷ 0x4000_0000 ∷ 0 ∷ 1 ∷ 0x4000_0000 ∷ [] })
+pub gap-rows : (gapCall (apart 0x4000_0000) (0 ∷ 1 ∷ 1 ∷ []) (9 ∷ []) (lent 6)
+    ≡ record { answer = wrote (1 ∷ []); outs = 0 ∷ 1 ∷ 0x4000_0000 ∷ 0 ∷ 0 ∷ 5 ∷ [] })
+    × Refuses (gapCall (apart 0x4000_0000) (0 ∷ 1 ∷ 1 ∷ []) (9 ∷ []) (lent 4)) 9 (lent 4)
+    × (gapCall (apart 0x4000_0000) (0 ∷ 2 ∷ 2 ∷ []) (9 ∷ 9 ∷ []) (lent 10) ≡ record {
+      answer = wrote (2 ∷ []);
+      outs = 0 ∷ 1 ∷ 0x4000_0000 ∷ 0 ∷ 0 ∷ 0 ∷ 1 ∷ 0x4000_0000 ∷ 0 ∷ 0 ∷ [];
+    })
 unfolding broken
 gap-rows = (refl, refl, refl)
 
 -- lane 9 lies nowhere, and the row has the bits of infinity
-pub nan-row : gapCall (apart 0x7fc0_0000) (0 ∷ 1 ∷ 1 ∷ []) (9 ∷ []) (lent 3)
-    ≡ record { answer = wrote (1 ∷ []); outs = 0 ∷ 1 ∷ 0x7f80_0000 ∷ [] }
+pub nan-row : gapCall (apart 0x7fc0_0000) (0 ∷ 1 ∷ 1 ∷ []) (9 ∷ []) (lent 5)
+    ≡ record { answer = wrote (1 ∷ []); outs = 0 ∷ 1 ∷ 0x7f80_0000 ∷ 0 ∷ 0 ∷ [] }
 unfolding broken
 nan-row = refl
 

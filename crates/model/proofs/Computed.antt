@@ -3,18 +3,18 @@
 use mathlib.Core.Bool.{Bool, cond}
 use mathlib.Core.List.{List, [], _∷_}
 use Prim.Native.Nat.{ℕ}
-use lib.Ieee.{add, div, isNan, le, lt, mul, neg, ofBits, sub, toBits}
-use Rattle.geometry.specs.Gap.{gapOf, leastFrom, minOf}
+use lib.Ieee.{add, div, eq, isNan, le, lt, mul, neg, ofBits, sub, toBits}
+use Rattle.geometry.specs.Gap.{bestFrom, better, chosenOf, closestEnds, gapOf, leastFrom, minOf}
 use Rattle.geometry.specs.Root.{midpointAbove, midpointBelow, rootBits, rootOf}
 use Rattle.geometry.specs.Segment.{apartOf, clampOf, dotOf, freePlace, lengthOf, minusOf, placesApart, placesOf}
-use Rattle.geometry.specs.Segment.{plusOf, timesOf}
+use Rattle.geometry.specs.Segment.{placesFor, plusOf, timesOf}
 use Rattle.model.specs.Calls.{gapCall, gapContent, gapRules, gapWords, laneRules, listContent}
 use Rattle.model.specs.Calls.{listLengths, markRules, putLists, putRepaired, putReversed, repairCall}
 use Rattle.model.specs.Calls.{repairContent, repairCounts, repairLengths, repairRefusal, repairRules}
 use Rattle.model.specs.Calls.{reversalCall, reversalContent, reversalCounts, reversalLengths}
 use Rattle.model.specs.Calls.{reversalRefusal, reversalRules, rulesTo5, successionCall}
 use Rattle.model.specs.Calls.{successionRules, tableRules, warningRow}
-use Rattle.model.specs.Gaps.{GapRow, gapBetween, gapRow, linkGaps}
+use Rattle.model.specs.Gaps.{GapRow, closestBetween, gapBetween, gapRow, linkGaps}
 use Rattle.model.specs.Records.{EdgedLane, Map, Span}
 use Rattle.model.specs.Repair.{Warning, backAt, backEnd, backOf, inVirtual, linked, meetingEnd, meets}
 use Rattle.model.specs.Repair.{missingEnd, missingLink, putTarget, repair, repairJunction, repairRoads}
@@ -71,9 +71,9 @@ before m = predecessorLists alike m
 
 -- the gap rows of lanes with their lists of successors
 unfoldable pub gapRows : List EdgedLane → List (List ℕ) → List GapRow
-unfolding add apartOf clampOf div dotOf freePlace gapBetween gapOf gapRow isNan le leastFrom lengthOf linkGaps
-    lt midpointAbove midpointBelow minOf minusOf mul neg ofBits placesApart placesOf plusOf rootBits rootOf sub
-    timesOf toBits
+unfolding add apartOf bestFrom better chosenOf clampOf closestBetween closestEnds div dotOf eq freePlace
+    gapBetween gapOf gapRow isNan le leastFrom lengthOf linkGaps lt midpointAbove midpointBelow minOf minusOf
+    mul neg ofBits placesApart placesFor placesOf plusOf rootBits rootOf sub timesOf toBits
 gapRows ls ns = linkGaps ls ns
 
 -- the map reversed by marks, given as a test of a road's name

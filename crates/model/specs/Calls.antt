@@ -194,11 +194,11 @@ successionCall t o = called listWriting (successionRules t) (listContent t) o
 -- ---- Gap check
 -- how many words gap rows have
 abbrev pub gapWidth : ℕ
-gapWidth = 3
+gapWidth = 5
 
 -- a gap row's words
 unfoldable pub gapWords : GapRow → List ℕ
-gapWords g = g .laneRow ∷ g .nextRow ∷ g .gap ∷ []
+gapWords g = g .laneRow ∷ g .nextRow ∷ g .gap ∷ g .u ∷ g .v ∷ []
 
 -- what the gap check has to write, from the lists of successors
 unfoldable pub gapContent : Tables → (offsets ids : List ℕ) → List ℕ

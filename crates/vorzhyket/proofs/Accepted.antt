@@ -92,7 +92,7 @@ succession-accepted t o before = zero-accepted listWriting (successionRules t) (
 
 pub gaps-accepted : (t : Tables) (offsets ids o before : List ℕ)
     → exported (gapCall t offsets ids o) before .0 .0 ≡ 0
-    → gapCall t offsets ids o .answer ≡ wrote (length (gapContent t offsets ids) / 3 ∷ [])
+    → gapCall t offsets ids o .answer ≡ wrote (length (gapContent t offsets ids) / gapWidth ∷ [])
 unfolding gapCall gapRules rulesTo5 laneRules above-zero
 gaps-accepted t offsets ids o before =
     zero-accepted (tableWriting gapWidth) (gapRules t offsets ids) (gapContent t offsets ids) o refl before

@@ -113,12 +113,12 @@ succession-counted t o e = counted listWriting (successionRules t) (listContent 
 
 -- ---- the gap check
 gap-words : (t : Tables) (offsets ids : List ℕ) → firstBroken (gapRules t offsets ids) ≡ none
-    → Words (length (gapContent t offsets ids) / 3 ∷ [])
+    → Words (length (gapContent t offsets ids) / gapWidth ∷ [])
 gap-words t offsets ids unbroken =
     let through = gap-through t offsets ids (sym unbroken) in
     let kept = gap-kept t offsets ids (through .0) in
     let content = ap length (content-is t offsets ids (kept .even) (kept .once) (through .1)) in
-    let three-each = total-most (t .lanes) (t .edges) offsets ids (through .1) in (omega (arith, kept .short), tt)
+    let row-each = total-most (t .lanes) (t .edges) offsets ids (through .1) in (omega (arith, kept .short), tt)
 
 pub gaps-counted : (t : Tables) (offsets ids o : List ℕ) {y : Answer} {after : List ℕ}
     → outcome y after ≡ gapCall t offsets ids o → Counted y

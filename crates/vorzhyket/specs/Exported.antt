@@ -3,6 +3,7 @@ use mathlib.Core.List.{List, [], _∷_}
 use Prim.Native.Nat.{ℕ, _<_}
 use lib.Ieee.{Float}
 use Rattle.geometry.specs.Root as geometry
+use Rattle.geometry.specs.declared.segment.Closest.{Closest}
 use Rattle.model.specs.Calls.{Answer, Outcome, refused, wrote}
 use Rattle.model.specs.Length.{Checked, fine, reported, uneven}
 
@@ -20,6 +21,10 @@ exported c before = (answered (c .answer) before, c .outs)
 abbrev pub exportedRoot : geometry.Answer → Float → ℕ × Float
 exportedRoot (geometry.accepted r) before = (0, r)
 exportedRoot (geometry.refused k) before = (k, before)
+
+-- the distance returned, and `places`: how far along the first and the second segment, -0 among them
+abbrev pub exportedClosest : Closest → Float × List Float
+exportedClosest c = (c .gap, c .u ∷ c .v ∷ [])
 
 -- the number returned for a length, and `sum`, which held `before`: 0 nothing to report, 1 the sum reported
 abbrev pub exportedLength : Checked → Float → ℕ × Float

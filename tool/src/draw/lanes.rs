@@ -1,9 +1,10 @@
 //! The lanes on the sheet: areas, and the fine lines that show which lane leads where.
 use super::scene::{Lane, Road, Scene};
-use super::shape::{distance, Point, Way};
+use super::shape::{distance, Point};
 use super::trace::{cut, length, spot, Trace};
 use super::words::{escaped, shown};
 use super::{class, CHUNK, THIN};
+use crate::way::Way;
 
 /// Links from lane to lane up to which each has an arrow head, where the lanes are apart.
 const MOST_ARROWS: usize = 20_000;

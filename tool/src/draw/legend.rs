@@ -1,11 +1,11 @@
 //! What stands around the map: the title, the legend, the scale bar, what was left out.
 use super::scene::{Scene, HEAD, WIDTH};
-use super::shape::Way;
 use super::trace::text;
 use super::words::{breadth, count, words};
 use super::{MOST_LABELS, MOST_MARKS};
 use crate::found::Found;
 use crate::map::Map;
+use crate::way::Way;
 use vorzhyket::sizes::{LANE, ROAD};
 
 /// The height of the legend's line, and of a line of remarks below it.

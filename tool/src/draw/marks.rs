@@ -4,7 +4,8 @@ use super::shape::{distance, halfway, Point, Segment};
 use super::trace::{length, spot, text, Trace};
 use super::words::{breadth, escaped, label, metres, shown, Area, Labels};
 use super::{CHUNK, MOST_LABELS, MOST_MARKS};
-use crate::map::Tables;
+use crate::labels;
+use crate::map::{Map, Tables};
 use std::collections::HashSet;
 
 /// Roads up to which names are shown, and lanes up to which labels keep clear of them.
@@ -12,7 +13,7 @@ const MOST_NAMES: usize = 60;
 const MOST_CLEAR: usize = 600;
 
 /// The gaps, the widths of the widest, and the names of roads where these are few.
-pub fn marks(out: &mut String, tables: &Tables, scene: &Scene) {
+pub fn marks(out: &mut String, map: &Map, scene: &Scene) {
     let radius = match scene.marks.len() {
         0..=60 => 14.0,
         61..=400 => 10.0,
@@ -33,7 +34,7 @@ pub fn marks(out: &mut String, tables: &Tables, scene: &Scene) {
     if scene.marks.len() > MOST_MARKS {
         crowd(out, scene, radius);
     } else {
-        scene.marks.iter().rev().for_each(|mark| ring(out, tables, mark, radius));
+        scene.marks.iter().rev().for_each(|mark| ring(out, map, mark, radius));
     }
     out.push_str(&texts);
 }
@@ -64,13 +65,14 @@ fn widths(out: &mut String, scene: &Scene, labels: &mut Labels, radius: f64) {
     }
 }
 
-/// A gap: a line from edge to edge, a ring around it, and in its title which lanes.
-fn ring(out: &mut String, tables: &Tables, mark: &Mark, radius: f64) {
+/// A gap: a line from edge to edge, a ring around it, and in its title which lanes and where on their edges.
+fn ring(out: &mut String, map: &Map, mark: &Mark, radius: f64) {
     let ([x, y], mut line) = (halfway(mark.way), Trace::default());
     line.line(&mark.way);
-    let (from, to, width) = (lane_name(tables, mark.lane), lane_name(tables, mark.successor), metres(mark.width as f64));
+    let (from, to, width) = (lane_name(&map.tables, mark.lane), lane_name(&map.tables, mark.successor), metres(mark.width as f64));
+    let (exit, entry) = (labels::place(map, &mark.places.exit), labels::place(map, &mark.places.entry));
     let place = format!("cx=\"{}\" cy=\"{}\" r=\"{}\"", text(x), text(y), text(radius));
-    out.push_str(&format!("<g class=\"gap\"><title>{from} to {to}: {width}</title><circle class=\"y\" {place}/>"));
+    out.push_str(&format!("<g class=\"gap\"><title>{from} to {to}: {width}; from {exit}; to {entry}</title><circle class=\"y\" {place}/>"));
     out.push_str(&format!("<path class=\"x\" d=\"{}\"/><circle class=\"o\" {place}/></g>\n", line.data));
 }
 

@@ -1,8 +1,10 @@
 //! The map laid out on the sheet: lanes by road in the sheet's units, links, and marks where lanes fail to meet.
-use super::shape::{distance, halfway, joint, shortest, Point, Segment, Shape, Way};
+use super::shape::{distance, halfway, joint, Point, Segment, Shape};
 use super::trace::thinned;
 use crate::found::Found;
 use crate::map::{Map, Tables};
+use crate::place::Places;
+use crate::way::Way;
 use std::collections::HashMap;
 use vorzhyket::sizes::{LANE, ROAD};
 use vorzhyket::ABSENT;
@@ -36,12 +38,13 @@ pub struct Lane {
     pub joined: [bool; 2],
 }
 
-/// A gap on the sheet: the shortest way across it, and its width in metres.
+/// A gap on the sheet: the way across it, its width in metres, and its places on the map.
 pub struct Mark {
     pub lane: usize,
     pub successor: usize,
     pub way: Segment,
     pub width: f32,
+    pub places: Places,
 }
 
 /// All that is drawn.
@@ -118,7 +121,7 @@ impl<'a> Scene<'a> {
             wide,
         };
         scene.link(found);
-        scene.mark(found);
+        scene.mark(map, found, &frame);
         Some(scene)
     }
 
@@ -127,7 +130,7 @@ impl<'a> Scene<'a> {
     }
 
     /// The two edges by which a lane leads to another, and their ends.
-    fn edges(&self, row: usize, successor: usize) -> Option<([usize; 2], [Segment; 2])> {
+    fn edges(&self, row: usize, successor: usize) -> Option<([bool; 2], [Segment; 2])> {
         let (from, to) = (self.lane(row)?, self.lane(successor)?);
         let ends = joint((&from.shape, from.way), (&to.shape, to.way));
         Some((ends, [from.shape.edge(ends[0]), to.shape.edge(ends[1])]))
@@ -139,7 +142,7 @@ impl<'a> Scene<'a> {
                 let Some((ends, edges)) = self.edges(row, successor) else { continue };
                 for (lane, end) in [(row, ends[0]), (successor, ends[1])] {
                     if let Some(Some(lane)) = self.lanes.get_mut(lane) {
-                        lane.joined[end] = true;
+                        lane.joined[usize::from(end)] = true;
                     }
                 }
                 let way = edges.map(halfway);
@@ -150,15 +153,15 @@ impl<'a> Scene<'a> {
         }
     }
 
-    fn mark(&mut self, found: &Found) {
+    fn mark(&mut self, map: &Map, found: &Found, frame: &Frame) {
         for gap in &found.gaps {
-            let width = f32::from_bits(gap.bits);
-            match self.edges(gap.lane, gap.successor) {
-                Some((_, [from, to])) if width.is_finite() => {
-                    self.marks.push(Mark { lane: gap.lane, successor: gap.successor, way: shortest(from, to), width });
-                }
-                _ => self.unmarked += 1,
-            }
+            let drawn = [gap.lane, gap.successor].iter().all(|&row| self.lane(row).is_some());
+            let Some(places) = Places::of(map, gap).filter(|_| drawn) else {
+                self.unmarked += 1;
+                continue;
+            };
+            let way = [places.exit.at, places.entry.at].map(|[x, y]| frame.place(&[x - map.origin[0], y - map.origin[1]]));
+            self.marks.push(Mark { lane: gap.lane, successor: gap.successor, way, width: f32::from_bits(gap.bits), places });
         }
         self.marks.sort_by(|a, b| b.width.total_cmp(&a.width));
     }
@@ -185,7 +188,7 @@ fn laid_out(tables: &Tables, frame: &Frame, shapes: Vec<Option<Shape>>) -> Vec<O
 
 /// The median of the lanes' widths, each the mean of its two edges.
 fn usual_width(lanes: &[Option<Lane>]) -> f64 {
-    let width = |lane: &Lane| (distance(lane.shape.edge(0)) + distance(lane.shape.edge(1))) / 2.0;
+    let width = |lane: &Lane| (distance(lane.shape.edge(false)) + distance(lane.shape.edge(true))) / 2.0;
     let mut widths: Vec<f64> = lanes.iter().flatten().map(width).filter(|&w| w > 0.0).collect();
     widths.sort_by(f64::total_cmp);
     widths.get(widths.len() / 2).copied().unwrap_or(1.0)

@@ -1,5 +1,6 @@
-//! Where a lane lies, as seen from above, and where two lanes meet or fail to.
+//! Where a lane lies, as seen from above, and by which ends two lanes are linked.
 use crate::map::{Map, Outline};
+use crate::way::Way;
 use vorzhyket::sizes::EDGE;
 
 /// A place seen from above.
@@ -7,42 +8,6 @@ pub type Point = [f64; 2];
 
 /// Two points: an edge, or the way from one place to another.
 pub type Segment = [Point; 2];
-
-/// A lane's direction of travel.
-#[derive(Clone, Copy, Debug, PartialEq)]
-pub enum Way {
-    Forward,
-    Backward,
-    Both,
-}
-
-impl Way {
-    pub fn of(word: u32) -> Way {
-        match word {
-            0 => Way::Forward,
-            1 => Way::Backward,
-            _ => Way::Both,
-        }
-    }
-
-    /// The ends at which a lane is left, 0 its start and 1 its end.
-    pub fn exits(self) -> &'static [usize] {
-        match self {
-            Way::Forward => &[1],
-            Way::Backward => &[0],
-            Way::Both => &[1, 0],
-        }
-    }
-
-    /// The ends at which a lane is entered.
-    pub fn entries(self) -> &'static [usize] {
-        match self {
-            Way::Forward => &[0],
-            Way::Backward => &[1],
-            Way::Both => &[0, 1],
-        }
-    }
-}
 
 /// A lane's two borders from its start to its end, at least two points each. The coordinates are finite.
 pub struct Shape {
@@ -79,9 +44,9 @@ impl Shape {
         self.left.iter().chain(&self.right)
     }
 
-    /// The edge at its start (0) or its end (1).
-    pub fn edge(&self, end: usize) -> Segment {
-        let i = |side: &[Point]| if end == 0 { 0 } else { side.len() - 1 };
+    /// The edge at its end, or at its start.
+    pub fn edge(&self, end: bool) -> Segment {
+        let i = |side: &[Point]| if end { side.len() - 1 } else { 0 };
         [self.left[i(&self.left)], self.right[i(&self.right)]]
     }
 
@@ -126,39 +91,9 @@ fn crossing(first: Segment, second: Segment) -> Option<Point> {
     ((0.0..=1.0).contains(&u) && (0.0..=1.0).contains(&v)).then(|| along(first, u))
 }
 
-/// The segment's point nearest to p.
-fn nearest(p: Point, segment: Segment) -> Point {
-    let (d, w) = (minus(segment[1], segment[0]), minus(p, segment[0]));
-    let part = (d[0] * w[0] + d[1] * w[1]) / (d[0] * d[0] + d[1] * d[1]);
-    if part.is_finite() {
-        along(segment, part.clamp(0.0, 1.0))
-    } else {
-        segment[0]
-    }
-}
-
-/// The shortest way from one edge to another, and of several equally short ones that in the middle.
-pub fn shortest(from: Segment, to: Segment) -> Segment {
-    if let Some(p) = crossing(from, to) {
-        return [p, p];
-    }
-    let (a, b) = (halfway(from), halfway(to));
-    let ways = [
-        [a, b],
-        [a, nearest(a, to)],
-        [nearest(b, from), b],
-        [from[0], nearest(from[0], to)],
-        [from[1], nearest(from[1], to)],
-        [nearest(to[0], from), to[0]],
-        [nearest(to[1], from), to[1]],
-    ];
-    let least = ways.iter().map(|&w| distance(w)).fold(f64::INFINITY, f64::min);
-    ways.into_iter().find(|&w| distance(w) <= least * 1.05).unwrap_or([a, b])
-}
-
-/// The ends by which a lane leads to another: of several, the two that are nearest.
-pub fn joint(from: (&Shape, Way), to: (&Shape, Way)) -> [usize; 2] {
-    let mut best = (f64::INFINITY, [1, 0]);
+/// The ends by which a lane leads to another, true for its end: of several, the two that are nearest.
+pub fn joint(from: (&Shape, Way), to: (&Shape, Way)) -> [bool; 2] {
+    let mut best = (f64::INFINITY, [true, false]);
     for &exit in from.1.exits() {
         for &entry in to.1.entries() {
             let apart = distance([halfway(from.0.edge(exit)), halfway(to.0.edge(entry))]);

@@ -129,7 +129,7 @@ pub fn gap_rows(m: &Owned, offsets: &[u32], ids: &[u32], room: usize) -> Result<
         assert!(out.iter().all(|w| *w == FILL), "a refusal wrote");
         return Err(answer.unwrap_err());
     };
-    let [out] = cut([out], [n * 3]);
+    let [out] = cut([out], [n * sizes::GAP]);
     Ok(out)
 }
 

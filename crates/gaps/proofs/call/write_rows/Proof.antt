@@ -33,15 +33,15 @@ module _ (start : tie.Start) where
   right : listsRight (start .args .lanes .now) (start .args .offsets .now) (start .args .ids .now) ≡ true
   right = start .pre .1
 
-  most : length content ≤ 3 * length (start .args .ids .now)
+  most : length content ≤ gapWidth * length (start .args .ids .now)
   most = total-most _ _ _ _ right
 
   -- where there is room, what `all_rows` puts is what is to be written
   written : {after : List ℕ} {n : ℕ} → length content ≤ length out → Put true 0 content out after n
-      → outcome (answerOf (Written (n / 3))) after ≡ writtenOr9 (tableWriting gapWidth) content out
+      → outcome (answerOf (Written (n / gapWidth))) after ≡ writtenOr9 (tableWriting gapWidth) content out
   written fits put =
       all-written (tableWriting gapWidth) content out (one-fits content out fits)
-      (ap (λ (n : ℕ). n / 3 ∷ []) (put .end-is ∙ zero-add (length content)))
+      (ap (λ (n : ℕ). n / gapWidth ∷ []) (put .end-is ∙ zero-add (length content)))
       (put .words-are ∙ put-begin content out)
 
 -- ---- where every link has room

@@ -6,6 +6,7 @@ use mathlib.Core.List.{List, [], _++_}
 use mathlib.Core.Path.{_≡_, refl, sym, ap, _∙_}
 use native.Mathlib.Omega.{arith}
 use Prim.Native.Nat.{ℕ, _+_, _*_, _-_, _/_, _≤_, _<_}
+use Rattle.model.specs.Calls.{gapWidth}
 use Rattle.gaps.specs.Links.{Lent, Put, Room, laneRows, listsRight, rowsBelow}
 use Rattle.gaps.proofs.Climbs.{right-at, right-borne, right-count}
 use Rattle.gaps.proofs.LinkLaws.{below-le, below-more, below-most, below-none}
@@ -70,7 +71,7 @@ module _ (start : Start) where
       → (getD offsets i 0 ≤ getD offsets (i + 1) 0) × (getD offsets (i + 1) 0 ≤ length ids)
   climbs i below = right-at lanes offsets ids right i below
 
-  most : (i : ℕ) → i ≤ count → length (rows i) ≤ 3 * getD offsets i 0
+  most : (i : ℕ) → i ≤ count → length (rows i) ≤ gapWidth * getD offsets i 0
   most i within = below-most lanes edges offsets ids right i within
 
   shorter : (i : ℕ) → i ≤ count → length (rows i) ≤ length (rows count)

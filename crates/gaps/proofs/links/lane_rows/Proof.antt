@@ -7,6 +7,7 @@ use mathlib.Core.List.{List, [], _++_}
 use mathlib.Core.Path.{_≡_, refl, sym, ap, _∙_}
 use native.Mathlib.Omega.{arith}
 use Prim.Native.Nat.{ℕ, _+_, _*_, _-_, _/_, _≤_, _<_}
+use Rattle.model.specs.Calls.{gapWidth}
 use Rattle.words.specs.Keys.{isId}
 use Rattle.words.specs.Rows.{lastOf}
 use Rattle.gaps.specs.Links.{Lent, Put, Room, laneRows, linkRow}
@@ -63,7 +64,7 @@ module _ (start : Start) where
   bears : (k : ℕ) → first + k < length ids → 0 < lastOf (length lanes / 10) (isId lanes (getD ids (first + k) 0))
   bears k there = bearer lanes ids (start .pre .1 .0) (first + k) there .0
 
-  bounds : (lane < length lanes / 10) × (first + start .args .count ≤ length ids) × (start .args .at ≤ 3 * first)
+  bounds : (lane < length lanes / 10) × (first + start .args .count ≤ length ids) × (start .args .at ≤ gapWidth * first)
   bounds = start .pre .1 .1 .0
 
   room : Room (start .args .write) (start .args .at) (rows (start .args .count)) (start .args .out .now)
@@ -78,7 +79,7 @@ module _ (start : Start) where
   more-long : (k : ℕ) → length (rows (k + 1)) ≡ length (rows k) + length (row k)
   more-long k = ap length (more k) ∙ length-append (rows k) (row k)
 
-  most : (k : ℕ) → length (rows k) ≤ 3 * k
+  most : (k : ℕ) → length (rows k) ≤ gapWidth * k
   most k = lane-most lanes edges ids lane first k
 
   shorter : (k : ℕ) → k ≤ start .args .count → length (rows k) ≤ length (rows (start .args .count))

@@ -1,4 +1,4 @@
--- `link_row`: the identity is borne, so its lane has a row, and the row of that link's decision is put.
+-- `link_row`: the identity is borne, so its lane has a row, and the row of what is seen of that link is put.
 use borrow.Author.Needs.{needs}
 use lib.ListN.{length}
 use mathlib.Core.List.{List}
@@ -48,16 +48,16 @@ module _ (found : tie.After-r) where
   row-is : last start ≡ suc row
   row-is = let asked : tie.After-lane-row = search in found-row _ (asked .lane-row .ensures) (found .r .given .1)
 
--- ---- the words of its decision are those of the link
-module _ (decided : tie.After-link-decision) where
+-- ---- the words of what is seen are those of the link
+module _ (looked : tie.After-link-seen) where
   abbrev found : tie.After-r
   found = search
 
   abbrev begun : tie.Start
   begun = start found
 
-  words-same : rowOf (begun .args .lane) (row found) (decided .link-decision .result) ≡ words begun
-  words-same = link-row _ _ _ _ refl (row-is found) (decided .link-decision .ensures .0)
+  words-same : rowOf (begun .args .lane) (row found) (looked .link-seen .result) ≡ words begun
+  words-same = link-row _ _ _ _ refl (row-is found) (looked .link-seen .ensures .0)
 
 -- ---- the answers
 lane-row-requires : tie.Need-lane-row-requires
@@ -68,11 +68,11 @@ lane-row-requires c κs =
 enum-known-r : tie.Need-enum-known-r
 enum-known-r c = search needs
 
-cast-link-decision : tie.Need-cast-link-decision
-cast-link-decision c = search needs
+cast-link-seen : tie.Need-cast-link-seen
+cast-link-seen c = search needs
 
-link-decision-requires : tie.Need-link-decision-requires
-link-decision-requires c κs =
+link-seen-requires : tie.Need-link-seen-requires
+link-seen-requires c κs =
     let found : tie.After-r = search in
     let start : tie.Start = search in
     let most = last-le (count start) (isId (start .args .lanes .now) (start .args .id .0)) in
@@ -83,10 +83,10 @@ cast-put-row c = search needs
 
 put-row-requires : tie.Need-put-row-requires
 put-row-requires c κs =
-    let decided : tie.After-link-decision = search in
+    let looked : tie.After-link-seen = search in
     let start : tie.Start = search in
     let place-low = start .pre .1 .1 .0 .1 in
-    ((place-low, decided .link-decision .ensures .1), rw (sym (words-same decided)) at (room start))
+    ((place-low, looked .link-seen .ensures .1), rw (sym (words-same looked)) at (room start))
 
 enum-told : tie.Need-enum-told
 enum-told c = search needs
@@ -99,8 +99,8 @@ same-length c =
 returns : tie.Need-returns
 returns c =
     let put : tie.After-put-row = search in
-    let decided : tie.After-link-decision = search in
-    rw (words-same decided) at (put .put-row .ensures)
+    let looked : tie.After-link-seen = search in
+    rw (words-same looked) at (put .put-row .ensures)
 
 returns-2 : tie.Need-returns-2
 returns-2 c =
@@ -115,8 +115,8 @@ link-row-spec =
     (tie.spec
     lane-row-requires
     enum-known-r
-    cast-link-decision
-    link-decision-requires
+    cast-link-seen
+    link-seen-requires
     cast-put-row
     put-row-requires
     enum-told

@@ -1,8 +1,9 @@
--- `vz_distance`: the distance of the segments between the four points.
+-- `vz_distance`: the distance of the segments between the four points, and the two places.
 use borrow.Author.Needs.{needs}
-use mathlib.Core.Path.{_∙_}
+use mathlib.Core.Path.{ap, _∙_}
 use mathlib.Core.List.{[], _∷_}
-use Rattle.geometry.specs.Segment.{distanceOf}
+use Rattle.geometry.specs.Segment.{closestOf}
+use Rattle.vorzhyket.specs.Exported.{exportedClosest}
 use Rattle.vorzhyket.proofs.measures.vz_distance.Statement.{statement}
 use Rattle.vorzhyket.proofs.measures.vz_distance.Tie as tie
 
@@ -23,6 +24,7 @@ distance-requires c κs = search needs
 
 returns : tie.Need-returns
 returns c =
+    let measured : tie.After-distance = search in
     let fourth : tie.After-point-at4 = search in
     let third : tie.After-point-at3 = search in
     let second : tie.After-point-at2 = search in
@@ -31,7 +33,7 @@ returns c =
     let q = second .point-at2 .ensures in
     let r = third .point-at3 .ensures in
     let s = fourth .point-at4 .ensures in
-    c .distance .ensures ∙ (λ i. distanceOf (p i ∷ q i ∷ []) (r i ∷ s i ∷ []))
+    ap exportedClosest (measured .distance .ensures ∙ (λ i. closestOf (p i ∷ q i ∷ []) (r i ∷ s i ∷ [])))
 
 pub vz-distance-spec : {M : Type 1} → statement M
 vz-distance-spec =

@@ -1,9 +1,9 @@
--- `link_decision` decides by the least gap between the ends of two lanes.
+-- `link_seen` is the geometry's answer for the ends of two lanes.
 use borrow.Author.Needs.{needs}
-use Rattle.gaps.specs.Links.{decisionAt}
-use Rattle.gaps.proofs.RowLaws.{decision-is, link-gap}
-use Rattle.gaps.proofs.links.link_decision.Statement.{statement}
-use Rattle.gaps.proofs.links.link_decision.Tie as tie
+use Rattle.gaps.specs.Links.{seenAt}
+use Rattle.gaps.proofs.RowLaws.{link-seen}
+use Rattle.gaps.proofs.links.link_seen.Statement.{statement}
+use Rattle.gaps.proofs.links.link_seen.Tie as tie
 
 mul-direction : tie.Need-mul-direction
 mul-direction c = search needs
@@ -41,26 +41,21 @@ ends-at-requires c κs = search needs
 ends-at-requires-2 : tie.Need-ends-at-requires-2
 ends-at-requires-2 c κs = search needs
 
-least-gap-requires : tie.Need-least-gap-requires
-least-gap-requires c κs = search needs
-
-gap-decision-requires : tie.Need-gap-decision-requires
-gap-decision-requires c κs = search needs
+link-gap-requires : tie.Need-link-gap-requires
+link-gap-requires c κs = search needs
 
 returns : tie.Need-returns
-unfolding decisionAt
+unfolding seenAt
 returns c =
-    let gap : tie.After-least-gap = search in
     let to : tie.After-ends-at2 = search in
     let from : tie.After-ends-at = search in
     let enters : tie.After-direction2 = search in
     let leaves : tie.After-direction = search in
-    decision-is _ _ _ _ (c .gap-decision .ensures)
-    (link-gap (gap .least-gap .ensures) (from .ends-at .ensures) (leaves .direction .ensures)
-    (to .ends-at2 .ensures) (enters .direction2 .ensures))
+    link-seen (c .link-gap .ensures) (from .ends-at .ensures) (leaves .direction .ensures)
+    (to .ends-at2 .ensures) (enters .direction2 .ensures)
 
-pub link-decision-spec : {M : Type 1} → statement M
-link-decision-spec =
+pub link-seen-spec : {M : Type 1} → statement M
+link-seen-spec =
     tie.close
     (tie.spec
     mul-direction
@@ -75,6 +70,5 @@ link-decision-spec =
     direction-requires-2
     ends-at-requires
     ends-at-requires-2
-    least-gap-requires
-    gap-decision-requires
+    link-gap-requires
     returns)
