@@ -1,9 +1,13 @@
-// The bench cards of the root, the clamp, the distance and the gap decision, and the lane links of a small map.
+// The bench cards of the root, the clamp, the distance and the gap decision, places among them, and the lane links of a
+// small map.
 use crate::print::print;
 use crate::print::print_bits;
 use crate::print::print_number;
 use geometry::gap::Decision;
 use geometry::gap::Direction;
+use geometry::gap::Seen;
+use geometry::gap::link_gap;
+use geometry::gap::place_bits;
 use geometry::root::SquareRoot;
 use geometry::segment::Point;
 
@@ -42,17 +46,41 @@ fn print_root(bits: u32) {
     }
 }
 
-fn print_gap(gap: f32) {
-    print(b"gap ");
-    print_float(gap);
-    match geometry::gap::gap_decision(gap) {
+// The bits of a place as rows have them, or nan.
+fn print_place(x: f32) {
+    if x != x {
+        print(b"nan");
+        return;
+    }
+    print_bits(place_bits(x));
+}
+
+// Passed, or what a row has: the width and the two places.
+fn print_seen(seen: Seen) {
+    let decision = seen.decision;
+    match decision {
         Decision::Passed => print(b": passed\n"),
         Decision::Wide(w) => {
             print(b": wide ");
             print_float(w);
+            print(b" at ");
+            print_place(seen.u);
+            print(b" and ");
+            print_place(seen.v);
             print(b"\n");
         }
     }
+}
+
+// Two lanes that are points this far apart.
+fn print_gap(gap: f32) {
+    print(b"gap ");
+    print_float(gap);
+    let zero = at(0.0, 0.0);
+    let there = at(gap, 0.0);
+    let from = [[zero, zero], [zero, zero]];
+    let to = [[there, there], [there, there]];
+    print_seen(link_gap(from, Direction::Forward, to, Direction::Forward));
 }
 
 fn print_clamp(bits: u32) {
@@ -71,7 +99,12 @@ fn at(x: f32, y: f32) -> Point {
 fn print_distance(label: &[u8], first: [Point; 2], second: [Point; 2]) {
     print(label);
     print(b" = ");
-    print_float(geometry::segment::distance(first, second));
+    let closest = geometry::segment::distance(first, second);
+    print_float(closest.gap);
+    print(b" at ");
+    print_float(closest.u);
+    print(b" and ");
+    print_float(closest.v);
     print(b"\n");
 }
 
@@ -125,16 +158,73 @@ fn across(x: f32) -> [Point; 2] {
     [at(x, 0.0), at(x, 2.0)]
 }
 
-// The least of four distances, all NaN, and of four numbers.
+// The least of four distances, all NaN, and of four numbers: infinity at 0 and 0, and the first of the least.
 fn show_least_gaps() {
     let odd = at(value(NAN), 4.0);
     let here = [across(0.0), across(10.0)];
     let nowhere = [[odd, odd], [odd, odd]];
     let there = [across(40.0), across(12.5)];
-    print(b"two-way lane to one of nan, ");
-    print_gap(geometry::gap::least_gap(here, Direction::Both, nowhere, Direction::Both));
-    print(b"two-way lanes 40, 12.5, 30 and 2.5 apart, ");
-    print_gap(geometry::gap::least_gap(here, Direction::Both, there, Direction::Both));
+    print(b"two-way lane to one of nan");
+    print_seen(link_gap(here, Direction::Both, nowhere, Direction::Both));
+    print(b"two-way lanes 40, 12.5, 30 and 2.5 apart");
+    print_seen(link_gap(here, Direction::Both, there, Direction::Both));
+}
+
+// A line along the x axis, 4 long.
+fn along() -> [Point; 2] {
+    [at(0.0, 0.0), at(4.0, 0.0)]
+}
+
+// A line over its first quarter, this high, met in the middle.
+fn over(z: f32) -> [Point; 2] {
+    [Point { x: 1.0, y: -1.0, z }, Point { x: 1.0, y: 1.0, z }]
+}
+
+// A link from a lane that ends so to one that starts so.
+fn print_link_of(label: &[u8], end: [Point; 2], start: [Point; 2]) {
+    let nowhere = across(1000.0);
+    print(label);
+    print_seen(link_gap(
+        [nowhere, end],
+        Direction::Forward,
+        [start, nowhere],
+        Direction::Forward,
+    ));
+}
+
+// Places inside both edges; -0, which rows have as +0; and a distance past the largest f32, whose rows have 0 and 0.
+fn show_places() {
+    let by = at(0.25, 0.0);
+    print_distance(
+        b"distance (0,0,0)-(4,0,0) to (1,-1,0.5)-(1,1,0.5)",
+        along(),
+        over(0.5),
+    );
+    print_distance(
+        b"distance (0,0,0)-(0,2,0) to the point (0.25,0,0)",
+        across(0.0),
+        [by, by],
+    );
+    print_distance(
+        b"distance (0,0,0)-(4,0,0) to (1,-1,1e30)-(1,1,1e30)",
+        along(),
+        over(1.0e30),
+    );
+    print_link_of(b"a link of the first two", along(), over(0.5));
+    print_link_of(b"of the second two", across(0.0), [by, by]);
+    print_link_of(b"of the third two", along(), over(1.0e30));
+}
+
+// A two-way lane with both ends equally near, its end drawn onward and its start back; and with the two swapped. The
+// end is shown.
+fn show_tie() {
+    let onward = along();
+    let back = [onward[1], onward[0]];
+    let next = [over(0.5), across(1000.0)];
+    print(b"two-way lane, both ends equally near");
+    print_seen(link_gap([back, onward], Direction::Both, next, Direction::Forward));
+    print(b"swapped");
+    print_seen(link_gap([onward, back], Direction::Both, next, Direction::Forward));
 }
 
 // The lanes 7, 3, 5 and 9 along the x axis: of each, two points at its start and two at its end.
@@ -146,7 +236,7 @@ pub const EDGES_5: [f32; 12] = [6.0, 0.0, 0.0, 6.0, 3.5, 0.0, 4.0, 0.0, 0.0, 4.0
 
 pub const EDGES_9: [f32; 12] = [9.0, 0.0, 0.0, 9.0, 3.5, 0.0, 7.0, 0.0, 0.0, 7.0, 3.5, 0.0];
 
-// A lane, the next one, their gap, and whether it is passed or wide.
+// A lane, the next one, and whether their gap is passed or wide.
 fn print_link(
     lane: u32,
     here: [f32; 12],
@@ -159,10 +249,9 @@ fn print_link(
     print_number(lane);
     print(b" -> ");
     print_number(next);
-    print(b", ");
     let from = geometry::edges::ends_at(&here, 0);
     let to = geometry::edges::ends_at(&there, 0);
-    print_gap(geometry::gap::least_gap(from, way, to, onward));
+    print_seen(link_gap(from, way, to, onward));
 }
 
 pub fn show() {
@@ -170,6 +259,8 @@ pub fn show() {
     show_numbers();
     show_distances();
     show_least_gaps();
+    show_places();
+    show_tie();
     print_link(
         7,
         EDGES_7,

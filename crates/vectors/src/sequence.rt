@@ -68,18 +68,22 @@ fn turned(m: Map, marks: [u32; 3]) -> Map {
     }
 }
 
-// The rows of two lanes that do not meet, and the bits of the gap.
-fn print_gap(row: u32, next: u32, bits: u32) {
+// A gap row: two lanes that do not meet, and the bits of the gap and of the two places.
+fn print_gap(row: u32, next: u32, bits: u32, u: u32, v: u32) {
     print(b"lane rows ");
     print_number(row);
     print(b" and ");
     print_number(next);
     print(b", gap ");
     print_bits(bits);
+    print(b" at ");
+    print_bits(u);
+    print(b" and ");
+    print_bits(v);
     print(b"\n");
 }
 
-// The gap rows of a repaired map: two lane rows, and the bits of the gap; nines where the gap check refuses it.
+// The two gap rows of a repaired map; nines where the gap check refuses it.
 fn show_gaps(m: Map, l: Lists) {
     let roads = m.roads;
     let junctions = m.junctions;
@@ -89,7 +93,7 @@ fn show_gaps(m: Map, l: Lists) {
     let edges = m.edges;
     let offsets = l.onward;
     let ids = l.onward_ids;
-    let mut out = [9u32; 6];
+    let mut out = [9u32; 10];
     link_gaps(
         &TEXT,
         &roads,
@@ -103,8 +107,8 @@ fn show_gaps(m: Map, l: Lists) {
         &ids,
         &mut out,
     );
-    print_gap(out[0], out[1], out[2]);
-    print_gap(out[3], out[4], out[5]);
+    print_gap(out[0], out[1], out[2], out[3], out[4]);
+    print_gap(out[5], out[6], out[7], out[8], out[9]);
 }
 
 // Repair's warning, the lists, the gap rows.

@@ -104,8 +104,8 @@ pub extern "C" fn vz_succession(
     listed(a, written)
 }
 
-// The lane links whose ends do not meet: the lane's row, its successor's row, and the bits of the gap and of how far along
-// the lane's end and the successor's the two come closest.
+// The lane links whose ends do not meet: the lane's row, its successor's row, and the bits of the gap and of how far
+// along the lane's end and the successor's the two come closest.
 #[no_mangle]
 pub extern "C" fn vz_gaps(
     text: &[u8],
