@@ -182,18 +182,26 @@ fn main() {
     geometry(times);
 }
 
-/// The gap check alone, the two in turns, on towns of which nearly no lanes meet and on towns of which nearly all do.
+/// The gap check alone, the two in turns: on towns of which nearly all lanes meet, on towns of which nearly none do, and on the same with all lanes two-way.
 fn gap_checks(times: usize) {
     println!("\n| map | links | gaps | this library, us | original, us | ratio |\n|---|---:|---:|---:|---:|---:|");
     for (roads, lanes) in [(400, 4_000), (1_600, 16_384)] {
-        let (apart, [offsets, ids], _) = linked(&town(roads, lanes), 1);
-        let links = ids.len();
-        for (map, m, few) in [("a town whose lanes meet", meeting(&apart, &offsets, &ids), true), ("the town above", apart, false)] {
-            let theirs = original::linked(&m);
+        let mut both = town(roads, lanes);
+        let apart = linked(&both, 1);
+        let meets = meeting(&apart.0, &apart.1[0], &apart.1[1]);
+        both.lanes.chunks_mut(LANE).for_each(|lane| lane[5] = 2);
+        let both = linked(&both, 1);
+        for (map, m, [offsets, ids], few) in [
+            ("a town whose lanes meet", &meets, &apart.1, true),
+            ("the town above", &apart.0, &apart.1, false),
+            ("the town above, all lanes two-way", &both.0, &both.1, false),
+        ] {
+            let links = ids.len();
+            let theirs = original::linked(m);
             let mut out = calls::Buffers::new([GAP * links]);
             let mut least = [f64::INFINITY; 2];
             for _ in 0..times {
-                least[0] = least[0].min(clocked(|| assert_eq!(out.gaps(&m, &offsets, &ids), 0)));
+                least[0] = least[0].min(clocked(|| assert_eq!(out.gaps(m, offsets, ids), 0)));
                 least[1] = least[1].min(clocked(|| original::gap_count(&theirs)));
             }
             let gaps = out.written[0] as usize;
