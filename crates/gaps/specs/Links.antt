@@ -37,6 +37,7 @@ abbrev pub rowWith : ℕ → ℕ → (u v : Float) → List ℕ → List ℕ
 rowWith lane next u v [] = []
 rowWith lane next u v (b ∷ bs) = lane ∷ next ∷ b ∷ placeBits u ∷ placeBits v ∷ []
 
+-- the row of what is seen of a link
 abbrev pub rowOf : ℕ → ℕ → Seen → List ℕ
 rowOf lane next seen = rowWith lane next (seen .u) (seen .v) (rowBits (seen .decision))
 
@@ -45,7 +46,7 @@ abbrev pub isNumber : Decision → Bool
 isNumber Passed = true
 isNumber (Wide w) = not (isNan w)
 
--- a width and two places that have
+-- what is seen of a link is in numbers, so that width and places have bits of their own
 pub record Numbers (seen : Seen) : Type 0 where
   pub width : T (isNumber (seen .decision))
   pub u : T (not (isNan (seen .u)))

@@ -12,10 +12,10 @@ use borrow.Author.Tests.{ltb-true, ltb-false, lt-ltb}
 use Rattle.geometry.specs.declared.segment.Point.{Point}
 use Rattle.geometry.specs.declared.segment.Closest.{Closest}
 use Rattle.geometry.specs.declared.gap.Direction.{Direction}
-use Rattle.geometry.specs.Gap.{exitsOf, entriesOf, better, chosenOf, bestFrom, unmet, pairsOf, closestEnds}
+use Rattle.geometry.specs.Segment.{closestOf}
+use Rattle.geometry.specs.Gap.{exitsOf, entriesOf, better, chosenOf, bestFrom, unmet, endPairs, closestEnds}
 use Rattle.geometry.proofs.FloatOrder.{nan-or-not, nan-le, below-number, le-is}
-use Rattle.geometry.proofs.GapOrder.{Plain, plain-order, distance-plain, inf-plain}
-use Rattle.geometry.proofs.PlaceOrder.{Each, each-pair}
+use Rattle.geometry.proofs.GapOrder.{Each, Plain, each-pair, plain-order, distance-plain, inf-plain}
 
 -- c stands in the list, each earlier pair has a gap that is larger or a NaN, and no later one a smaller
 pub record First (c : Closest) (pairs : List Closest) : Type 0 where
@@ -121,12 +121,12 @@ best-first a (x ∷ pairs) plain-a plain =
         inr (below-a, more (still-above _ _ _ plain-a plain-b (plain .0) below-a not-below) first)
 
 pub ends-first : (from : List (List Point)) (df : Direction) (to : List (List Point)) (dt : Direction)
-    → ((closestEnds from df to dt ≡ unmet) × NoneBelow (inf false) (pairsOf (exitsOf df from) (entriesOf dt to)))
-    ⊎ First (closestEnds from df to dt) (pairsOf (exitsOf df from) (entriesOf dt to))
+    → ((closestEnds from df to dt ≡ unmet) × NoneBelow (inf false) (endPairs (exitsOf df from) (entriesOf dt to)))
+    ⊎ First (closestEnds from df to dt) (endPairs (exitsOf df from) (entriesOf dt to))
 unfolding closestEnds
 ends-first from df to dt =
-    let plain = each-pair PlainGap distance-plain (exitsOf df from) (entriesOf dt to) in
-    elim (best-first unmet (pairsOf (exitsOf df from) (entriesOf dt to)) inf-plain plain) [
+    let plain = each-pair PlainGap closestOf distance-plain (exitsOf df from) (entriesOf dt to) in
+    elim (best-first unmet (endPairs (exitsOf df from) (entriesOf dt to)) inf-plain plain) [
       | inl none ↦ inl none
       | inr (below, first) ↦ inr first
     ]

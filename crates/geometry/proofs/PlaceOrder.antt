@@ -12,9 +12,9 @@ use Rattle.geometry.specs.declared.gap.Direction.{Direction}
 use Rattle.geometry.specs.declared.gap.Direction.the-variants.{Forward, Backward, Both}
 use Rattle.geometry.specs.Segment.{nought, distanceOf, closestOf}
 use Rattle.geometry.specs.Gap.{minOf, leastFrom, exitsOf, entriesOf, distancesOf, gapOf, flipped, swapped}
-use Rattle.geometry.specs.Gap.{better, chosenOf, bestFrom, unmet, pairsOf, closestEnds}
+use Rattle.geometry.specs.Gap.{better, chosenOf, bestFrom, unmet, endPairs, closestEnds}
 use Rattle.geometry.proofs.FloatOrder.{below-number}
-use Rattle.geometry.proofs.GapOrder.{min-numbers, inf-inf, inf-no-nan}
+use Rattle.geometry.proofs.GapOrder.{Each, each-pair, min-numbers, inf-inf, inf-no-nan}
 use Rattle.geometry.proofs.Places.{Within, places-within}
 
 -- ---- a one-way lane turned round has the same ends, so the same choice
@@ -37,31 +37,16 @@ one-way-to from to df Forward one-way = refl
 one-way-to from to df Backward one-way = refl
 one-way-to from to df Both one-way = absurd one-way
 
--- ---- the pairs: each is the closest of an exit and an entry
--- P holds of each pair
-abbrev pub Each : (Closest → Type 0) → List Closest → Type 0
-Each P [] = Unit
-Each P (c ∷ cs) = P c × Each P cs
-
-pub each-pair : (P : Closest → Type 0) → ((exit entry : List Point) → P (closestOf exit entry))
-    → (exits entries : List (List Point)) → Each P (pairsOf exits entries)
-each-pair P holds [] entries = tt
-each-pair P holds (exit ∷ exits) entries = row entries (each-pair P holds exits entries)
-  where
-    row : (left : List (List Point)) → Each P (pairsOf exits entries)
-        → Each P (map (closestOf exit) left ++ pairsOf exits entries)
-    row [] rest = rest
-    row (entry ∷ left) rest = (holds exit entry, row left rest)
-
+-- ---- the gaps of all pairs are the distances
 abbrev gaps : List Closest → List Float
 gaps cs = map (λ (c : Closest). c .gap) cs
 
-gaps-of-pairs : (exits entries : List (List Point)) → gaps (pairsOf exits entries) ≡ distancesOf exits entries
+gaps-of-pairs : (exits entries : List (List Point)) → gaps (endPairs exits entries) ≡ distancesOf exits entries
 gaps-of-pairs [] entries = refl
 gaps-of-pairs (exit ∷ exits) entries = row entries (gaps-of-pairs exits entries)
   where
-    row : (left : List (List Point)) → gaps (pairsOf exits entries) ≡ distancesOf exits entries
-        → gaps (map (closestOf exit) left ++ pairsOf exits entries)
+    row : (left : List (List Point)) → gaps (endPairs exits entries) ≡ distancesOf exits entries
+        → gaps (map (closestOf exit) left ++ endPairs exits entries)
         ≡ map (distanceOf exit) left ++ distancesOf exits entries
     row [] rest = rest
     row (entry ∷ left) rest = ap (λ (ds : List Float). distanceOf exit entry ∷ ds) (row left rest)
@@ -126,8 +111,8 @@ module _ (from : List (List Point)) (df : Direction) (to : List (List Point)) (d
   ends-choice : Choice (closestEnds from df to dt) × (closestEnds from df to dt .gap ≡ gapOf from df to dt)
   unfolding closestEnds gapOf
   ends-choice =
-      let placed = each-pair Placed places-within (exitsOf df from) (entriesOf dt to) in
-      let best = best-choice unmet (pairsOf (exitsOf df from) (entriesOf dt to)) unmet-choice placed in
+      let placed = each-pair Placed closestOf places-within (exitsOf df from) (entriesOf dt to) in
+      let best = best-choice unmet (endPairs (exitsOf df from) (entriesOf dt to)) unmet-choice placed in
       (best .0, best .1 ∙ ap (leastFrom (inf false)) (gaps-of-pairs (exitsOf df from) (entriesOf dt to)))
 
   pub ends-gap : closestEnds from df to dt .gap ≡ gapOf from df to dt

@@ -12,7 +12,7 @@ use Rattle.geometry.specs.declared.gap.Direction.{Direction}
 use Rattle.geometry.specs.Root.{Nearest, rootOf, belowZero, unsigned}
 use Rattle.geometry.specs.Segment.{nought, distanceOf, closestOf}
 use Rattle.geometry.specs.Gap.{leastFrom, gapOf, flipped, swapped, Rearranged}
-use Rattle.geometry.specs.Gap.{exitsOf, entriesOf, pairsOf, unmet, closestEnds}
+use Rattle.geometry.specs.Gap.{exitsOf, entriesOf, endPairs, unmet, closestEnds}
 use Rattle.geometry.proofs.RootNearest.{root-is-nearest, nearest-is-root}
 use Rattle.geometry.proofs.Signs.{not-below}
 use Rattle.geometry.proofs.GapOrder.{AllPlain, root-fits, distance-plain, inf-plain, least-rearranged}
@@ -111,6 +111,6 @@ places-are-numbers from leaves to enters =
 -- earlier pair has a larger gap or a NaN, and no later one a smaller. Only where no gap is below infinity, it is none.
 pub first-least-pair : (from : List (List Point)) (leaves : Direction) (to : List (List Point)) (enters : Direction)
     → ((closestEnds from leaves to enters ≡ unmet)
-    × NoneBelow (inf false) (pairsOf (exitsOf leaves from) (entriesOf enters to)))
-    ⊎ First (closestEnds from leaves to enters) (pairsOf (exitsOf leaves from) (entriesOf enters to))
+    × NoneBelow (inf false) (endPairs (exitsOf leaves from) (entriesOf enters to)))
+    ⊎ First (closestEnds from leaves to enters) (endPairs (exitsOf leaves from) (entriesOf enters to))
 first-least-pair from leaves to enters = ends-first from leaves to enters

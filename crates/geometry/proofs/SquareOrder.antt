@@ -113,7 +113,7 @@ closer-not x y plain-x plain-y not-below = go (nan-or-not x) (nan-or-not y)
         let falls = ltb-false _ _ (sym (plain-order x y plain-x plain-y x-number y-number) ∙ not-below) in
         sym (root-order r s ∙ le-ltb _ _ (at-mono (s .at) (r .at) falls))
 
--- ---- `only`: a root is below infinity where its number is
+-- ---- `only_pair`: a root is below infinity where its number is
 finite-bits : {b r : ℕ} → RootAt b r → ltb r 0x7f80_0000 ≡ ltb b 0x7f80_0000
 finite-bits at-zero = refl
 finite-bits at-infinity = refl

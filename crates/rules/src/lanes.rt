@@ -54,7 +54,7 @@ fn named_alike(lanes: &[u32], i: usize) -> bool
 
 // The row plus 1 of lane i's road, 0 where it is unknown. The lanes of a road mostly stand together, so the road of the
 // lane before, which `owner` has, is taken where the two have their names from one place.
-fn road_of(
+fn lane_road(
     text: &[u8],
     roads: &[u32],
     lanes: &[u32],
@@ -77,8 +77,8 @@ fn road_of(
     index::find_name(text, roads, 20, 0, heads, next, roads.len() / 20, s, l)
 }
 
-// 7: fills `owner` with each lane's road, its row plus 1 (0 where it is unknown), and returns whether each lane's section
-// is listed in its road.
+// 7: fills `owner` with each lane's road, its row plus 1 (0 where it is unknown), and returns whether each lane's
+// section is listed in its road.
 pub fn lanes_listed(
     text: &[u8],
     roads: &[u32],
@@ -102,7 +102,7 @@ pub fn lanes_listed(
     let mut every = true;
     let mut i = 0;
     while i < n {
-        let f = road_of(text, roads, lanes, heads, next, owner, i);
+        let f = lane_road(text, roads, lanes, heads, next, owner, i);
         owner[i] = f as u32;
         every = both(every, section_known(roads, sections, f, lanes[i * 10 + 3]));
         i += 1;

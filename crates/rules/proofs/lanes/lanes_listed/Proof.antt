@@ -77,18 +77,18 @@ module _ (turn : Turn) where
   owner-fits = omega (arith, turn .loop-test .taken, head .loop .inv .room, few-lanes start)
 
 -- the row that was found is that of lane i's road
-module _ (found : tie.After-road-of Inv-loop μ-loop) where
+module _ (found : tie.After-lane-road Inv-loop μ-loop) where
   abbrev turn : Turn
   turn = search
 
-  road-is : found .road-of .result
+  road-is : found .lane-road .result
       ≡ lastOf (length (start turn .args .roads .now) / 20)
       (bears (start turn .args .text .now) 20 0 (start turn .args .roads .now)
       (nameAt 10 1 (start turn .args .lanes .now) (head turn .loop .i)))
   unfolding roadRowOf
-  road-is = found .road-of .ensures
+  road-is = found .lane-road .ensures
 
-  road-small : found .road-of .result ≤ length (start turn .args .roads .now) / 20
+  road-small : found .lane-road .result ≤ length (start turn .args .roads .now) / 20
   road-small = found-le _ _ road-is
 
 loop-holds : tie.Need-loop-holds Inv-loop μ-loop
@@ -96,8 +96,8 @@ loop-holds c =
     let start : Start = search in
     listing-none (owners start)
 
-road-of-requires : tie.Need-road-of-requires Inv-loop μ-loop
-road-of-requires c κs =
+lane-road-requires : tie.Need-lane-road-requires Inv-loop μ-loop
+lane-road-requires c κs =
     let turn : Turn = search in
     let head : Head = search in
     let start : Start = search in (
@@ -174,7 +174,7 @@ lanes-listed-spec =
     Inv-loop
     μ-loop
     loop-holds
-    road-of-requires
+    lane-road-requires
     cast-owner
     mul-owner
     slice-write-owner

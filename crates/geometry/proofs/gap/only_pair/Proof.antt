@@ -1,4 +1,4 @@
--- `geometry::gap::only` meets its contract. Assumes nothing.
+-- `geometry::gap::only_pair` meets its contract. Assumes nothing.
 use mathlib.Core.Path.{ap, _∙_}
 use lib.Dec.{lit≤}
 use Rattle.geometry.specs.Gap.{seenOf}
@@ -6,8 +6,8 @@ use Rattle.geometry.proofs.Patterns.{no-nan}
 use Rattle.geometry.proofs.SegmentLaws.{near-plain}
 use Rattle.geometry.proofs.GapSteps.{only-this, only-none}
 use borrow.Author.Needs.{needs}
-use Rattle.geometry.proofs.gap.only.Statement.{statement}
-use Rattle.geometry.proofs.gap.only.Tie as tie
+use Rattle.geometry.proofs.gap.only_pair.Statement.{statement}
+use Rattle.geometry.proofs.gap.only_pair.Tie as tie
 
 array-copy-out-nearest : tie.Need-array-copy-out-nearest
 array-copy-out-nearest c = search needs
@@ -41,8 +41,8 @@ returns c =
     let this = only-this (start .args .t1) (start .args .t2) (near .nearest .ensures) (below .if1 .taken) in
     c .seen-of .ensures ∙ ap seenOf this
 
-none-requires : tie.Need-none-requires
-none-requires c κs = search needs
+no-pair-requires : tie.Need-no-pair-requires
+no-pair-requires c κs = search needs
 
 seen-of-requires-2 : tie.Need-seen-of-requires-2
 seen-of-requires-2 c κs = search needs
@@ -52,12 +52,12 @@ returns-2 c =
     let start : tie.Start = search in
     let near : tie.After-nearest = search in
     let past : tie.Else1 = search in
-    let unmet : tie.After-none = search in
+    let unmet : tie.After-no-pair = search in
     let none = only-none (start .args .t1) (start .args .t2) (near .nearest .ensures) (past .if1 .left) in
-    c .seen-of2 .ensures ∙ ap seenOf (unmet .none .ensures .0 ∙ none)
+    c .seen-of2 .ensures ∙ ap seenOf (unmet .no-pair .ensures .0 ∙ none)
 
-pub only-spec : {M : Type 1} → statement M
-only-spec =
+pub only-pair-spec : {M : Type 1} → statement M
+only-pair-spec =
     tie.close
     (tie.spec
     array-copy-out-nearest
@@ -68,6 +68,6 @@ only-spec =
     float-from-bits-if1
     seen-of-requires
     returns
-    none-requires
+    no-pair-requires
     seen-of-requires-2
     returns-2)

@@ -7,8 +7,8 @@ use lib.ListN.{length}
 use Rattle.words.specs.Rows.{nameAt, span}
 use Rattle.words.proofs.KeyLaws.{rows-in}
 use Rattle.rules.specs.ByRow.{roadRowOf}
-use Rattle.rules.proofs.lanes.road_of.Statement.{statement}
-use Rattle.rules.proofs.lanes.road_of.Tie as tie
+use Rattle.rules.proofs.lanes.lane_road.Statement.{statement}
+use Rattle.rules.proofs.lanes.lane_road.Tie as tie
 
 -- the lane before has its name by the same words
 module _ (alike : tie.Then1) where
@@ -71,8 +71,8 @@ returns-2 c =
     let name-is = ap₂ span (first .word2 .ensures .0) (second .word3 .ensures .0) in
     c .find-name .ensures ∙ rw name-is
 
-pub road-of-spec : {M : Type 1} → statement M
-road-of-spec =
+pub lane-road-spec : {M : Type 1} → statement M
+lane-road-spec =
     tie.close
     (tie.spec
     named-alike-requires
