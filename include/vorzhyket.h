@@ -111,8 +111,8 @@ uint32_t vz_succession(
     uint32_t written[4]);
 
 /* Measures the gap of every lane link, by the successors' offsets and identities. Writes a row for each link whose
- * gap is not at most 0.1. Of a two-way lane's ends the first pair with the least distance counts: the lane's end before
- * its start, then the successor's likewise. Refuses by 1 to 11. */
+ * gap is not at most 0.1. Of the pairs of ends that are equally near, which two-way lanes can have, the one with the
+ * smallest u counts, then the smallest v; -0 equals 0. Refuses by 1 to 11. */
 uint32_t vz_gaps(
     const uint8_t *text, size_t text_length,
     const uint32_t *roads, size_t roads_length,

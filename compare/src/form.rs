@@ -1,6 +1,6 @@
 //! A map in the plain text of docs/MAP-FORMAT.md, and what the tool `lanes` has to print of it: written from that document,
 //! beside what the original finds.
-use crate::original::{distance, GapRow, Lists, Repaired};
+use crate::original::{closest, GapRow, Lists, Repaired};
 use crate::tables::{Tables, ABSENT, CONNECTION, EDGE, JUNCTION, LANE, PAIR, ROAD};
 
 /// A map in one of two spellings: names as they are and edges as bits, or some names so that they need quotation marks,
@@ -240,23 +240,26 @@ impl Form<'_> {
         (rows, sum)
     }
 
-    /// Where the exit and the entry of a gap come closest; none where it is infinite. Of several pairs of ends that are as
-    /// far apart it is the first: exits end before start, then entries likewise.
+    /// Where the exit and the entry of a gap come closest; none where it is infinite. Of several pairs of ends that are
+    /// as far apart at the row's places it is the one of which the exit's x is smallest, then its y, then the entry's x
+    /// and y; then the coordinates of the exit's edge, and of the entry's.
     fn places(&self, g: &GapRow) -> Option<[Place; 2]> {
         let across = |row: u32, end: usize| -> [f32; 6] { self.map.edges[row as usize * EDGE + 6 * end..][..6].try_into().unwrap() };
         let way = |row: u32| self.map.lanes[row as usize * LANE + 5];
         if g[2] == f32::INFINITY.to_bits() {
             return None;
         }
+        let place = |k: usize, end: usize| {
+            let (p, part) = (across(g[k], end).map(f64::from), f64::from(f32::from_bits(g[3 + k])));
+            let [dx, dy, dz] = [p[3] - p[0], p[4] - p[1], p[5] - p[2]];
+            Place { end, along: part * (dx * dx + dy * dy + dz * dz).sqrt(), at: [p[0] + part * dx, p[1] + part * dy] }
+        };
         let entries = ends(way(g[1]), false);
         let pairs = ends(way(g[0]), true).into_iter().flat_map(|exit| entries.iter().map(move |&entry| [exit, entry]));
-        let near = |&[exit, entry]: &[usize; 2]| distance(&across(g[0], exit), &across(g[1], entry)).to_bits() == g[2];
-        let ends = pairs.into_iter().find(near).expect("a pair that is as far apart as the gap is wide");
-        Some([0, 1].map(|k| {
-            let (p, part) = (across(g[k], ends[k]).map(f64::from), f64::from(f32::from_bits(g[3 + k])));
-            let [dx, dy, dz] = [p[3] - p[0], p[4] - p[1], p[5] - p[2]];
-            Place { end: ends[k], along: part * (dx * dx + dy * dy + dz * dz).sqrt(), at: [p[0] + part * dx, p[1] + part * dy] }
-        }))
+        let near = |&[exit, entry]: &[usize; 2]| closest(&across(g[0], exit), &across(g[1], entry)).map(|x| (x + 0.0).to_bits()) == g[2..];
+        let key = |[exit, entry]: [usize; 2]| (place(0, exit).at, place(1, entry).at, across(g[0], exit), across(g[1], entry));
+        let [exit, entry] = pairs.filter(near).min_by(|&a, &b| key(a).partial_cmp(&key(b)).unwrap()).expect("a pair of ends as the row says");
+        Some([place(0, exit), place(1, entry)])
     }
 
     /// The gaps as `check` shows them, widest first, with the place on the exit.

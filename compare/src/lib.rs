@@ -9,6 +9,7 @@ pub mod maps;
 pub mod measures;
 pub mod original;
 pub mod ours;
+pub mod places;
 pub mod raw;
 pub mod reversal;
 pub mod rules;

@@ -57,6 +57,42 @@ pub fn on_a_grid(t: &mut Tables, dice: &mut Dice) {
     }
 }
 
+/// The points across the lanes of one in four maps anew: each edge runs along one slope, or straight off it from a
+/// point beside it or above its top. All of these are equally near the slope, at places along it that differ, and at -0
+/// or +0 of the edge that runs off.
+pub fn on_a_slope(t: &mut Tables, dice: &mut Dice) {
+    if !dice.one_in(4) {
+        return;
+    }
+    for lane in t.edges.chunks_mut(EDGE) {
+        let along = dice.one_in(2);
+        for edge in lane.chunks_mut(EDGE / 2) {
+            let [[x, y, z], [dx, dy, dz]] = if along != dice.one_in(8) {
+                let (down, up) = ([[0.0, 1.0, 1.0], [0.0, -1.0, -1.0]], [[0.0; 3], [0.0, 1.0, 1.0]]);
+                dice.pick(&[down, down, down, up])
+            } else {
+                let (down, beside) = if dice.one_in(4) { (-0.5, 0.0) } else { (dice.below(5) as f32 / 8.0, dice.pick(&[0.5, -0.5])) };
+                [[0.0, 1.0 - down + beside, 1.0 - down - beside], [dice.pick(&[1.0, -1.0]), 0.0, 0.0]]
+            };
+            edge.copy_from_slice(&[x, y, z, x + dx, y + dy, z + dz]);
+        }
+    }
+}
+
+/// The points across the starts of the lanes of one in four maps anew: those across their ends, turned half round one
+/// upright axis. Start and start are then as far apart as end and end, at the same places u and v, and elsewhere.
+pub fn half_round(t: &mut Tables, dice: &mut Dice) {
+    if !dice.one_in(4) {
+        return;
+    }
+    let about = [dice.below(3) as f32 * 0.5, 9.0];
+    for lane in t.edges.chunks_mut(EDGE) {
+        let (start, end) = lane.split_at_mut(EDGE / 2);
+        start.copy_from_slice(end);
+        start.chunks_mut(3).for_each(|p| (0..2).for_each(|k| p[k] = about[k] - p[k]));
+    }
+}
+
 /// What a random map is made with.
 struct Maker<'a> {
     dice: &'a mut Dice,

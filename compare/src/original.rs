@@ -220,10 +220,10 @@ pub struct Near {
     pub square: f32,
 }
 
-/// For each gap row its pairs of ends.
-pub fn pairs(t: &Tables, gaps: &[GapRow]) -> Vec<Vec<Near>> {
-    let (lanes, _) = lanes(t);
-    gaps.iter().map(|g| pairs_of(&lanes[g[0] as usize], &lanes[g[1] as usize])).collect()
+/// A link that `link_gaps` warns of: lane row, successor row and gap bits, and the pairs of ends that the gap is the least of.
+pub struct Wide {
+    pub words: [u32; 3],
+    pub pairs: Vec<Near>,
 }
 
 /// The pairs of ends by which a link can lead on, in the order of `link_gaps`.
@@ -236,8 +236,9 @@ fn pairs_of(lane: &Lane, to: &Lane) -> Vec<Near> {
     crate::parse::gaps::pairs_of_ends(lane, to).into_iter().map(near).collect()
 }
 
-/// The bits of the first least distance that is finite and of its places, with -0 as 0; of infinity, 0, 0 where none is.
-fn first_least(pairs: &[Near]) -> [u32; 3] {
+/// The original's own reading: the bits of the first least distance that is finite and of its places, with -0 as 0; of
+/// infinity, 0, 0 where none is.
+pub fn first_least(pairs: &[Near]) -> [u32; 3] {
     let mut least = [f32::INFINITY, 0.0, 0.0];
     for p in pairs {
         if p.distance < least[0] {
@@ -247,9 +248,8 @@ fn first_least(pairs: &[Near]) -> [u32; 3] {
     least.map(f32::to_bits)
 }
 
-/// Repair, then `resolve`, then `link_gaps`: the lists of every lane, and the gap rows. The places u and v are those of the
-/// first pair of ends that is as far apart as `link_gaps` says.
-pub fn lists_and_gaps(t: &Tables) -> (Lists, Vec<GapRow>) {
+/// Repair, then `resolve`, then `link_gaps`: the lists of every lane, and the links with a gap.
+pub fn lists_and_gaps(t: &Tables) -> (Lists, Vec<Wide>) {
     let Linked { lanes, metas } = linked(t);
     let ids = |l: &[LaneId]| l.iter().map(|i| i.0 as u32).collect::<Vec<_>>();
     let lists = Lists { successors: lanes.iter().map(|l| ids(&l.successors)).collect(), predecessors: lanes.iter().map(|l| ids(&l.predecessors)).collect() };
@@ -259,9 +259,9 @@ pub fn lists_and_gaps(t: &Tables) -> (Lists, Vec<GapRow>) {
         .map(|w| {
             let Warning::LinkGap { road_id, section, lane, to_road_id, to_section, to_lane, gap } = w else { panic!("{w:?}") };
             let (from, to, bits) = (row(&road_id, section, lane), row(&to_road_id, to_section, to_lane), (gap as f32).to_bits());
-            let least = first_least(&pairs_of(&lanes[from as usize], &lanes[to as usize]));
-            assert_eq!(bits, least[0], "`link_gaps` has another gap than the first least pair");
-            [from, to, bits, least[1], least[2]]
+            let pairs = pairs_of(&lanes[from as usize], &lanes[to as usize]);
+            assert_eq!(bits, first_least(&pairs)[0], "`link_gaps` has another gap than the first least pair");
+            Wide { words: [from, to, bits], pairs }
         })
         .collect();
     (lists, gaps)

@@ -1,8 +1,9 @@
 //! Sequences of reversals: the tables after them, and the lists and gap rows that the original finds on them, and this library
-//! as well. Of a row whose lanes are not both one-way the places may be others.
+//! as well. All of these stay; of several least pairs of ends another may be the original's first.
 use crate::calls::{self, REVERSAL_WIDTHS};
-use crate::original::{self, GapRow};
+use crate::original::{self, GapRow, Wide};
 use crate::ours;
+use crate::places;
 use crate::reversal;
 use crate::rules;
 use crate::tables::{Dice, Tables, LANE, ROAD};
@@ -14,15 +15,25 @@ pub struct Count {
     refused: u64,
     one_way: u64,
     two_way: u64,
-    elsewhere: u64,
+    ties: u64,
+    /// Rows of which the original's first least pair shows another place after the reversals.
+    moved: u64,
 }
 
 impl Count {
+    /// A gap row of a map, before reversals and after.
+    fn add(&mut self, map: &Tables, before: &Wide, after: &Wide) {
+        let one_way = before.words[..2].iter().all(|&row| map.lanes[row as usize * LANE + 5] != 2);
+        *(if one_way { &mut self.one_way } else { &mut self.two_way }) += 1;
+        self.ties += u64::from(before.tied());
+        self.moved += u64::from(before.first() != after.first());
+    }
+
     pub fn print(&self) {
         println!("  reversals: {} accepted, {} refused", self.accepted, self.refused);
         println!(
-            "  gap rows after them: {} of one-way lanes, the same in all words; {} of others, the same but for the places, which differ in {}",
-            self.one_way, self.two_way, self.elsewhere
+            "  gap rows after them: {} of one-way lanes, {} of others, {} of these with ties; the same in all words; the original's first least pair moves in {}",
+            self.one_way, self.two_way, self.ties, self.moved
         );
     }
 }
@@ -111,27 +122,25 @@ pub fn run(map: &Tables, dice: &mut Dice, count: &mut Count) -> Result<(), Strin
     if first.0 != last.0 {
         return Err("the original finds other lists after the reversals".into());
     }
-    gap_rows(map, &first.1, &last.1, count)?;
-    if ours::lists_and_gaps(&ours::repair(&now).0) != last {
-        return Err("the two find other lists or gaps after the reversals".into());
+    let (before, after) = (ours::lists_and_gaps(&ours::repair(map).0), ours::lists_and_gaps(&ours::repair(&now).0));
+    if after.0 != last.0 {
+        return Err("the two find other lists after the reversals".into());
     }
+    gap_rows([&before.1, &after.1], [&first.1, &last.1])?;
+    places::beside(&last.1, &after.1)?;
+    first.1.iter().zip(&last.1).for_each(|(a, b)| count.add(map, a, b));
     warnings(map, &now, &set)
 }
 
-/// The gap rows after reversals are those before: three words of each, and all of a row whose two lanes are one-way.
-fn gap_rows(map: &Tables, first: &[GapRow], last: &[GapRow], count: &mut Count) -> Result<(), String> {
-    let one_way = |row: u32| map.lanes[row as usize * LANE + 5] != 2;
-    let wrong = || Err(format!("the original finds other gaps after the reversals\n before {first:?}\n after  {last:?}"));
-    if first.len() != last.len() {
-        return wrong();
+/// The gap rows after reversals are those before, in all words: this library's, and those that the rule picks among the
+/// original's pairs of ends.
+fn gap_rows([before, after]: [&[GapRow]; 2], [first, last]: [&[Wide]; 2]) -> Result<(), String> {
+    if before != after {
+        return Err(format!("this library finds other gaps after the reversals\n before {before:?}\n after  {after:?}"));
     }
-    for (a, b) in first.iter().zip(last) {
-        let both = one_way(a[0]) && one_way(a[1]);
-        if a[..3] != b[..3] || (both && a != b) {
-            return wrong();
-        }
-        *(if both { &mut count.one_way } else { &mut count.two_way }) += 1;
-        count.elsewhere += u64::from(a != b);
+    let rows = |wide: &[Wide]| wide.iter().map(Wide::smallest).collect::<Vec<_>>();
+    if rows(first) != rows(last) {
+        return Err(format!("the original finds other gaps after the reversals\n before {:?}\n after  {:?}", rows(first), rows(last)));
     }
     Ok(())
 }

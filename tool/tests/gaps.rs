@@ -70,29 +70,101 @@ fn a_two_way_lane_has_the_place_at_its_nearer_end() {
     prints("gaps", &map.replace("forward", "both"), 1, &format!("{there}{back}gaps: 2 gaps in 2 links\n"));
 }
 
-/// Where several pairs of ends are equally near, the first counts: exits end before start, then entries likewise.
+/// Road a leads to road b; the lanes run as said, and have these edges.
+fn pair(ways: [&str; 2], edges: [&str; 2]) -> String {
+    format!(
+        "road a to road b start sections 0\nroad b from road a end sections 0\n\
+         lane 1 a 0 -1 {} next -1\nedges {}\nlane 2 b 0 -1 {} back -1\nedges {}\n",
+        ways[0], edges[0], ways[1], edges[1]
+    )
+}
+
+/// Maps with two-way lanes of which several pairs of ends are equally near, and what is said of their gaps.
+fn ties() -> Vec<(String, &'static str)> {
+    vec![
+        // b begins as a point, a metre off both ends of a: u is 0.25 at its start and 0.5 at its end
+        (
+            pair(["both", "forward"], ["-1 -1 0 -1 3 0 1 -2 0 1 2 0", "0 0 0 0 0 0 0 30 0 4 30 0"]),
+            "a/0/-1 to b/0/-1: 1.000000 m (bits 3f800000)\n\
+             \x20 a/0/-1 at its start, 1.000 m from the first point: x -1.000 m, y 0.000 m\n\
+             \x20 b/0/-1 at its start, 0.000 m from the first point: x 0.000 m, y 0.000 m\n\
+             gaps: 1 gap in 1 link\n",
+        ),
+        // b starts and ends a metre behind the end of a, beside either half of it: u is 0 at its start
+        (
+            pair(["forward", "both"], ["0 0 0 0 -4 0 10 0 0 10 -4 0", "11 0 0 11 -2 0 11 -2 0 11 -4 0"]),
+            "a/0/-1 to b/0/-1: 1.000000 m (bits 3f800000)\n\
+             \x20 a/0/-1 at its end, 0.000 m from the first point: x 10.000 m, y 0.000 m\n\
+             \x20 b/0/-1 at its start, 0.000 m from the first point: x 11.000 m, y 0.000 m\n\
+             gaps: 1 gap in 1 link\n",
+        ),
+        // the end of a stands upright, its middle between the two ends of b: u is 0.5 at both, so v decides
+        (
+            pair(["forward", "both"], ["0 -9 0 4 -9 0 0 0 -2 0 0 2", "1 -1 0 1 3 0 -1 -2 0 -1 2 0"]),
+            "a/0/-1 to b/0/-1: 1.000000 m (bits 3f800000)\n\
+             \x20 a/0/-1 at its end, 2.000 m from the first point: x 0.000 m, y 0.000 m\n\
+             \x20 b/0/-1 at its start, 1.000 m from the first point: x 1.000 m, y 0.000 m\n\
+             gaps: 1 gap in 1 link\n",
+        ),
+        // 5 m off the start of b, u is -0 at the end of a and 0 at its start, a point: so v decides, 0.5 or 0.25
+        (
+            pair(["both", "forward"], ["1 5 0 1 5 0 0 3 -4 0 -1 -7", "2 0 0 -2 0 0 0 30 0 4 30 0"]),
+            "a/0/-1 to b/0/-1: 5.000000 m (bits 40a00000)\n\
+             \x20 a/0/-1 at its start, 0.000 m from the first point: x 1.000 m, y 5.000 m\n\
+             \x20 b/0/-1 at its start, 1.000 m from the first point: x 1.000 m, y 0.000 m\n\
+             gaps: 1 gap in 1 link\n",
+        ),
+        // 5 m off the start of b, a point, u is 0 at the end of a and -0 at its start, v is 0: the smaller x counts
+        (
+            pair(["both", "forward"], ["-5 0 0 -5 4 0 3 4 0 6 8 0", "0 0 0 0 0 0 0 30 0 4 30 0"]),
+            "a/0/-1 to b/0/-1: 5.000000 m (bits 40a00000)\n\
+             \x20 a/0/-1 at its start, 0.000 m from the first point: x -5.000 m, y 0.000 m\n\
+             \x20 b/0/-1 at its start, 0.000 m from the first point: x 0.000 m, y 0.000 m\n\
+             gaps: 1 gap in 1 link\n",
+        ),
+        // a is symmetric about the start of b, a point: u and v are equal, so the smaller x of the exit counts
+        (
+            pair(["both", "forward"], ["-1 -2 0 -1 2 0 1 -2 0 1 2 0", "0 0 0 0 0 0 0 30 0 4 30 0"]),
+            "a/0/-1 to b/0/-1: 1.000000 m (bits 3f800000)\n\
+             \x20 a/0/-1 at its start, 2.000 m from the first point: x -1.000 m, y 0.000 m\n\
+             \x20 b/0/-1 at its start, 0.000 m from the first point: x 0.000 m, y 0.000 m\n\
+             gaps: 1 gap in 1 link\n",
+        ),
+        // a ring with a metre between its two roads on either side, alike
+        (
+            "road a from road b end to road b start sections 0\nroad b from road a end to road a start sections 0\n\
+             lane 1 a 0 -1 both next -1\nedges 0 0 0 0 -4 0 10 0 0 10 -4 0\n\
+             lane 2 b 0 -1 both next -1\nedges 11 0 0 11 -4 0 -1 0 0 -1 -4 0\n"
+                .to_string(),
+            "a/0/-1 to b/0/-1: 1.000000 m (bits 3f800000)\n\
+             \x20 a/0/-1 at its start, 0.000 m from the first point: x 0.000 m, y 0.000 m\n\
+             \x20 b/0/-1 at its end, 0.000 m from the first point: x -1.000 m, y 0.000 m\n\
+             b/0/-1 to a/0/-1: 1.000000 m (bits 3f800000)\n\
+             \x20 b/0/-1 at its end, 0.000 m from the first point: x -1.000 m, y 0.000 m\n\
+             \x20 a/0/-1 at its start, 0.000 m from the first point: x 0.000 m, y 0.000 m\n\
+             gaps: 2 gaps in 2 links\n",
+        ),
+    ]
+}
+
+/// Of several pairs of ends that are equally near the smallest u counts, then the smallest v, and where these are equal
+/// too the smallest x and y.
 #[test]
 fn equally_near_ends() {
-    // a ring of two roads with a metre between them on either side: from a the end counts, from b the end too
-    let ring = "road a from road b end to road b start sections 0\nroad b from road a end to road a start sections 0\n\
-                lane 1 a 0 -1 both next -1\nedges 0 0 0 0 -4 0 10 0 0 10 -4 0\n\
-                lane 2 b 0 -1 both next -1\nedges 11 0 0 11 -4 0 -1 0 0 -1 -4 0\n";
-    let there = "a/0/-1 to b/0/-1: 1.000000 m (bits 3f800000)\n\
-                 \x20 a/0/-1 at its end, 0.000 m from the first point: x 10.000 m, y 0.000 m\n\
-                 \x20 b/0/-1 at its start, 0.000 m from the first point: x 11.000 m, y 0.000 m\n";
-    let back = "b/0/-1 to a/0/-1: 1.000000 m (bits 3f800000)\n\
-                \x20 b/0/-1 at its end, 0.000 m from the first point: x -1.000 m, y 0.000 m\n\
-                \x20 a/0/-1 at its start, 0.000 m from the first point: x 0.000 m, y 0.000 m\n";
-    prints("gaps", ring, 1, &format!("{there}{back}gaps: 2 gaps in 2 links\n"));
-    // b starts and ends a metre behind the end of a, beside either half of it: its end counts
-    let turn = "road a to road b start sections 0\nroad b from road a end sections 0\n\
-                lane 1 a 0 -1 forward next -1\nedges 0 0 0 0 -4 0 10 0 0 10 -4 0\n\
-                lane 2 b 0 -1 both back -1\nedges 11 0 0 11 -2 0 11 -2 0 11 -4 0\n";
-    let text = "a/0/-1 to b/0/-1: 1.000000 m (bits 3f800000)\n\
-                \x20 a/0/-1 at its end, 2.000 m from the first point: x 10.000 m, y -2.000 m\n\
-                \x20 b/0/-1 at its end, 0.000 m from the first point: x 11.000 m, y -2.000 m\n\
-                gaps: 1 gap in 1 link\n";
-    prints("gaps", turn, 1, text);
+    for (map, text) in ties() {
+        prints("gaps", &map, 1, text);
+    }
+    // the summary, JSON and the picture have the same places: of the symmetric lane, that with the smaller x
+    let symmetric = &ties()[5].0;
+    assert!(run("", symmetric).text().contains("\n  1.000 m from a/0/-1 to b/0/-1, at -1.00, 0.00\n"));
+    let exit = "\"exit\":{\"end\":\"start\",\"u\":0.5,\"metres\":2,\"x\":-1,\"y\":0}";
+    assert!(run("--json", symmetric).text().contains(exit));
+    assert!(run("draw", symmetric).text().contains("; from its start, 2.000 m from the first point; to its start, "));
+    // where a comment above says -0, it is
+    let beside = |edge: [f32; 6], entry: [f32; 6]| vorzhyket::distance(&edge, &entry).u.to_bits();
+    assert_eq!(beside([0., 3., -4., 0., -1., -7.], [2., 0., 0., -2., 0., 0.]), (-0f32).to_bits());
+    assert_eq!(beside([-5., 0., 0., -5., 4., 0.], [0.; 6]), (-0f32).to_bits());
+    assert_eq!(beside([3., 4., 0., 6., 8., 0.], [0.; 6]), 0f32.to_bits());
 }
 
 #[test]
@@ -164,19 +236,21 @@ fn places(text: &str) -> Vec<[String; 3]> {
     lines.map(part).collect()
 }
 
-/// Of one-way lanes, reversal of a road turns start into end there, and leaves metres, x and y.
+/// Reversal of roads turns start into end there, and leaves metres, x and y; also where ends are equally near.
 #[test]
-fn reversal_leaves_the_places_of_one_way_lanes() {
-    for map in [UPRIGHT, SLANTED, BACKWARD] {
-        let before = places(&run("gaps", map).text());
-        assert_eq!(before.len(), 2);
-        for road in ["a", "b"] {
+fn reversal_leaves_the_places() {
+    let tied = ties().into_iter().map(|(map, _)| map);
+    for map in [UPRIGHT, SLANTED, BACKWARD].map(String::from).into_iter().chain(tied) {
+        let before = places(&run("gaps", &map).text());
+        assert!(before.len() >= 2);
+        for roads in ["a", "b", "a b"] {
+            let other = |end: &str| if end == "end" { "start" } else { "end" }.to_string();
             let turned = |place: &[String; 3]| match place.clone() {
-                [name, end, rest] if name == road => [name, if end == "end" { "start" } else { "end" }.to_string(), rest],
-                other => other,
+                [name, end, rest] if roads.contains(&name) => [name, other(&end), rest],
+                place => place,
             };
-            let after = places(&run("gaps", &run(&format!("reverse - {road}"), map).text()).text());
-            assert_eq!(after, before.iter().map(turned).collect::<Vec<_>>(), "{road} reversed\n{map}");
+            let after = places(&run("gaps", &run(&format!("reverse - {roads}"), &map).text()).text());
+            assert_eq!(after, before.iter().map(turned).collect::<Vec<_>>(), "{roads} reversed\n{map}");
         }
     }
     let town = run(&format!("form {}", examples().join("town.xodr").display()), "").text();

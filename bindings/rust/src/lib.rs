@@ -193,7 +193,8 @@ pub fn succession(map: Map, lanes: &[u32], outputs: ListOutputs) -> Result<ListC
 /// Measures the gap of every lane link of the successors' offsets and identities. Writes a row of five words for each
 /// link whose gap is not at most 0.1, and returns how many: lane row, successor row, gap bits, and the bits of u and v,
 /// how far along the lane's exit and the successor's entry they come closest, from 0 at the first point to 1 at the
-/// second. A place that is -0 is written as 0, and with an infinite gap both are 0.
+/// second. Of pairs of ends that are equally near, the one with the smallest u counts, then the smallest v. A place that
+/// is -0 is written as 0, and with an infinite gap both are 0.
 pub fn gaps(map: Map, lanes: &[u32], edges: &[f32], offsets: &[u32], ids: &[u32], out: &mut [u32]) -> Result<usize, Refusal> {
     let (m, mut n) = (map, [0; 1]);
     call!(vz_gaps, [m.text, m.roads, m.sections, m.junctions, m.connections, m.pairs, lanes, edges, offsets, ids], [out], &mut n)?;

@@ -79,34 +79,73 @@ fn crossing([first_start, first_end, second_start, second_end]: [f32; 4]) -> Own
     Owned { edges: [along(2., first_start), along(0., first_end), aslant(2., second_start), aslant(1., second_end)].concat(), ..two_way(2) }
 }
 
+/// The gap rows of a map of two roads, and the same after each reversal of them.
+fn rows_that_stay(m: &Owned) -> Vec<u32> {
+    let [offsets, ids, ..] = lists(m, 10).unwrap();
+    let rows = gap_rows(m, &offsets, &ids, 10).unwrap();
+    for marks in [[0, 1], [1, 0], [1, 1]] {
+        assert_eq!(gap_rows(&reversed(m, &marks, 100).unwrap(), &offsets, &ids, 10).unwrap(), rows, "{marks:?}");
+    }
+    rows
+}
+
 #[test]
-fn gaps_show_the_first_of_the_least() {
+fn ties_go_to_the_smallest_u_then_v() {
     for (heights, gap, u, v) in [
-        // all four are as far apart: exit and entry at the end
+        // all four are as far apart: both decide
         ([0., 0., 1., 1.], 1f32, 0.25f32, 0.125f32),
-        // the entry's end is further off
+        // the entry's end is further off: v decides between the exits
         ([0., 0., 1., 2.], 1., 0.5, 0.125),
-        // the exit's end is further off
+        // the exit's end is further off: u decides between the entries
         ([0., -1., 1., 1.], 1., 0.25, 0.375),
         // both ends are
         ([0., -1., 1., 2.], 1., 0.5, 0.375),
-        // the exit's end with the entry's start, before the exit's start with the entry's end
-        ([0., 2., 1., -1.], 1., 0.5, 0.125),
-        // one alone is least
-        ([3., 0., 9., 0.5], 0.5, 0.25, 0.125),
+        // the exit's start with the entry's end, and the exit's end with the entry's start at a smaller v: u counts first
+        ([0., 2., 1., -1.], 1., 0.25, 0.375),
+        // one alone is least, at neither the smallest u nor the smallest v
+        ([0., 3., 0.5, 9.], 0.5, 0.5, 0.375),
         // a NaN is passed over
         ([0., f32::NAN, 1., f32::NAN], 1., 0.5, 0.375),
         ([f32::NAN, f32::NAN, 1., 1.], f32::INFINITY, 0., 0.),
     ] {
-        let m = crossing(heights);
-        let [offsets, ids, ..] = lists(&m, 10).unwrap();
-        let rows = gap_rows(&m, &offsets, &ids, 10).unwrap();
+        let rows = rows_that_stay(&crossing(heights));
         assert_eq!(rows[..5], [0, 1, gap.to_bits(), u.to_bits(), v.to_bits()], "{heights:?}");
     }
     // the other way the first lane's ends are the entries
-    let m = crossing([0., 2., 1., -1.]);
-    let [offsets, ids, ..] = lists(&m, 10).unwrap();
-    assert_eq!(gap_rows(&m, &offsets, &ids, 10).unwrap()[5..], [1, 0, 1f32.to_bits(), 0.375f32.to_bits(), 0.25f32.to_bits()]);
+    assert_eq!(rows_that_stay(&crossing([0., 2., 1., -1.]))[5..], [1, 0, 1f32.to_bits(), 0.125f32.to_bits(), 0.5f32.to_bits()]);
+}
+
+#[test]
+fn ties_count_minus_zero_as_zero() {
+    let slope = [0., 1., 1., 0., 0., 0.];
+    let gap = 0.5f32.sqrt();
+    // edges that run off from beside the slope or, at its top, from before it, and the places of the slope and of the edge
+    let back = ([0., 1., 0., -1., 1., 0.], [0.5, -0.0]);
+    let ahead = ([0., 1.25, 0.25, 1., 1.25, 0.25], [0.25, 0.]);
+    let across = ([-0.5, 1.25, 0.25, 1.5, 1.25, 0.25], [0.25, 0.25]);
+    let back_at_top = ([0., 1.5, 1.5, -1., 1.5, 1.5], [0., -0.0]);
+    let across_at_top = ([0.5, 1.5, 1.5, -1.5, 1.5, 1.5], [0., 0.25]);
+    // the off edge is the exit
+    for ([first, second], [u, v]) in [
+        // -0 and 0 are equal, so that v decides
+        ([back, ahead], [0f32, 0.25f32]),
+        // -0 is below 1/4
+        ([back, across], [0., 0.5]),
+    ] {
+        for (edge, [on_slope, off]) in [first, second] {
+            let near = distance(&edge, &slope);
+            assert_eq!([near.gap, near.u, near.v].map(f32::to_bits), [gap, off, on_slope].map(f32::to_bits), "{edge:?}");
+        }
+        let m = Owned { edges: [second.0, first.0, slope, slope].concat(), ..two_way(2) };
+        assert_eq!(rows_that_stay(&m)[..5], [0, 1, gap.to_bits(), u.to_bits(), v.to_bits()]);
+    }
+    // the off edge is the entry: v at -0 is below 1/4, and shown as 0
+    for (edge, [on_slope, off]) in [back_at_top, across_at_top] {
+        let near = distance(&slope, &edge);
+        assert_eq!([near.gap, near.u, near.v].map(f32::to_bits), [gap, on_slope, off].map(f32::to_bits), "{edge:?}");
+    }
+    let m = Owned { edges: [slope, slope, back_at_top.0, across_at_top.0].concat(), ..two_way(2) };
+    assert_eq!(rows_that_stay(&m)[..5], [0, 1, gap.to_bits(), 0, 0]);
 }
 
 #[test]
@@ -115,12 +154,7 @@ fn places_of_one_way_lanes_survive_reversal() {
     m.edges[25] = 0.5;
     m.edges[24] += 0.25;
     m.edges[27] += 0.25;
-    let [offsets, ids, ..] = lists(&m, 10).unwrap();
-    let rows = gap_rows(&m, &offsets, &ids, 10).unwrap();
-    assert_eq!(rows[3..5], [0.25f32.to_bits(), 0]);
-    for marks in [[0, 1], [1, 0], [1, 1]] {
-        assert_eq!(gap_rows(&reversed(&m, &marks, 100).unwrap(), &offsets, &ids, 10).unwrap(), rows);
-    }
+    assert_eq!(rows_that_stay(&m)[3..], [0.25f32.to_bits(), 0]);
 }
 
 #[test]

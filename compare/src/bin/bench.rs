@@ -182,7 +182,15 @@ fn main() {
     geometry(times);
 }
 
-/// The gap check alone, the two in turns: on towns of which nearly all lanes meet, on towns of which nearly none do, and on the same with all lanes two-way.
+/// The same map with each lane's end drawn where its start is: all pairs of ends of a link between two-way lanes are equally near.
+fn ends_alike(t: &Tables) -> Tables {
+    let mut edges = t.edges.clone();
+    edges.chunks_mut(EDGE).for_each(|lane| lane.copy_within(..EDGE / 2, EDGE / 2));
+    Tables { edges, ..t.clone() }
+}
+
+/// The gap check alone, the two in turns: on towns of which nearly all lanes meet, on towns of which nearly none do, on the same with all lanes two-way,
+/// and with all ends of a link equally near.
 fn gap_checks(times: usize) {
     println!("\n| map | links | gaps | this library, us | original, us | ratio |\n|---|---:|---:|---:|---:|---:|");
     for (roads, lanes) in [(400, 4_000), (1_600, 16_384)] {
@@ -191,10 +199,12 @@ fn gap_checks(times: usize) {
         let meets = meeting(&apart.0, &apart.1[0], &apart.1[1]);
         both.lanes.chunks_mut(LANE).for_each(|lane| lane[5] = 2);
         let both = linked(&both, 1);
+        let alike = ends_alike(&both.0);
         for (map, m, [offsets, ids], few) in [
             ("a town whose lanes meet", &meets, &apart.1, true),
             ("the town above", &apart.0, &apart.1, false),
             ("the town above, all lanes two-way", &both.0, &both.1, false),
+            ("the same, both ends of a lane alike", &alike, &both.1, false),
         ] {
             let links = ids.len();
             let theirs = original::linked(m);

@@ -1,6 +1,7 @@
 //! The tool `lanes` on random maps in plain text, beside what the original finds on the same maps: each command's output,
 //! byte for byte, and its status, and reversals beside document 01's rules.
 use compare::form::{same_text, Form};
+use compare::original::Wide;
 use compare::tables::{Dice, Tables, ROAD};
 use compare::{maps, original, reversal, rules};
 use std::ffi::OsStr;
@@ -88,7 +89,8 @@ fn map(t: &Tables, dice: &mut Dice, program: &mut Program) -> Result<(), String>
     let form = Form { map: t, plain: dice.one_in(2) };
     let text = form.text();
     let found = original::repair(t);
-    let (lists, gaps) = original::lists_and_gaps(t);
+    let (lists, wide) = original::lists_and_gaps(t);
+    let gaps: Vec<_> = wide.iter().map(Wide::row).collect();
     if text.is_empty() {
         return program.empty();
     }
@@ -120,12 +122,14 @@ fn main() {
     let path = args.next().expect("the path of the program");
     let n: u64 = args.next().and_then(|a| a.parse().ok()).unwrap_or(1000);
     let seed: u64 = args.next().and_then(|a| a.parse().ok()).unwrap_or(1);
-    let (mut dice, mut others) = (Dice::new(seed), Dice::new(!seed));
+    let (mut dice, mut others, mut slopes) = (Dice::new(seed), Dice::new(!seed), Dice::new(seed.swap_bytes()));
     let mut program = Program { path, runs: 0, refused: 0 };
     let mut wrong = 0;
     for k in 0..n {
         let mut t = maps::random(&mut dice);
         maps::on_a_grid(&mut t, &mut others);
+        maps::on_a_slope(&mut t, &mut slopes);
+        maps::half_round(&mut t, &mut slopes);
         if let Err(e) = map(&t, &mut others, &mut program) {
             wrong += 1;
             if wrong <= 3 {

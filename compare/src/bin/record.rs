@@ -11,9 +11,10 @@
 //!   in thousandths, and the two halves of the sum's bits, the high one first.
 //! Every other word of an output must stay what it was before the call.
 use compare::calls;
-use compare::original;
+use compare::original::{self, Wide};
+use compare::places::Ties;
 use compare::raw::{self, Raw};
-use compare::tables::{Dice, Tables, GAP, LANE};
+use compare::tables::{Dice, Tables, GAP, LANE, ROAD};
 use compare::{damage, maps, ours, reversal, rules};
 
 fn put(kind: u32, lists: &[Vec<u32>]) {
@@ -64,9 +65,14 @@ fn lent(contents: Vec<Vec<u32>>, short: bool, dice: &mut Dice) -> (bool, Vec<(us
     (cut, outs)
 }
 
-/// What a call must leave: by the rules, and by what the original found.
+/// What a call must leave: by the rules, and by what the original found. Now and then an output is too short.
 fn step(kind: u32, before: &[&[u32]], broken: u32, contents: Vec<Vec<u32>>, dice: &mut Dice) {
     let short = broken == 0 && dice.one_in(5);
+    step_with(kind, before, broken, contents, short, dice);
+}
+
+/// The same, with an output too short where `short` says so.
+fn step_with(kind: u32, before: &[&[u32]], broken: u32, contents: Vec<Vec<u32>>, short: bool, dice: &mut Dice) {
     let (cut, outs) = lent(contents, short, dice);
     let refusal = if cut { 9 } else { broken };
     let written = |words: &[u32]| if refusal == 0 { words.to_vec() } else { Vec::new() };
@@ -101,7 +107,49 @@ fn admitted(t: &Tables, dice: &mut Dice) {
     let (so, po) = (offsets(&lists.successors), offsets(&lists.predecessors));
     let (si, pi) = (lists.successors.concat(), lists.predecessors.concat());
     step(3, &[], 0, vec![so.clone(), si.clone(), po, pi], dice);
-    step(4, &[&so, &si], 0, vec![gaps.concat()], dice);
+    step(4, &[&so, &si], 0, vec![gaps.iter().flat_map(Wide::row).collect()], dice);
+}
+
+/// The gap check of a map, and of the map with all roads reversed, which has the same rows.
+fn gap_checks(t: &Tables, dice: &mut Dice) {
+    let found = [t.clone(), reversal::reversed(t, &all_roads(t))].map(|map| {
+        let (lists, wide) = original::lists_and_gaps(&map);
+        let rows: Vec<u32> = wide.iter().flat_map(Wide::row).collect();
+        load(&ours::repair(&map).0);
+        step_with(4, &[&offsets(&lists.successors), &lists.successors.concat()], 0, vec![rows.clone()], false, dice);
+        rows
+    });
+    assert_eq!(found[0], found[1], "a reversal changes the gap rows");
+}
+
+/// A mark for every road.
+fn all_roads(t: &Tables) -> Vec<u32> {
+    vec![1; t.roads.len() / ROAD]
+}
+
+/// How many ties of each kind are recorded at least.
+const TIES: usize = 8;
+
+/// Gap checks of maps with a kind of tie of which not enough are recorded.
+fn tied(dice: &mut Dice) {
+    let mut ties = Ties::default();
+    while ties.kinds().iter().any(|&n| n < TIES) {
+        let mut t = maps::random(dice);
+        maps::on_a_grid(&mut t, dice);
+        maps::on_a_slope(&mut t, dice);
+        let (mut own, (_, wide)) = (Ties::default(), original::lists_and_gaps(&t));
+        wide.iter().for_each(|w| own.add(w));
+        let wanted = own.kinds().iter().zip(ties.kinds()).any(|(&own, all)| own > 0 && all < TIES);
+        if wanted && few_lanes(&t) && rules::reverse(&t, &all_roads(&t)) == 0 {
+            wide.iter().for_each(|w| ties.add(w));
+            gap_checks(&t, dice);
+        }
+    }
+}
+
+/// Is the map small, and not too small?
+fn few_lanes(t: &Tables) -> bool {
+    (3 * LANE..8 * LANE).contains(&t.lanes.len())
 }
 
 /// The calls on damaged tables, lists and marks, as far as a rule refuses them.
@@ -167,7 +215,7 @@ fn main() {
     while left > 0 {
         let mut t = maps::random(&mut dice);
         maps::on_a_grid(&mut t, &mut others);
-        if (3 * LANE..8 * LANE).contains(&t.lanes.len()) {
+        if few_lanes(&t) {
             left -= 1;
             admitted(&t, &mut dice);
             damaged(&t, &mut dice);
@@ -184,4 +232,5 @@ fn main() {
             length(&mut dice);
         }
     }
+    tied(&mut Dice::new(seed.swap_bytes()));
 }

@@ -1,11 +1,11 @@
 -- The comparisons of `lib.Ieee`: of two numbers, equal is neither below (`eq-is`) and at most is not above (`le-is`).
--- With a NaN none holds. Assumes nothing.
+-- With a NaN none holds (`compared-numbers`). Assumes nothing.
 use mathlib.Core.Path.{_≡_, refl, sym, ap, _∙_}
 use mathlib.Core.Logic.{_⊎_, inl, inr}
 use Prim.Native.Nat.{ℕ, zero, suc, _+_, _*_}
 use native.Mathlib.Nat.{add-comm, le-of-lt}
 use native.Mathlib.Omega.{arith}
-use mathlib.Core.Bool.{Bool, true, false, not, _&&_, _||_, and-true, and-false, and-comm, true≢false}
+use mathlib.Core.Bool.{Bool, true, false, not, _&&_, _||_, and-true, and-false, and-comm, or-true, true≢false}
 use lib.Dec.{T, ltb, eqb, eqb·zero-suc, eqb·suc-zero}
 use lib.Ieee.{Float, nan, inf, fin, up, down, below, level, lt, le, eq, isNan}
 use borrow.Author.Tests.{ltb-true, ltb-false, lt-ltb, le-ltb, eq-eqb, ne-eqb}
@@ -31,19 +31,34 @@ pub nan-le : (x : Float) → le nan x ≡ false
 unfolding le
 nan-le x = refl
 
--- what is below something, or above, is a number
+pub nan-eq : (x : Float) → eq nan x ≡ false
+unfolding eq
+nan-eq x = refl
+
+pub eq-nan : (x : Float) → eq x nan ≡ false
+unfolding eq
+eq-nan nan = refl
+eq-nan (inf s) = refl
+eq-nan (fin s m e) = refl
+
+-- what is at most something, or at least, is a number
+pub compared-numbers : (x y : Float) → le x y ≡ true → T (not (isNan x)) × T (not (isNan y))
+unfolding le lt eq isNan
+compared-numbers nan y h = absurd (true≢false (sym h))
+compared-numbers (inf s) nan h = absurd (true≢false (sym h))
+compared-numbers (fin s m e) nan h = absurd (true≢false (sym h))
+compared-numbers (inf s) (inf t) h = (tt, tt)
+compared-numbers (inf s) (fin t n d) h = (tt, tt)
+compared-numbers (fin s m e) (inf t) h = (tt, tt)
+compared-numbers (fin s m e) (fin t n d) h = (tt, tt)
+
+-- so is what is below something, or above
 pub below-number : (x y : Float) → lt x y ≡ true → T (not (isNan x)) × T (not (isNan y))
-unfolding lt isNan
-below-number nan y h = absurd (true≢false (sym h))
-below-number (inf s) nan h = absurd (true≢false (sym h))
-below-number (fin s m e) nan h = absurd (true≢false (sym h))
-below-number (inf s) (inf t) h = (tt, tt)
-below-number (inf s) (fin t n d) h = (tt, tt)
-below-number (fin s m e) (inf t) h = (tt, tt)
-below-number (fin s m e) (fin t n d) h = (tt, tt)
+unfolding le
+below-number x y below = compared-numbers x y (rw below)
 
 -- ---- whole numbers with signs, as `lib.Ieee` compares finite values
-eqb-is : (a b : ℕ) → eqb a b ≡ not (ltb a b) && not (ltb b a)
+pub eqb-is : (a b : ℕ) → eqb a b ≡ not (ltb a b) && not (ltb b a)
 eqb-is a b = go (ltb a b) (ltb b a) refl refl
   where
     go : (l g : Bool) → ltb a b ≡ l → ltb b a ≡ g → eqb a b ≡ not l && not g
@@ -85,7 +100,18 @@ eq-is (fin s m e) (inf true) h k = refl
 eq-is (fin s m e) (inf false) h k = refl
 eq-is (fin s m e) (fin t n d) h k = level-is s t (m * up e * down d) (n * up d * down e)
 
-lt-once : (x y : Float) → lt x y ≡ true → lt y x ≡ false
+-- what is equal is not below
+pub equal-not-below : (x y : Float) → eq x y ≡ true → lt x y ≡ false
+unfolding le
+equal-not-below x y equal =
+    let numbers = compared-numbers x y (rw (equal, or-true)) in
+    go (lt x y) (lt y x) (sym (eq-is x y (numbers .0) (numbers .1)) ∙ equal)
+  where
+    go : (p q : Bool) → not p && not q ≡ true → p ≡ false
+    go true q neither = absurd (true≢false (sym neither))
+    go false q neither = refl
+
+pub lt-once : (x y : Float) → lt x y ≡ true → lt y x ≡ false
 unfolding lt
 lt-once nan y h = absurd (true≢false (sym h))
 lt-once (inf s) nan h = absurd (true≢false (sym h))

@@ -1,18 +1,22 @@
 -- Where a distance is a number, its two places lie from 0 to 1 (`places-within`): whatever is not clamped is tested,
--- and a place that is a NaN makes the distance one. Assumes nothing.
+-- and a place that is a NaN makes the distance one. The format holds them always (`places-held`). Assumes nothing.
 use mathlib.Core.Path.{_≡_, refl, sym, ap, _∙_, subst}
 use mathlib.Core.Logic.{inl, inr}
 use mathlib.Core.List.{List}
 use mathlib.Core.Bool.{Bool, true, false, not, cond, _&&_}
 use lib.Dec.{T}
-use lib.Ieee.{Float, nan, inf, fin, binary32, add, sub, mul, div, neg, lt, le, isNan}
+use lib.Ieee.{Float, nan, inf, fin, binary32, add, sub, mul, div, neg, lt, le, isNan, fits}
+use lib.Ieee.Fits.{div-fits}
+use lib.Ieee.Bits.{is-true}
+use borrow.Author.Tests.{not-true}
 use Rattle.geometry.specs.declared.segment.Point.{Point}
 use Rattle.geometry.specs.declared.segment.Vector.{Vector}
 use Rattle.geometry.specs.declared.segment.Places.{Places}
+use Rattle.geometry.specs.declared.segment.Closest.{Closest}
 use Rattle.geometry.specs.Root.{rootOf}
 use Rattle.geometry.specs.Segment.{nought, one, epsilon, minusOf, plusOf, timesOf, dotOf, clampOf, freePlace}
 use Rattle.geometry.specs.Segment.{placesAt, placesApart, placesOf, placesFor, squareAt, apartOf}
-use Rattle.geometry.specs.Segment.{distanceOf, closestOf}
+use Rattle.geometry.specs.Segment.{closestOf}
 use Rattle.geometry.proofs.FloatOrder.{nan-or-not, le-is}
 use Rattle.geometry.proofs.SegmentLaws.{apart-root}
 use Rattle.geometry.proofs.SquareOrder.{root-nan}
@@ -21,6 +25,10 @@ use Rattle.geometry.proofs.SquareOrder.{root-nan}
 abbrev pub Within : Float → Type 0
 Within x = T (le nought x) × T (le x one)
 
+numbers : T (not (isNan nought)) × T (not (isNan one))
+unfolding isNan
+numbers = (tt, tt)
+
 -- such a value is a number
 pub within-number : (x : Float) → Within x → T (not (isNan x))
 unfolding isNan le
@@ -28,25 +36,28 @@ within-number nan within = absurd (within .0)
 within-number (inf s) within = tt
 within-number (fin s m e) within = tt
 
--- from 0 to 1, or a NaN
+-- it is not below 0
+pub within-not-below : (x : Float) → Within x → lt x nought ≡ false
+within-not-below x within =
+    not-true _ (sym (le-is nought x (numbers .0) (within-number x within)) ∙ is-true _ (within .0))
+
+-- a value of the format from 0 to 1, or a NaN
 record Tame (x : Float) : Type 0 where
+  held : T (fits binary32 x)
   within : T (not (isNan x)) → Within x
 
 tame-nought : Tame nought
-unfolding le
-tame-nought = record { within = λ number. (tt, tt) }
+unfolding fits le
+tame-nought = record { held = tt; within = λ number. (tt, tt) }
 
 tame-one : Tame one
-unfolding le
-tame-one = record { within = λ number. (tt, tt) }
-
-numbers : T (not (isNan nought)) × T (not (isNan one))
-unfolding isNan
-numbers = (tt, tt)
+unfolding fits le
+tame-one = record { held = tt; within = λ number. (tt, tt) }
 
 -- what is neither below 0 nor above 1
-tame-between : (x : Float) → lt x nought ≡ false → lt one x ≡ false → Tame x
-tame-between x not-below not-above = record {
+tame-between : (x : Float) → T (fits binary32 x) → lt x nought ≡ false → lt one x ≡ false → Tame x
+tame-between x held not-below not-above = record {
+  held = held;
   within = λ number.
       let at-least : le nought x ≡ true = le-is nought x (numbers .0) number ∙ ap not not-below in
       let at-most : le x one ≡ true = le-is x one number (numbers .1) ∙ ap not not-above in
@@ -72,15 +83,15 @@ module _ {A : Type 0} (P : A → Type 0) where
 abbrev TamePlaces : Places → Type 0
 TamePlaces at = Tame (at .u) × Tame (at .v)
 
-tame-clamp : (x : Float) → Tame (clampOf x)
+tame-clamp : (x y : Float) → Tame (clampOf (div binary32 x y))
 unfolding clampOf
-tame-clamp x = between Tame x tame-nought tame-one (tame-between x)
+tame-clamp x y = between Tame _ tame-nought tame-one (tame-between _ (div-fits binary32 x y))
 
 tame-free : (a b c e f denom : Float) → Tame (freePlace a b c e f denom)
 unfolding freePlace
 tame-free a b c e f denom =
     let wide = lt (mul binary32 (mul binary32 epsilon a) e) denom in
-    either Tame wide (tame-clamp _) tame-nought
+    either Tame wide (tame-clamp _ _) tame-nought
 
 tame-apart : (a b c e f : Float) → TamePlaces (placesApart a b c e f)
 unfolding placesApart
@@ -88,8 +99,9 @@ tame-apart a b c e f =
     let denom = sub binary32 (mul binary32 a e) (mul binary32 b b) in
     let u = freePlace a b c e f denom in
     let v = div binary32 (add binary32 (mul binary32 b u) f) e in
-    between TamePlaces v (tame-clamp _, tame-nought) (tame-clamp _, tame-one)
-    (λ not-below not-above. (tame-free a b c e f denom, tame-between v not-below not-above))
+    let inside = tame-between v (div-fits binary32 (add binary32 (mul binary32 b u) f) e) in
+    between TamePlaces v (tame-clamp _ _, tame-nought) (tame-clamp _ _, tame-one)
+    (λ not-below not-above. (tame-free a b c e f denom, inside not-below not-above))
 
 tame-on : (d1 d2 w : Vector) → TamePlaces (placesOf d1 d2 w)
 unfolding placesOf
@@ -97,8 +109,8 @@ tame-on d1 d2 w =
     let first = le (dotOf d1 d1) epsilon in
     let second = le (dotOf d2 d2) epsilon in
     either TamePlaces (first && second) (tame-nought, tame-nought)
-    (either TamePlaces first (tame-nought, tame-clamp _)
-    (either TamePlaces second (tame-clamp _, tame-nought) (tame-apart _ _ _ _ _)))
+    (either TamePlaces first (tame-nought, tame-clamp _ _)
+    (either TamePlaces second (tame-clamp _ _, tame-nought) (tame-apart _ _ _ _ _)))
 
 tame-places : (p q r s : Point) → TamePlaces (placesFor p q r s)
 unfolding placesFor
@@ -163,6 +175,14 @@ apart-within p q r s number =
     let numbers = places-number p q r s (placesFor p q r s) (rw (apart-root p q r s) at number) in
     (tame .0 .within (numbers .0), tame .1 .within (numbers .1))
 
-pub places-within : (first second : List Point) → T (not (isNan (distanceOf first second)))
-    → Within (closestOf first second .u) × Within (closestOf first second .v)
+-- where its gap is a number, the places of a pair lie from 0 to 1
+abbrev pub PlacesWithin : Closest → Type 0
+PlacesWithin c = T (not (isNan (c .gap))) → Within (c .u) × Within (c .v)
+
+pub places-within : (first second : List Point) → PlacesWithin (closestOf first second)
 places-within first second number = apart-within _ _ _ _ number
+
+-- and the format always holds them
+pub places-held : (first second : List Point)
+    → T (fits binary32 (closestOf first second .u)) × T (fits binary32 (closestOf first second .v))
+places-held first second = let tame = tame-places _ _ _ _ in (tame .0 .held, tame .1 .held)

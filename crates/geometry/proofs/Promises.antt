@@ -3,24 +3,26 @@
 use mathlib.Core.Path.{_≡_, refl, subst}
 use mathlib.Core.Logic.{_⊎_}
 use mathlib.Core.Bool.{false, not}
-use mathlib.Core.List.{List, [], _∷_}
+use mathlib.Core.List.{List, [], _∷_, List·Memᴰ}
 use lib.Dec.{T}
 use lib.Ieee.{Float, inf, binary32, ofBits, isNan, fits}
 use lib.Ieee.Positive.{positive}
 use Rattle.geometry.specs.declared.segment.Point.{Point}
+use Rattle.geometry.specs.declared.segment.Closest.{Closest}
 use Rattle.geometry.specs.declared.gap.Direction.{Direction}
 use Rattle.geometry.specs.Root.{Nearest, rootOf, belowZero, unsigned}
 use Rattle.geometry.specs.Segment.{nought, distanceOf, closestOf}
 use Rattle.geometry.specs.Gap.{leastFrom, gapOf, flipped, swapped, Rearranged}
-use Rattle.geometry.specs.Gap.{exitsOf, entriesOf, endPairs, unmet, closestEnds}
+use Rattle.geometry.specs.Gap.{exitsOf, entriesOf, bestFrom, unmet, endPairs, closestEnds}
 use Rattle.geometry.proofs.RootNearest.{root-is-nearest, nearest-is-root}
 use Rattle.geometry.proofs.Signs.{not-below}
-use Rattle.geometry.proofs.GapOrder.{AllPlain, root-fits, distance-plain, inf-plain, least-rearranged}
+use Rattle.geometry.proofs.GapOrder.{Each, Plain, root-fits, distance-plain, inf-plain, least-rearranged}
 use Rattle.geometry.proofs.GapOrder.{gap-no-nan, gap-from-turned, gap-to-turned}
 use Rattle.geometry.proofs.Places.{Within, within-number, places-within}
-use Rattle.geometry.proofs.PlaceOrder.{OneWay, one-way-from, one-way-to}
+use Rattle.geometry.proofs.PlaceOrder.{Fair, pair-fair, placesShown, any-order}
+use Rattle.geometry.proofs.PlaceOrder.{from-turned-shown, to-turned-shown}
 use Rattle.geometry.proofs.PlaceOrder.{ends-gap, ends-within, infinite-nought}
-use Rattle.geometry.proofs.FirstLeast.{First, NoneBelow, ends-first}
+use Rattle.geometry.proofs.BestPair.{NoneBetter, ends-one-of, ends-none-better}
 
 -- ---- (a) Each value of the format above zero has one nearest root, by whole-number midpoints and with no tie:
 -- it is `rootOf x`, and no other value of the format is nearest.
@@ -46,18 +48,23 @@ distance-no-sign first second = (
 )
 
 -- ---- (c) The least of any list of distances does not depend on their order.
+-- f of each of some pairs of segments
+abbrev pub eachOf : {A : Type 0} → (List Point → List Point → A) → List (List Point × List Point) → List A
+eachOf f [] = []
+eachOf f (p ∷ ps) = f (p .0) (p .1) ∷ eachOf f ps
+
+each-of : {A : Type 0} (P : A → Type 0) (f : List Point → List Point → A)
+    → ((first second : List Point) → P (f first second)) → (ps : List (List Point × List Point)) → Each P (eachOf f ps)
+each-of P f holds [] = tt
+each-of P f holds (p ∷ ps) = (holds (p .0) (p .1), each-of P f holds ps)
+
 -- the distances of some pairs of segments
 abbrev pub distances : List (List Point × List Point) → List Float
-distances [] = []
-distances (p ∷ ps) = distanceOf (p .0) (p .1) ∷ distances ps
-
-distances-plain : (ps : List (List Point × List Point)) → AllPlain (distances ps)
-distances-plain [] = tt
-distances-plain (p ∷ ps) = (distance-plain (p .0) (p .1), distances-plain ps)
+distances ps = eachOf distanceOf ps
 
 pub least-in-any-order : (ps : List (List Point × List Point)) {ds : List Float} → Rearranged Float (distances ps) ds
     → leastFrom (inf false) (distances ps) ≡ leastFrom (inf false) ds
-least-in-any-order ps r = least-rearranged (inf false) inf-plain (distances-plain ps) r
+least-in-any-order ps r = least-rearranged (inf false) inf-plain (each-of Plain distanceOf distance-plain ps) r
 
 -- ---- (d) A gap is never a NaN.
 pub gap-never-nan : (from : List (List Point)) (leaves : Direction) (to : List (List Point))
@@ -90,11 +97,14 @@ pub nought-at-infinity : (from : List (List Point)) (leaves : Direction) (to : L
     → (closestEnds from leaves to enters .u ≡ nought) × (closestEnds from leaves to enters .v ≡ nought)
 nought-at-infinity from leaves to enters infinite = infinite-nought from leaves to enters infinite
 
--- ---- (j) A one-way lane turned round changes neither gap nor places.
-pub one-way-turned : (from : List (List Point)) (leaves : Direction) (to : List (List Point)) (enters : Direction)
-    → (OneWay leaves → closestEnds (swapped from) (flipped leaves) to enters ≡ closestEnds from leaves to enters)
-    × (OneWay enters → closestEnds from leaves (swapped to) (flipped enters) ≡ closestEnds from leaves to enters)
-one-way-turned from leaves to enters = (one-way-from from to leaves enters, one-way-to from to leaves enters)
+-- ---- (j) The places that a row shows are the same when either lane is turned round, two-way lanes too.
+pub places-turned : (from : List (List Point)) (leaves : Direction) (to : List (List Point)) (enters : Direction)
+    → (placesShown (closestEnds (swapped from) (flipped leaves) to enters)
+    ≡ placesShown (closestEnds from leaves to enters))
+    × (placesShown (closestEnds from leaves (swapped to) (flipped enters))
+    ≡ placesShown (closestEnds from leaves to enters))
+places-turned from leaves to enters =
+    (from-turned-shown from leaves to enters, to-turned-shown from leaves to enters)
 
 -- ---- (k) The places shown with a gap always lie from 0 to 1, and so are numbers.
 pub ends-from-0-to-1 : (from : List (List Point)) (leaves : Direction) (to : List (List Point)) (enters : Direction)
@@ -107,10 +117,21 @@ places-are-numbers from leaves to enters =
     let within = ends-within from leaves to enters in
     (within-number _ (within .0), within-number _ (within .1))
 
--- ---- (l) THE FIRST LEAST PAIR. The choice is one of the pairs, exits end before start and then entries likewise: each
--- earlier pair has a larger gap or a NaN, and no later one a smaller. Only where no gap is below infinity, it is none.
-pub first-least-pair : (from : List (List Point)) (leaves : Direction) (to : List (List Point)) (enters : Direction)
+-- ---- (l) The choice does not depend on the order of candidates: its gap, and its places as a row shows them.
+-- the distances of some pairs of segments with their places
+abbrev pub closests : List (List Point × List Point) → List Closest
+closests ps = eachOf closestOf ps
+
+pub choice-in-any-order : (ps : List (List Point × List Point)) {cs : List Closest}
+    → Rearranged Closest (closests ps) cs
+    → (bestFrom unmet (closests ps) .gap ≡ bestFrom unmet cs .gap)
+    × (placesShown (bestFrom unmet (closests ps)) ≡ placesShown (bestFrom unmet cs))
+choice-in-any-order ps order = any-order (each-of Fair closestOf pair-fair ps) order
+
+-- ---- (m) THE BEST PAIR. The choice is one of the pairs of ends, or none of them, and no pair is better.
+pub best-pair : (from : List (List Point)) (leaves : Direction) (to : List (List Point)) (enters : Direction)
     → ((closestEnds from leaves to enters ≡ unmet)
-    × NoneBelow (inf false) (endPairs (exitsOf leaves from) (entriesOf enters to)))
-    ⊎ First (closestEnds from leaves to enters) (endPairs (exitsOf leaves from) (entriesOf enters to))
-first-least-pair from leaves to enters = ends-first from leaves to enters
+    ⊎ List·Memᴰ (closestEnds from leaves to enters) (endPairs (exitsOf leaves from) (entriesOf enters to)))
+    × NoneBetter (closestEnds from leaves to enters) (endPairs (exitsOf leaves from) (entriesOf enters to))
+best-pair from leaves to enters =
+    (ends-one-of from leaves to enters, ends-none-better from leaves to enters)

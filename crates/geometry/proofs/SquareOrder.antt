@@ -1,15 +1,16 @@
 -- Distances compared by their squares: a smaller root has a smaller number (`closer-not`), one that is four patterns
--- smaller has a smaller root (`closer-far`), and the tolerance has a square of its own (`passed-is`). Assumes nothing.
+-- smaller has a smaller root (`closer-far`), two numbers have one root where the lower has no smaller one
+-- (`tied-below`, `tied-above`), and the tolerance has a square of its own (`passed-is`). Assumes nothing.
 use mathlib.Core.Path.{_≡_, refl, sym, ap, ap₂, _∙_}
 use mathlib.Core.Logic.{_⊎_, inl, inr}
 use Prim.Native.Nat.{ℕ, _+_, _≤_, _<_, zero-le}
 use native.Mathlib.Nat.{le-refl, eq-or-lt-of-le, eq-zero-or-pos}
 use native.Mathlib.Omega.{arith}
-use mathlib.Core.Bool.{Bool, true, false, not}
+use mathlib.Core.Bool.{Bool, true, false, not, and-true, true≢false}
 use lib.Dec.{T, ltb, lit<, lit≤}
-use lib.Ieee.{Float, nan, inf, binary32, lt, le, isNan, ofBits, toBits}
+use lib.Ieee.{Float, nan, inf, binary32, lt, le, eq, isNan, ofBits, toBits}
 use lib.Ieee.Bits.{ofBits-toBits, nanBits-is}
-use borrow.Author.Tests.{ltb-true, ltb-false, lt-ltb, le-ltb}
+use borrow.Author.Tests.{ltb-true, ltb-false, lt-ltb, le-ltb, not-true, not-false}
 use Rattle.geometry.specs.Root.{rootOf}
 use Rattle.geometry.specs.Gap.{tolerance}
 use Rattle.geometry.specs.Units.{units, unitsAt, NearestBits}
@@ -18,7 +19,8 @@ use Rattle.geometry.proofs.Values.{pattern-top}
 use Rattle.geometry.proofs.RootLaws.{root-is-at}
 use Rattle.geometry.proofs.RootNearest.{root-some}
 use Rattle.geometry.proofs.RootOrder.{bits-mono, bits-far}
-use Rattle.geometry.proofs.FloatOrder.{nan-or-not, nan-lt, lt-nan, nan-le, below-number, le-is}
+use Rattle.geometry.proofs.FloatOrder.{nan-or-not, nan-lt, lt-nan, nan-le, nan-eq, eq-nan, below-number}
+use Rattle.geometry.proofs.FloatOrder.{compared-numbers, eq-is, lt-once, le-is}
 use Rattle.geometry.proofs.GapOrder.{Plain, plain-order, bits-order, inf-bits}
 
 -- ---- the pattern of a number without a sign, and that of its root
@@ -113,6 +115,43 @@ closer-not x y plain-x plain-y not-below = go (nan-or-not x) (nan-or-not y)
         let falls = ltb-false _ _ (sym (plain-order x y plain-x plain-y x-number y-number) ∙ not-below) in
         sym (root-order r s ∙ le-ltb _ _ (at-mono (s .at) (r .at) falls))
 
+-- ---- `tied`
+bits-number : (b : ℕ) → b ≤ 0x7f80_0000 → T (not (isNan (ofBits binary32 b)))
+bits-number b top = rw nanBits-is at (no-nan b top)
+
+-- the root of a number is one
+root-number : (x : Float) → Plain x → T (not (isNan x)) → T (not (isNan (rootOf x)))
+root-number x plain number = let r = with-root x plain number in rw (r .root) (bits-number _ (at-top (r .at) .1))
+
+module _ (x y : Float) (plain-x : Plain x) (plain-y : Plain y) where
+  -- x at most y: one root unless that of x is smaller
+  pub tied-below : {t : Bool} → le x y ≡ true → t ≡ lt (rootOf x) (rootOf y) → not t ≡ eq (rootOf x) (rootOf y)
+  tied-below at-most smaller =
+      let numbers = compared-numbers x y at-most in
+      let not-above = not-true _ (sym (le-is x y (numbers .0) (numbers .1)) ∙ at-most) in
+      let roots = eq-is _ _ (root-number x plain-x (numbers .0)) (root-number y plain-y (numbers .1)) in
+      rw (roots, ← smaller, ← closer-not y x plain-y plain-x not-above) (sym (and-true _))
+
+  -- y at most x: one root unless that of y is smaller
+  pub tied-above : {t : Bool} → le y x ≡ true → t ≡ lt (rootOf y) (rootOf x) → not t ≡ eq (rootOf x) (rootOf y)
+  tied-above at-most smaller =
+      let numbers = compared-numbers y x at-most in
+      let not-above = not-true _ (sym (le-is y x (numbers .0) (numbers .1)) ∙ at-most) in
+      let roots = eq-is _ _ (root-number x plain-x (numbers .1)) (root-number y plain-y (numbers .0)) in
+      rw (roots, ← smaller, ← closer-not x y plain-x plain-y not-above)
+
+  -- neither: one of them is a NaN
+  pub tied-nan : le x y ≡ false → le y x ≡ false → false ≡ eq (rootOf x) (rootOf y)
+  tied-nan not-at-most not-at-least = go (nan-or-not x) (nan-or-not y)
+    where
+      go : (x ≡ nan) ⊎ T (not (isNan x)) → (y ≡ nan) ⊎ T (not (isNan y)) → false ≡ eq (rootOf x) (rootOf y)
+      go (inl x-nan) either = rw (x-nan, root-nan, nan-eq)
+      go (inr x-number) (inl y-nan) = rw (y-nan, root-nan, eq-nan)
+      go (inr x-number) (inr y-number) =
+          let above = not-false _ (sym (le-is x y x-number y-number) ∙ not-at-most) in
+          let below = not-false _ (sym (le-is y x y-number x-number) ∙ not-at-least) in
+          absurd (true≢false (sym above ∙ lt-once x y below))
+
 -- ---- `only_pair`: a root is below infinity where its number is
 finite-bits : {b r : ℕ} → RootAt b r → ltb r 0x7f80_0000 ≡ ltb b 0x7f80_0000
 finite-bits at-zero = refl
@@ -154,9 +193,6 @@ passed-bits {b} {r} root = go (ltb 0x3c23_d70b b) refl
 tolerance-bits : ofBits binary32 0x3dcc_cccd ≡ tolerance
 unfolding ofBits
 tolerance-bits = refl
-
-bits-number : (b : ℕ) → b ≤ 0x7f80_0000 → T (not (isNan (ofBits binary32 b)))
-bits-number b top = rw nanBits-is at (no-nan b top)
 
 bits-le : (b c : ℕ) → b ≤ 0x7f80_0000 → c ≤ 0x7f80_0000 → le (ofBits binary32 b) (ofBits binary32 c) ≡ not (ltb c b)
 bits-le b c b-top c-top =

@@ -7,7 +7,7 @@ use mathlib.Core.List.{List, map}
 use Prim.Native.Nat.{ℕ}
 use Rattle.model.specs.Calls.{ReversalOutputs, gapContent, listContent, repairContent, repairRefusal}
 use Rattle.model.specs.Calls.{reversalCall, reversalContent, reversalLengths, reversalRefusal, tableRules}
-use Rattle.model.specs.Claim.{Claim, compared, comparedRows, repairedTables, reversedWarning, theSet}
+use Rattle.model.specs.Claim.{Claim, repairedTables, reversedWarning, theSet}
 use Rattle.model.specs.Lists.{isSome}
 use Rattle.model.specs.Records.{EdgedLane, Map, Span}
 use Rattle.model.specs.Reversal.{reverseEdged, reverseMap}
@@ -17,7 +17,6 @@ use Rattle.model.specs.Sequence.{Call, after, answers, answersBySet, anyAccepte
 use Rattle.model.specs.Sequence.{oddMarks, reversedBy, reversedOnceBy, run}
 use Rattle.model.specs.Tables.{Tables, roadsOf, tablesOf}
 use Rattle.model.specs.Text.{sameIn}
-use Rattle.laws.proofs.Compared.{AllTold, tables-tell}
 use Rattle.laws.proofs.Held.{Held}
 use Rattle.laws.proofs.Packed.{mutual-found}
 use Rattle.laws.proofs.SameFound.{found-reversed, repairRefusal-reversed, same-gaps, same-lists}
@@ -42,10 +41,9 @@ module _ (t : Tables) (cs : List Call) where
         warned = ap (λ u. table 4 (repairContent u .warnings)) stays
             ∙ warned-empty t (roadsOf t)
             ∙ ap (λ set. map (reversedWarning set) (table 4 (repairContent t .warnings))) (sym none-in);
-        alike = λ q. ap (λ u. compared (t .lanes) (found q u)) stays;
+        alike = λ q. ap (found q) stays;
         same-lists = ap (λ u. listContent (repairedTables u)) stays;
-        same-gaps = λ offsets ids.
-            ap (λ u. comparedRows (t .lanes) (gapContent (repairedTables u) offsets ids)) stays;
+        same-gaps = λ offsets ids. ap (λ u. gapContent (repairedTables u) offsets ids) stays;
         converse = λ q l there. mutual-found q l (run t cs) there;
       }
 
@@ -142,11 +140,6 @@ module _ (t : Tables) (cs : List Call) where
         by-case (λ u. g u ≡ g t) refl
         (λ turn. ap g over-map ∙ reversed-same (seq.held-set t f set ready turn) ∙ ap g (fine-words t f))
 
-    -- the words of the lanes tell which are two-way, so which gap rows are compared with u and v
-    told : AllTold (t .lanes) xs
-    unfolding modelOf
-    told = tables-tell t f
-
     good-claim : Claim t cs
     good-claim = record {
       said = said-are;
@@ -161,12 +154,11 @@ module _ (t : Tables) (cs : List Call) where
       warned = ap (λ u. table 4 (repairContent u .warnings)) over-map
           ∙ warned-reversed (t .text) m xs (fine-sound t f) set (ready .marks-for)
           ∙ ap (λ u. map (reversedWarning set) (table 4 (repairContent u .warnings))) (fine-words t f);
-      alike = λ q. kept (λ u. compared (t .lanes) (found q u))
-          (λ held. found-reversed (t .text) m xs (fine-sound t f) inSet held (t .lanes) told q);
+      alike = λ q. kept (found q) (λ held. found-reversed (t .text) m xs (fine-sound t f) inSet held q);
       same-lists = kept (λ u. listContent (repairedTables u))
           (λ held. same-lists (t .text) m xs (fine-sound t f) inSet held);
-      same-gaps = λ offsets ids. kept (λ u. comparedRows (t .lanes) (gapContent (repairedTables u) offsets ids))
-          (λ held. same-gaps (t .text) m xs (fine-sound t f) inSet held (t .lanes) told offsets ids);
+      same-gaps = λ offsets ids. kept (λ u. gapContent (repairedTables u) offsets ids)
+          (λ held. same-gaps (t .text) m xs (fine-sound t f) inSet held offsets ids);
       converse = λ q l there. mutual-found q l (run t cs) there;
     }
 

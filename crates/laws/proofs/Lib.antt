@@ -36,7 +36,6 @@ pub mod Sets
 -- The calls, and sequences of reversals.
 pub mod WordsReversed
 pub mod Sequences
-pub mod Compared
 pub mod SameFound
 pub mod SameWarnings
 pub mod Packed

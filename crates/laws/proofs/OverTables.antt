@@ -1,5 +1,5 @@
 -- The laws on a reversed map, said of tables: what reversal and repair write mean the map reversed and the map
--- repaired, and the lists, gap rows (as they are compared) and warning rows of reversed tables are those of the tables.
+-- repaired, and the lists, gap rows and warning rows of reversed tables are those of the tables.
 use mathlib.Core.Path.{_≡_, sym, _∙_, ap, ap₂}
 use mathlib.Core.Bool.{true, not}
 use mathlib.Core.Option.{Option, none, some}
@@ -18,13 +18,13 @@ use Rattle.model.specs.Sequence.{reversedOnceBy, withReversed}
 use Rattle.model.specs.Succession.{predecessorLists, successorLists}
 use Rattle.model.specs.Tables.{Tables, edgedLanesOf, isAbsent, mapOf, nameSize, nameStart, roadWords, tablesOf}
 use Rattle.laws.proofs.ByBytes.{alike-in}
-use Rattle.laws.proofs.Compared.{comparedGap, linkGaps-compared, tables-tell}
 use Rattle.laws.proofs.Encoded.{Plain, PlainName}
 use Rattle.laws.proofs.ForEach.{each-map}
 use Rattle.laws.proofs.Held.{Held, predecessors-held, successors-held}
 use Rattle.laws.proofs.MarkRules.{marks-form}
 use Rattle.laws.proofs.RulesReversed.{unbroken-append}
 use Rattle.laws.proofs.SameFound.{repaired-tables}
+use Rattle.laws.proofs.SameGaps.{linkGaps-reversed}
 use Rattle.laws.proofs.SameWarnings.{warned-reversed}
 use Rattle.laws.proofs.SoundMaps.{is-map}
 use Rattle.laws.proofs.StaySound.{sound-repair}
@@ -114,11 +114,9 @@ module _ (t : Tables) (marks lengths : List ℕ) (q : reversalRefusal t marks le
       ap (λ m. predecessorLists (same t) (repair (same t) m)) reversed
       ∙ predecessors-held (same t) (alike-in (t .text)) (mapOf t) (seq.inSet t f marks) held
 
-  -- the gap rows, as they are compared
-  pub gaps-over : map (comparedGap (t .lanes)) (gapsOf (reversedOnceBy marks t))
-      ≡ map (comparedGap (t .lanes)) (gapsOf t)
+  pub gaps-over : gapsOf (reversedOnceBy marks t) ≡ gapsOf t
   unfolding modelOf withReversed reversedOnceBy
   gaps-over =
-      ap₂ (λ ls ns. map (comparedGap (t .lanes)) (linkGaps ls ns)) (seq.reversed-edged t f marks) successors-over
-      ∙ linkGaps-compared (same t) (seq.inSet t f marks) (mapOf t .roads) (t .lanes) (edgedLanesOf t) (tables-tell t f)
+      ap₂ linkGaps (seq.reversed-edged t f marks) successors-over
+      ∙ linkGaps-reversed (same t) (seq.inSet t f marks) (mapOf t .roads) (edgedLanesOf t)
       (successorLists (same t) (repairedMap t))

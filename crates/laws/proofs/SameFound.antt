@@ -1,5 +1,4 @@
--- Repair, succession and the gap check on a reversed map: the same answers, lists and, as they are compared, gap rows
--- as on the map.
+-- Repair, succession and the gap check on a reversed map: the same answers, lists and gap rows as on the map.
 use mathlib.Core.Path.{_≡_, refl, sym, _∙_, ap, ap₂}
 use mathlib.Core.Bool.{Bool, true, _&&_}
 use mathlib.Core.Option.{Option, none, some}
@@ -13,7 +12,7 @@ use Rattle.model.specs.Calls.{gapRules, gapWidth, gapWords, laneRules, listCont
 use Rattle.model.specs.Calls.{outcome, putRepaired, refused, repairCall, repairContent, repairCounts}
 use Rattle.model.specs.Calls.{repairLengths, repairRefusal, repairRules, repairWriting, rowNamed, rulesTo5}
 use Rattle.model.specs.Calls.{successionCall, successionRules, tableWriting, warningRow, wrote}
-use Rattle.model.specs.Claim.{compared, comparedRows, repairedTables}
+use Rattle.model.specs.Claim.{repairedTables}
 use Rattle.model.specs.Gaps.{linkGaps}
 use Rattle.model.specs.Lists.{every, gather, some?}
 use Rattle.model.specs.Lookup.{listsIn, offsetsFrom, packed}
@@ -29,14 +28,13 @@ use Rattle.model.specs.Tables.{laneWords, lanesOf, pairWords, roadWords, sectio
 use Rattle.model.specs.Text.{sameIn}
 use Rattle.laws.proofs.Basics.{gather-map, some?-ext, some?-map}
 use Rattle.laws.proofs.ByBytes.{alike-in}
-use Rattle.laws.proofs.Compared.{AllTold, comparedOutcome, gapCall-compared, linkGaps-compared}
-use Rattle.laws.proofs.Compared.{words-alike}
 use Rattle.laws.proofs.ForEach.{each}
 use Rattle.laws.proofs.Held.{Held, lanes-count, predecessors-held, repairSizes, repairSizes-reversed}
 use Rattle.laws.proofs.Held.{successors-held}
 use Rattle.laws.proofs.Lay.{length-even}
 use Rattle.laws.proofs.ListTests.{and-left, every-ext}
 use Rattle.laws.proofs.RepairKeeps.{came-whole}
+use Rattle.laws.proofs.SameGaps.{linkGaps-reversed}
 use Rattle.laws.proofs.SoundMaps.{Passed, Sound, is-edged, is-lanes, is-map, is-roads, passed}
 use Rattle.laws.proofs.StaySound.{sound-repair, sound-reversed}
 use Rattle.laws.proofs.WordsReversed.{Counted, Even, allPairs-nested, counted-reversed, edgesSized-even}
@@ -91,10 +89,11 @@ module _ (text : List ℕ) (m : Map) (xs : List EdgedLane) (h : Sound text m xs)
       ≡ tablesOf text afterRepair xs
   unfolding withRepaired repairCounts putRepaired repairedOf tablesOf
   repaired-rows o =
+      let rs = afterRepair .roads in
       let js = afterRepair .junctions in
       λ i. record {
         text = text;
-        roads = rows-taken 20 (roadWords (afterRepair .roads)) (o .roads) _ (omega arith) (length-roads (afterRepair .roads)) i;
+        roads = rows-taken 20 (roadWords rs) (o .roads) _ (omega arith) (length-roads rs) i;
         sections = sections-kept i;
         junctions = rows-taken 5 (junctionWords js) (o .junctions) _ (omega arith) (length-junctions js) i;
         connections = rows-taken 7 (connectionWords js) (o .connections) _ (omega arith) (length-connections js) i;
@@ -370,46 +369,38 @@ module _ (text : List ℕ) (m : Map) (xs : List EdgedLane) (h : Sound text m xs)
           (λ n. some? (λ l. eqb (l .identity) n) (m .lanes)) ids (each one ids)
           ∙ ap (λ (ls : List Lane). every (λ n. some? (λ l. eqb (l .identity) n) ls) ids) (sym mended-lanes)
 
-  -- lanes: the words by which gap rows are compared
-  module _ (lanes : List ℕ) (told : AllTold lanes xs) where
-    pub gapContent-reversed : (offsets ids : List ℕ)
-        → comparedRows lanes (gapContent turnedThenMended offsets ids)
-        ≡ comparedRows lanes (gapContent mended offsets ids)
-    unfolding gapContent
-    gapContent-reversed offsets ids =
-        ap (λ ls. comparedRows lanes (gather gapWords (linkGaps ls (listsIn offsets ids))))
-        (is-edged text turnedMended turnedLanes turned-mended-sound)
-        ∙ words-alike lanes (linkGaps turnedLanes (listsIn offsets ids)) (linkGaps xs (listsIn offsets ids))
-        (linkGaps-compared alike s (m .roads) lanes xs told (listsIn offsets ids))
-        ∙ ap (λ ls. comparedRows lanes (gather gapWords (linkGaps ls (listsIn offsets ids))))
-        (sym (is-edged text mendedMap xs mended-sound))
+  pub gapContent-reversed : (offsets ids : List ℕ)
+      → gapContent turnedThenMended offsets ids ≡ gapContent mended offsets ids
+  unfolding gapContent
+  gapContent-reversed offsets ids =
+      ap (λ ls. gather gapWords (linkGaps ls (listsIn offsets ids)))
+      (is-edged text turnedMended turnedLanes turned-mended-sound)
+      ∙ ap (gather gapWords) (linkGaps-reversed alike s (m .roads) xs (listsIn offsets ids))
+      ∙ ap (λ ls. gather gapWords (linkGaps ls (listsIn offsets ids)))
+      (sym (is-edged text mendedMap xs mended-sound))
 
-    pub gapCall-reversed : (offsets ids o : List ℕ)
-        → comparedOutcome lanes (gapCall turnedThenMended offsets ids o)
-        ≡ comparedOutcome lanes (gapCall mended offsets ids o)
-    gapCall-reversed offsets ids o =
-        let fit = listsFit-reversed offsets ids in
-        let rules = gapRules-even turnedThenMended mended even-after turned-passed mended-passed offsets ids fit in
-        gapCall-compared lanes turnedThenMended offsets ids o
-        ∙ (λ i. called (tableWriting gapWidth) (rules i) (gapContent-reversed offsets ids i) o)
-        ∙ sym (gapCall-compared lanes mended offsets ids o)
+  pub gapCall-reversed : (offsets ids o : List ℕ)
+      → gapCall turnedThenMended offsets ids o ≡ gapCall mended offsets ids o
+  unfolding gapCall
+  gapCall-reversed offsets ids o =
+      let fit = listsFit-reversed offsets ids in
+      let rules = gapRules-even turnedThenMended mended even-after turned-passed mended-passed offsets ids fit in
+      λ i. called (tableWriting gapWidth) (rules i) (gapContent-reversed offsets ids i) o
 
   -- ---- all three calls
-  module _ (lanes : List ℕ) (told : AllTold lanes xs) (q : Buffers) where
-    from-reversed : (counts : List ℕ)
-        → compared lanes (fromRepaired q counts turnedThenMended) ≡ compared lanes (fromRepaired q counts mended)
+  module _ (q : Buffers) where
+    from-reversed : (counts : List ℕ) → fromRepaired q counts turnedThenMended ≡ fromRepaired q counts mended
     unfolding fromRepaired
     from-reversed counts =
-        ap (λ (r : Outcome ListOutputs). compared lanes (byLists q counts turnedThenMended (r .answer) (r .outs)))
+        ap (λ (r : Outcome ListOutputs). byLists q counts turnedThenMended (r .answer) (r .outs))
         (successionCall-reversed (q .forLists))
         ∙ go (successionCall mended (q .forLists) .answer) (successionCall mended (q .forLists) .outs)
       where
-        go : (a : Answer) (o : ListOutputs)
-            → compared lanes (byLists q counts turnedThenMended a o) ≡ compared lanes (byLists q counts mended a o)
+        go : (a : Answer) (o : ListOutputs) → byLists q counts turnedThenMended a o ≡ byLists q counts mended a o
         go (refused n) o = refl
         go (wrote ns) o =
             ap (lists counts (outcome (wrote ns) o))
-            (gapCall-reversed lanes told (take (word ns 0) (o .successorOffsets)) (take (word ns 1) (o .successorIds))
+            (gapCall-reversed (take (word ns 0) (o .successorOffsets)) (take (word ns 1) (o .successorIds))
             (q .forGaps))
 
     -- what is found where repair's refusal is r
@@ -427,21 +418,19 @@ module _ (text : List ℕ) (m : Map) (xs : List EdgedLane) (h : Sound text m xs)
         (repaired-is text n ys sound)
         ∙ repaired-rows text n ys sound (q .forRepair)
 
-    pub found-reversed : compared lanes (found q turned) ≡ compared lanes (found q plain)
+    pub found-reversed : found q turned ≡ found q plain
     unfolding found foundBy repairCall repairRefusal
     found-reversed =
-        ap (λ r. compared lanes (foundBy turned r)) (repairRefusal-reversed (repairLengths (q .forRepair)))
+        ap (foundBy turned) (repairRefusal-reversed (repairLengths (q .forRepair)))
         ∙ go (repairRefusal plain (repairLengths (q .forRepair)))
       where
-        go : (r : Option ℕ) → compared lanes (foundBy turned r) ≡ compared lanes (foundBy plain r)
+        go : (r : Option ℕ) → foundBy turned r ≡ foundBy plain r
         go (some n) = refl
         go none =
-            ap₂ (λ counts t. compared lanes (fromRepaired q counts t))
-            (counts-even (repairContent turned) (repairContent plain) even-content)
+            ap₂ (fromRepaired q) (counts-even (repairContent turned) (repairContent plain) even-content)
             (rows-written turnedMap turnedLanes turned-sound)
             ∙ from-reversed (repairCounts (repairContent plain))
-            ∙ ap (λ t. compared lanes (fromRepaired q (repairCounts (repairContent plain)) t))
-            (sym (rows-written m xs h))
+            ∙ ap (fromRepaired q (repairCounts (repairContent plain))) (sym (rows-written m xs h))
 
   pub same-lists : listContent (repairedTables turned) ≡ listContent (repairedTables plain)
   same-lists =
@@ -449,10 +438,9 @@ module _ (text : List ℕ) (m : Map) (xs : List EdgedLane) (h : Sound text m xs)
       ∙ lists-reversed
       ∙ ap listContent (sym (repaired-tables text m xs h))
 
-  pub same-gaps : (lanes : List ℕ) → AllTold lanes xs → (offsets ids : List ℕ)
-      → comparedRows lanes (gapContent (repairedTables turned) offsets ids)
-      ≡ comparedRows lanes (gapContent (repairedTables plain) offsets ids)
-  same-gaps lanes told offsets ids =
-      ap (λ t. comparedRows lanes (gapContent t offsets ids)) (repaired-tables text turnedMap turnedLanes turned-sound)
-      ∙ gapContent-reversed lanes told offsets ids
-      ∙ ap (λ t. comparedRows lanes (gapContent t offsets ids)) (sym (repaired-tables text m xs h))
+  pub same-gaps : (offsets ids : List ℕ)
+      → gapContent (repairedTables turned) offsets ids ≡ gapContent (repairedTables plain) offsets ids
+  same-gaps offsets ids =
+      ap (λ t. gapContent t offsets ids) (repaired-tables text turnedMap turnedLanes turned-sound)
+      ∙ gapContent-reversed offsets ids
+      ∙ ap (λ t. gapContent t offsets ids) (sym (repaired-tables text m xs h))

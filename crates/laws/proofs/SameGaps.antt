@@ -1,48 +1,27 @@
 -- On a map reversed and then repaired the lists of all lanes are those of the map repaired; and reversed lanes
--- have the gaps of the lanes, to the bit, and one-way lanes come closest where they did.
-use mathlib.Core.Path.{_≡_, refl, sym, _∙_, ap, ap₂}
-use mathlib.Core.Bool.{Bool, true, false, cond, true≢false}
+-- have the gap rows of the lanes, to the bit, places included.
+use mathlib.Core.Path.{_≡_, refl, _∙_, ap, ap₂}
+use mathlib.Core.Bool.{Bool, true, false, cond}
 use mathlib.Core.Option.{Option, none, some}
-use mathlib.Core.List.{List, [], _∷_, _++_, map, map-append, map-map}
+use mathlib.Core.List.{List, [], _∷_, _++_, map, map-map}
 use Prim.Native.Nat.{ℕ, suc}
 use lib.Dec.{eqb}
 use Rattle.geometry.specs.declared.segment.Point.{Point}
 use Rattle.geometry.specs.declared.gap.Direction.{Direction}
-use Rattle.geometry.specs.declared.gap.Direction.the-variants.{Backward, Both, Forward}
-use Rattle.geometry.specs.Gap.{closestEnds, flipped, gapOf, swapped}
-use Rattle.geometry.proofs.PlaceOrder.{OneWay}
-use Rattle.geometry.proofs.Promises.{gap-turned, one-way-turned}
-use Rattle.model.specs.Gaps.{GapRow, closestBetween, endsOf, gapBetween, gapRow, gapsFrom, linkGaps, pointsOf}
+use Rattle.geometry.specs.Gap.{closestEnds, decisionOf, flipped, gapOf, rowBits, swapped}
+use Rattle.geometry.proofs.PlaceOrder.{placesShown}
+use Rattle.geometry.proofs.Promises.{gap-turned, places-turned}
+use Rattle.model.specs.Gaps.{closestBetween, endsOf, gapBetween, gapRow, gapsFrom, linkGaps, pointsOf}
 use Rattle.model.specs.Gaps.{rowOfIdentity}
-use Rattle.model.specs.Lists.{gather, listO, mapO, pick}
+use Rattle.model.specs.Lists.{listO, mapO, pick}
 use Rattle.model.specs.Records.{EdgedLane, Map, Road, Span}
 use Rattle.model.specs.Repair.{repair}
 use Rattle.model.specs.Reversal.{reverseDirection, reverseEdged, reverseLane, reverseMap}
-use Rattle.model.specs.Succession.{isBoth, predecessorLists, predecessors, successorLists, successors}
-use Rattle.laws.proofs.Basics.{gather-ext, map-ext, map-gather}
+use Rattle.model.specs.Succession.{predecessorLists, predecessors, successorLists, successors}
+use Rattle.laws.proofs.Basics.{gather-ext, map-ext}
 use Rattle.laws.proofs.ForEach.{each}
 use Rattle.laws.proofs.SameLists.{predecessors-reversed, successors-reversed}
 use Rattle.laws.proofs.Valid.{Alike, Reversible, Steady, Valid}
-
--- P of every lane and its row, from row i on
-abbrev pub EachRow : (ℕ → EdgedLane → Type 0) → ℕ → List EdgedLane → Type 0
-EachRow P i [] = Unit {0}
-EachRow P i (x ∷ xs) = P i x × EachRow P (suc i) xs
-
-one-way : (d : Direction) → isBoth d ≡ false → OneWay d
-one-way Forward h = tt
-one-way Backward h = tt
-one-way Both h = true≢false h
-
--- lists put together from pieces that show the same
-show-joined : {A B C : Type 0} (shows : B → C) (f g : A → List B) (ks : List A) (xs ys : List B)
-    → ((k : A) → map shows (f k) ≡ map shows (g k)) → map shows xs ≡ map shows ys
-    → map shows (gather f ks ++ xs) ≡ map shows (gather g ks ++ ys)
-show-joined shows f g ks xs ys pieces rest =
-    map-append shows (gather f ks) xs
-    ∙ ap₂ (λ a b. a ++ b)
-    (map-gather f shows ks ∙ gather-ext _ _ ks (each pieces ks) ∙ sym (map-gather g shows ks)) rest
-    ∙ sym (map-append shows (gather g ks) ys)
 
 module _ (same : Span → Span → Bool) (mk : Span → Bool) (R : List Road) where
   abbrev turn : EdgedLane → EdgedLane
@@ -63,21 +42,21 @@ module _ (same : Span → Span → Bool) (mk : Span → Bool) (R : List Road) wh
       go true = turned
 
   -- the gap of two lanes
-  pub gap-reversed : (a b : EdgedLane) → gapBetween (turn a) (turn b) ≡ gapBetween a b
+  gap-reversed : (a b : EdgedLane) → gapBetween (turn a) (turn b) ≡ gapBetween a b
   unfolding gapBetween
   gap-reversed a b =
       ends-reversed (λ ends d. gapOf ends d (endsOf (turn b)) (turn b .lane .direction)) a (gap-turned _ _ _ _ .0)
       ∙ ends-reversed (λ ends d. gapOf (endsOf a) (a .lane .direction) ends d) b (gap-turned _ _ _ _ .1)
 
-  -- where one-way lanes come closest
-  pub places-reversed : (a b : EdgedLane) → isBoth (a .lane .direction) ≡ false → isBoth (b .lane .direction) ≡ false
-      → closestBetween (turn a) (turn b) ≡ closestBetween a b
+  -- the places that their row shows
+  places-reversed : (a b : EdgedLane)
+      → placesShown (closestBetween (turn a) (turn b)) ≡ placesShown (closestBetween a b)
   unfolding closestBetween
-  places-reversed a b a-one-way b-one-way =
-      ends-reversed (λ ends d. closestEnds ends d (endsOf (turn b)) (turn b .lane .direction)) a
-      (one-way-turned _ _ _ _ .0 (one-way (a .lane .direction) a-one-way))
-      ∙ ends-reversed (λ ends d. closestEnds (endsOf a) (a .lane .direction) ends d) b
-      (one-way-turned _ _ _ _ .1 (one-way (b .lane .direction) b-one-way))
+  places-reversed a b =
+      ends-reversed (λ ends d. placesShown (closestEnds ends d (endsOf (turn b)) (turn b .lane .direction))) a
+      (places-turned _ _ _ _ .0)
+      ∙ ends-reversed (λ ends d. placesShown (closestEnds (endsOf a) (a .lane .direction) ends d)) b
+      (places-turned _ _ _ _ .1)
 
   -- the row and the lane of an identity
   abbrev turnFound : ℕ × EdgedLane → ℕ × EdgedLane
@@ -95,45 +74,32 @@ module _ (same : Span → Span → Bool) (mk : Span → Bool) (R : List Road) wh
       go true ih = refl
       go false ih = ih
 
-  -- What rows show is the same of reversed lanes, from any lists of successors, where it is of each link by itself.
-  -- P: what is known of each lane and its row.
-  module _ {B : Type 0} (shows : GapRow → B) (P : ℕ → EdgedLane → Type 0)
-      (link : (i : ℕ) (a : EdgedLane) (b : ℕ × EdgedLane) → P i a → P (b .0) (b .1)
-      → map shows (gapRow i (turn a) (turnFound b)) ≡ map shows (gapRow i a b)) where
-    abbrev Known : Option (ℕ × EdgedLane) → Type 0
-    Known none = Unit {0}
-    Known (some b) = P (b .0) (b .1)
+  row-reversed : (i : ℕ) (a : EdgedLane) (b : ℕ × EdgedLane) → gapRow i (turn a) (turnFound b) ≡ gapRow i a b
+  unfolding gapRow
+  row-reversed i a b =
+      ap₂ (λ gap (at : ℕ × ℕ).
+      map (λ g. record { laneRow = i; nextRow = b .0; gap = g; u = at .0; v = at .1 }) (rowBits (decisionOf gap)))
+      (gap-reversed a (b .1)) (places-reversed a (b .1))
 
-    row-known : (k i : ℕ) (ls : List EdgedLane) → EachRow P i ls → Known (rowOfIdentity k i ls)
-    row-known k i [] known = tt
-    row-known k i (x ∷ xs) known = go (eqb (x .lane .identity) k) (row-known k (suc i) xs (known .1))
-      where
-        go : (b : Bool) → Known (rowOfIdentity k (suc i) xs)
-            → Known (cond b (some (i, x)) (rowOfIdentity k (suc i) xs))
-        go true later = known .0
-        go false later = later
+  rows-reversed : (ls : List EdgedLane) (i : ℕ) (zs : List EdgedLane) (ns : List (List ℕ))
+      → gapsFrom (map turn ls) i (map turn zs) ns ≡ gapsFrom ls i zs ns
+  rows-reversed ls i [] ns = refl
+  rows-reversed ls i (a ∷ more) [] = refl
+  rows-reversed ls i (a ∷ more) (n ∷ ns) =
+      ap₂ (λ x y. x ++ y) (gather-ext _ _ n (each one n)) (rows-reversed ls (suc i) more ns)
+    where
+      link-found : (o : Option (ℕ × EdgedLane)) → listO (mapO turnFound o) (gapRow i (turn a)) ≡ listO o (gapRow i a)
+      link-found none = refl
+      link-found (some b) = row-reversed i a b
 
-    link-found : (i : ℕ) (a : EdgedLane) (o : Option (ℕ × EdgedLane)) → P i a → Known o
-        → map shows (listO (mapO turnFound o) (gapRow i (turn a))) ≡ map shows (listO o (gapRow i a))
-    link-found i a none known next = refl
-    link-found i a (some b) known next = link i a b known next
+      one : (k : ℕ)
+          → listO (rowOfIdentity k 0 (map turn ls)) (gapRow i (turn a)) ≡ listO (rowOfIdentity k 0 ls) (gapRow i a)
+      one k = ap (λ o. listO o (gapRow i (turn a))) (row-of-reversed k 0 ls) ∙ link-found (rowOfIdentity k 0 ls)
 
-    rows-reversed : (ls : List EdgedLane) → EachRow P 0 ls
-        → (i : ℕ) (zs : List EdgedLane) → EachRow P i zs → (ns : List (List ℕ))
-        → map shows (gapsFrom (map turn ls) i (map turn zs) ns) ≡ map shows (gapsFrom ls i zs ns)
-    rows-reversed ls all i [] known ns = refl
-    rows-reversed ls all i (a ∷ more) known [] = refl
-    rows-reversed ls all i (a ∷ more) known (n ∷ ns) =
-        show-joined shows (λ k. listO (rowOfIdentity k 0 (map turn ls)) (gapRow i (turn a)))
-        (λ k. listO (rowOfIdentity k 0 ls) (gapRow i a)) n _ _
-        (λ k. ap (λ o. map shows (listO o (gapRow i (turn a)))) (row-of-reversed k 0 ls)
-        ∙ link-found i a (rowOfIdentity k 0 ls) (known .0) (row-known k 0 ls all))
-        (rows-reversed ls all (suc i) more (known .1) ns)
-
-    pub linkGaps-reversed : (ls : List EdgedLane) → EachRow P 0 ls → (ns : List (List ℕ))
-        → map shows (linkGaps (map turn ls) ns) ≡ map shows (linkGaps ls ns)
-    unfolding linkGaps
-    linkGaps-reversed ls known ns = rows-reversed ls known 0 ls known ns
+  -- reversed lanes have the gap rows of the lanes, from any lists of successors
+  pub linkGaps-reversed : (ls : List EdgedLane) (ns : List (List ℕ)) → linkGaps (map turn ls) ns ≡ linkGaps ls ns
+  unfolding linkGaps
+  linkGaps-reversed ls ns = rows-reversed ls 0 ls ns
 
 module _ (same : Span → Span → Bool) (A : Alike same) (mk : Span → Bool) (S : Steady same mk) (m : Map)
     (v : Valid same m) (h : Reversible same mk m) where

@@ -9,17 +9,17 @@
 -- repairedMap t: the map after repair. gapsOf t: the gap rows, from the lists of that map.
 -- Each P xs: P of every element of xs. List·Memᴰ a l: a stands in l.
 use mathlib.Core.Path.{_≡_}
-use mathlib.Core.Bool.{Bool, true, not, _||_}
+use mathlib.Core.Bool.{Bool, true, not}
 use mathlib.Core.Option.{none}
-use mathlib.Core.List.{List, [], _∷_, map, List·Memᴰ}
+use mathlib.Core.List.{List, [], map, List·Memᴰ}
 use Prim.Native.Nat.{ℕ, _+_, _<_}
 use lib.ListN.{length, getD}
-use Rattle.model.specs.Calls.{ListOutputs, RepairOutputs, gapRules, gapWords, listContent, repairCall}
-use Rattle.model.specs.Calls.{repairContent, repairedMap, reversalRefusal, reversedMap, successionCall, successionRules}
+use Rattle.model.specs.Calls.{ListOutputs, RepairOutputs, gapRules, listContent, repairCall, repairContent}
+use Rattle.model.specs.Calls.{repairedMap, reversalRefusal, reversedMap, successionCall, successionRules}
 use Rattle.model.specs.Calls.{tableRules, warningWidth, wrote}
-use Rattle.model.specs.Claim.{Claim, Mutual, comparedRows, isTwoWay, listRows, repairedTables, reversedWarning}
+use Rattle.model.specs.Claim.{Claim, Mutual, listRows, repairedTables, reversedWarning}
 use Rattle.model.specs.Joined.{isReadings, isRepairs, joinedWarnings}
-use Rattle.model.specs.Lists.{count, gather, isSome, keep, member, pick}
+use Rattle.model.specs.Lists.{count, isSome, keep, member, pick}
 use Rattle.model.specs.Lookup.{listLookup}
 use Rattle.model.specs.Reading.{RawTables}
 use Rattle.model.specs.ReadingCalls.{junctionContent}
@@ -30,7 +30,6 @@ use Rattle.model.specs.Sequence.{Call, isEmpty, reversedOnceBy, toggledMarks}
 use Rattle.model.specs.Succession.{isBoth, predecessorLists, predecessors, successorLists, successors}
 use Rattle.model.specs.Tables.{Tables, edgedLanesOf, isAbsent, laneTables, lanesOf, mapOf, mapTables, nameSize}
 use Rattle.model.specs.Tables.{nameStart, tablesOf}
-use Rattle.laws.proofs.Compared.{one-ways-alike, three-alike, words-alike}
 use Rattle.laws.proofs.Encoded.{edged-whole, map-back}
 use Rattle.laws.proofs.Joined.{joined-length, joined-readings, joined-repairs}
 use Rattle.laws.proofs.Looked.{listContent-looked}
@@ -99,27 +98,10 @@ pub same-lists : (t : Tables) (marks lengths : List ℕ) → reversalRefusal t m
 same-lists t marks lengths accepted =
     (successors-over t marks lengths accepted, predecessors-over t marks lengths accepted)
 
--- the gap rows are the same, to the bit, but that u and v are compared only where both lanes are one-way
+-- the gap rows are the same, to the bit: lane row, successor row, gap and both places
 pub same-gap-rows : (t : Tables) (marks lengths : List ℕ) → reversalRefusal t marks lengths ≡ none →
-    comparedRows (t .lanes) (gather gapWords (gapsOf (reversedOnceBy marks t)))
-    ≡ comparedRows (t .lanes) (gather gapWords (gapsOf t))
-same-gap-rows t marks lengths accepted =
-    words-alike (t .lanes) (gapsOf (reversedOnceBy marks t)) (gapsOf t) (gaps-over t marks lengths accepted)
-
--- that is: lane row, successor row and gap bits of every row are the same
-pub same-gap-bits : (t : Tables) (marks lengths : List ℕ) → reversalRefusal t marks lengths ≡ none →
-    map (λ g. g .laneRow ∷ g .nextRow ∷ g .gap ∷ []) (gapsOf (reversedOnceBy marks t))
-    ≡ map (λ g. g .laneRow ∷ g .nextRow ∷ g .gap ∷ []) (gapsOf t)
-same-gap-bits t marks lengths accepted =
-    three-alike (t .lanes) (gapsOf (reversedOnceBy marks t)) (gapsOf t) (gaps-over t marks lengths accepted)
-
--- and the rows between one-way lanes are, with u and v
-pub same-one-way-rows : (t : Tables) (marks lengths : List ℕ) → reversalRefusal t marks lengths ≡ none →
-    keep (λ g. not (isTwoWay (t .lanes) (g .laneRow) || isTwoWay (t .lanes) (g .nextRow)))
-    (gapsOf (reversedOnceBy marks t))
-    ≡ keep (λ g. not (isTwoWay (t .lanes) (g .laneRow) || isTwoWay (t .lanes) (g .nextRow))) (gapsOf t)
-same-one-way-rows t marks lengths accepted =
-    one-ways-alike (t .lanes) (gapsOf (reversedOnceBy marks t)) (gapsOf t) (gaps-over t marks lengths accepted)
+    gapsOf (reversedOnceBy marks t) ≡ gapsOf t
+same-gap-rows t marks lengths accepted = gaps-over t marks lengths accepted
 
 -- repair's warnings differ only in the end of a marked road: each row has its first three words, and the fourth
 -- is the other end where the road is marked
@@ -190,7 +172,7 @@ warnings-joined t u as-read = (joined-readings t u as-read, joined-repairs t u a
 -- ---- DEMAND 3
 -- THE CLAIM HOLDS of every sequence of reversal calls on every tables, refused ones included, with outputs of
 -- any content and length. The model's specs/Claim.antt says it part by part: each answer, the tables,
--- the set, one reversal at once, repair's answer and warnings, the same lists and gap rows (with u and v where both
--- lanes are one-way), and that the lists that are found are each other's converse.
+-- the set, one reversal at once, repair's answer and warnings, the same lists and gap rows, and that the lists
+-- that are found are each other's converse.
 pub every-sequence : (t : Tables) (cs : List Call) → Claim t cs
 every-sequence t cs = demand3.every-sequence t cs

@@ -9,12 +9,8 @@ use Rattle.geometry.specs.declared.segment.Closest.{Closest}
 use Rattle.geometry.specs.declared.gap.Direction.{Direction}
 use Rattle.geometry.specs.declared.gap.Direction.the-variants.{Backward, Both, Forward}
 use Rattle.geometry.specs.Segment.{closestOf, distanceOf}
-use Rattle.model.specs.Calls.{refused, wrote}
-use Rattle.model.specs.Claim.{comparedOutput, comparedRows}
 use Rattle.model.specs.Gaps.{GapRow, closestBetween, gapBetween, pointsOf}
 use Rattle.model.specs.Records.{EdgedLane}
-use Rattle.model.specs.Rows.{table}
-use Rattle.model.specs.Tables.{laneRow, laneWords}
 use Rattle.model.proofs.CardMaps.{a, bits, endAt, lane}
 use Rattle.model.proofs.Computed.{gapRows}
 
@@ -107,15 +103,15 @@ edge x y z x′ y′ z′ = bits x ∷ bits y ∷ bits z ∷ bits x′ ∷ bits 
 abbrev edged : ℕ → Direction → (start end : List Float) → EdgedLane
 edged identity direction start end = record { lane = lane identity a 0 1 direction none; atStart = start; atEnd = end }
 
--- bits of 1/4, 1/2, 11, 2 to the power 64, -0 and -2
+-- bits of 1/4, 1/2, 4096, 2 to the power 64, -0, -1 and -2
 abbrev quarter : ℕ
 quarter = 0x3e80_0000
 
 abbrev half : ℕ
 half = 0x3f00_0000
 
-abbrev at11 : ℕ
-at11 = 0x4130_0000
+abbrev at4096 : ℕ
+at4096 = 0x4580_0000
 
 abbrev huge : ℕ
 huge = 0x5f80_0000
@@ -123,11 +119,13 @@ huge = 0x5f80_0000
 abbrev atMinus0 : ℕ
 atMinus0 = 0x8000_0000
 
+abbrev atMinus1 : ℕ
+atMinus1 = 0xbf80_0000
+
 abbrev atMinus2 : ℕ
 atMinus2 = 0xc000_0000
 
--- an end that lies nowhere; (0,0,0)-(0,2,0); and two ends 1 beside that: one runs on from its middle, one leads away
--- from its start
+-- an end that lies nowhere; (0,0,0)-(0,2,0); and one that runs on 1 beside its middle
 abbrev unsurveyed : List Float
 unsurveyed = endAt atNan
 
@@ -136,9 +134,6 @@ upright = edge at0 at0 at0 at0 at2 at0
 
 abbrev middle : List Float
 middle = edge at1 at1 at0 at1 at2 at0
-
-abbrev corner : List Float
-corner = edge at1 at0 at0 at2 at0 at0
 
 -- the gap rows of two lanes, given by direction, start and end, where the first leads into the second
 abbrev link : (from : Direction) (fromStart fromEnd : List Float) (to : Direction) (toStart toEnd : List Float)
@@ -203,37 +198,79 @@ pub of-the-least : (link Both middle (beyond at10) Forward upright unsurveyed �
 unfolding gapRows
 of-the-least = (refl, refl, refl)
 
--- "those of the first least pair, exits end before start, then entries likewise": start and end of the two-way lane lie
--- 1 away, and the end counts. So, with the two swapped as reversal does, other places are shown.
-pub end-before-start : (link Both corner middle Forward upright unsurveyed ≡ shown at1 0 half)
-    × (link Both middle corner Forward upright unsurveyed ≡ shown at1 0 0)
-    × (link Forward unsurveyed upright Both corner middle ≡ shown at1 half 0)
-    × (link Forward unsurveyed upright Both middle corner ≡ shown at1 0 0)
+-- ---- "Ties shall go to the smallest u, then the smallest v, compared as floats"
+-- these are the rows of a link to a two-way lane, whichever of two ends is its start
+abbrev EntriesTie : (exit entry other : List Float) → List GapRow → Type 0
+EntriesTie exit entry other rows =
+    (link Forward unsurveyed exit Both entry other ≡ rows) × (link Forward unsurveyed exit Both other entry ≡ rows)
+
+-- and of a link from one
+abbrev ExitsTie : (exit other entry : List Float) → List GapRow → Type 0
+ExitsTie exit other entry rows =
+    (link Both exit other Forward entry unsurveyed ≡ rows) × (link Both other exit Forward entry unsurveyed ≡ rows)
+
+-- ends that lead to the point at height y 1 beside upright, and away from it
+abbrev toward : ℕ → List Float
+toward y = edge at2 y at0 at1 y at0
+
+abbrev away : ℕ → List Float
+away y = edge at1 y at0 at2 y at0
+
+-- the smaller u, though with the larger v: (0, 1) before (1/2, 0), and (0, 1/2) before (1, 0)
+pub tie-to-smaller-u : EntriesTie upright (away at1) (toward at0) (shown at1 0 at1)
+    × ExitsTie (away at1) (toward at0) upright (shown at1 0 half)
 unfolding gapRows
-end-before-start = (refl, refl, refl, refl)
+tie-to-smaller-u = ((refl, refl), (refl, refl))
 
--- the first lane's end is 1 from the second's start, and its start 1 from the second's end: its end counts, with any
--- entry, before its start
-pub exits-before-entries : link Both (edge at10 at0 at0 at10 at2 at0) upright Both middle (endAt at11)
-    ≡ shown at1 half 0
+-- with equal u the smaller v: (1/2, 0) before (1/2, 1), and (0, 1/2) before (0, 1)
+pub tie-to-smaller-v : EntriesTie upright (away at1) (toward at1) (shown at1 half 0)
+    × ExitsTie (away at1) (away at2) upright (shown at1 0 half)
 unfolding gapRows
-exits-before-entries = refl
+tie-to-smaller-v = ((refl, refl), (refl, refl))
 
--- ---- what the claim compares of gap rows: u and v only where both lanes are one-way
--- the words of two lanes, by their directions
-abbrev ways : Direction → Direction → List ℕ
-ways first second = laneWords (lane 7 a 0 1 first none ∷ lane 9 a 0 2 second none ∷ [])
+-- -0 equals +0, so v decides: slant has (-0, 0), passing (+0, 1/2), inward (-0, 1). By bits passing would come before
+-- slant, and with -0 below +0 inward before passing.
+abbrev passing : List Float
+passing = edge at1 atMinus2 at0 at1 at2 at0
 
--- a row from the first to the second, and one from the second to itself
-abbrev twoRows : List ℕ
-twoRows = 0 ∷ 1 ∷ at1 ∷ half ∷ quarter ∷ 1 ∷ 1 ∷ at2 ∷ quarter ∷ half ∷ []
+abbrev inward : List Float
+inward = edge at2 at0 at0 at1 atMinus0 atMinus0
 
--- a row is compared without its places if either lane is two-way; words past the rows written are compared as they are
-pub places-compared : (comparedRows (ways Forward Backward) twoRows ≡ twoRows)
-    × (comparedRows (ways Both Forward) twoRows ≡ 0 ∷ 1 ∷ at1 ∷ 0 ∷ 0 ∷ 1 ∷ 1 ∷ at2 ∷ quarter ∷ half ∷ [])
-    × (comparedRows (ways Forward Both) twoRows ≡ 0 ∷ 1 ∷ at1 ∷ 0 ∷ 0 ∷ 1 ∷ 1 ∷ at2 ∷ 0 ∷ 0 ∷ [])
-    × (comparedOutput (ways Both Both) (wrote (1 ∷ [])) twoRows
-    ≡ 0 ∷ 1 ∷ at1 ∷ 0 ∷ 0 ∷ 1 ∷ 1 ∷ at2 ∷ quarter ∷ half ∷ [])
-    × (comparedOutput (ways Both Both) (refused 9) twoRows ≡ twoRows)
-unfolding comparedRows laneRow laneWords table
-places-compared = (refl, refl, refl, refl, refl)
+pub minus-zero-ties : (toBits binary32 (closest upright passing .u) ≡ 0)
+    × (toBits binary32 (closest upright inward .u) ≡ atMinus0)
+    × EntriesTie upright slant passing (shown at1 0 0)
+    × EntriesTie upright inward passing (shown at1 0 half)
+unfolding gapRows
+minus-zero-ties = (refl, refl, (refl, refl), (refl, refl))
+
+-- gaps are equal where their roots are: the squares are 4096 * 4096 at (1/2, 0), and 2 more at (0, 0)
+pub equal-roots-tie : EntriesTie upright (beyond at4096) (edge at4096 atMinus1 at1 at4096 atMinus2 at1)
+    (shown at4096 0 0)
+unfolding gapRows
+equal-roots-tie = (refl, refl)
+
+-- two two-way lanes whose ends are all 1 apart, at four different places
+abbrev climbing : List Float
+climbing = edge at0 at0 at0 at0 at1 at1
+
+abbrev falling : List Float
+falling = edge at1 at0 at1 at1 at1 at0
+
+abbrev fallingOn : List Float
+fallingOn = edge at1 at1 at1 at1 at2 at0
+
+pub four-places : (link Forward unsurveyed upright Forward falling unsurveyed ≡ shown at1 half at1)
+    × (link Forward unsurveyed upright Forward fallingOn unsurveyed ≡ shown at1 at1 at1)
+    × (link Forward unsurveyed climbing Forward falling unsurveyed ≡ shown at1 half half)
+    × (link Forward unsurveyed climbing Forward fallingOn unsurveyed ≡ shown at1 at1 0)
+unfolding gapRows
+four-places = (refl, refl, refl, refl)
+
+-- "The places shown must then survive every accepted reversal": with either lane turned round, or both, another pair
+-- comes first, and the row is the same
+pub same-row-turned : (link Both upright climbing Both falling fallingOn ≡ shown at1 half half)
+    × (link Both climbing upright Both falling fallingOn ≡ shown at1 half half)
+    × (link Both upright climbing Both fallingOn falling ≡ shown at1 half half)
+    × (link Both climbing upright Both fallingOn falling ≡ shown at1 half half)
+unfolding gapRows
+same-row-turned = (refl, refl, refl, refl)

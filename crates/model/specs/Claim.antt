@@ -1,18 +1,17 @@
 -- The claim about a sequence of reversals, demand 3, as one statement. Definitions only.
 use mathlib.Core.Path.{_≡_}
-use mathlib.Core.Bool.{Bool, true, cond, _||_}
+use mathlib.Core.Bool.{Bool, true}
 use mathlib.Core.Option.{Option, none, some}
-use mathlib.Core.List.{List, [], _∷_, _++_, map}
-use Prim.Native.Nat.{ℕ, _<_, _*_, _/_}
+use mathlib.Core.List.{List, [], _∷_, map}
+use Prim.Native.Nat.{ℕ, _<_, _/_}
 use lib.Dec.{eqb}
-use lib.ListN.{length, take, drop, getD}
-use Rattle.model.specs.Lists.{count, member, gather}
+use lib.ListN.{length, take, getD}
+use Rattle.model.specs.Lists.{count, member}
 use Rattle.model.specs.Rows.{table, word}
 use Rattle.model.specs.Tables.{Tables, laneWidth}
 use Rattle.model.specs.Lookup.{listsIn}
 use Rattle.model.specs.Rules.{fits}
-use Rattle.model.specs.Calls.{Answer, refused, wrote, outcome, warningWidth, gapWidth, ListOutputs}
-use Rattle.model.specs.Calls.{ReversalOutputs}
+use Rattle.model.specs.Calls.{Answer, refused, wrote, warningWidth, ListOutputs, ReversalOutputs}
 use Rattle.model.specs.Calls.{repairContent, repairRefusal, listContent, gapContent, reversalLengths}
 use Rattle.model.specs.Calls.{reversalContent, reversalCall}
 use Rattle.model.specs.Sequence.{Call, after, run, answers, emptySet, toggledMark, reversedBy, setAfter}
@@ -75,31 +74,6 @@ pub record Mutual (lanes : List ℕ) (l : ListOutputs) : Type 0 where
       member (identityAt lanes j) (listAt (l .successorOffsets) (l .successorIds) i)
       ≡ member (identityAt lanes i) (listAt (l .successorOffsets) (l .successorIds) j)
 
--- ---- gap rows under reversal: "the same .. when lane rows, successor rows and gap bits are"; "u and v must agree
--- where both lanes are one-way"
--- a gap row as it is compared: u and v are left out, as 0, where its lane or its successor is two-way
-unfoldable pub comparedRow : (lanes row : List ℕ) → List ℕ
-comparedRow lanes row =
-    cond (isTwoWay lanes (word row 0) || isTwoWay lanes (word row 1)) (take 3 row ++ 0 ∷ 0 ∷ []) row
-
--- the words of gap rows, each row so
-unfoldable pub comparedRows : (lanes rows : List ℕ) → List ℕ
-unfolding comparedRow
-comparedRows lanes rows = gather (comparedRow lanes) (table gapWidth rows)
-
--- an output of the gap check, with the rows written so, and the words after them
-abbrev pub comparedOutput : List ℕ → Answer → List ℕ → List ℕ
-comparedOutput lanes (refused k) o = o
-comparedOutput lanes (wrote counts) o =
-    comparedRows lanes (take (word counts 0 * gapWidth) o) ++ drop (word counts 0 * gapWidth) o
-
--- what repair, succession and the gap check come to, with the gap rows so
-abbrev pub compared : List ℕ → Found → Found
-compared lanes (noRepair k) = noRepair k
-compared lanes (noLists counts k) = noLists counts k
-compared lanes (lists counts succession gaps) =
-    lists counts succession (outcome (gaps .answer) (comparedOutput lanes (gaps .answer) (gaps .outs)))
-
 -- a warning row with the end turned where its road is in the set
 unfoldable pub reversedWarning : List ℕ → List ℕ → List ℕ
 reversedWarning set r = word r 0 ∷ word r 1 ∷ word r 2 ∷ toggledMark (word r 3) (word set (word r 2)) ∷ []
@@ -128,12 +102,11 @@ module _ (t : Tables) (cs : List Call) where
     pub warned : table warningWidth (repairContent (run t cs) .warnings)
         ≡ map (reversedWarning theSet) (table warningWidth (repairContent t .warnings))
     -- repair, succession and the gap check, with whatever outputs, give the same answers, lists and gap rows
-    pub alike : (q : Buffers) → compared (t .lanes) (found q (run t cs)) ≡ compared (t .lanes) (found q t)
-    -- the lists and the gap rows themselves, whatever outputs they are written to
+    pub alike : (q : Buffers) → found q (run t cs) ≡ found q t
+    -- the lists and the gap rows themselves, places included, whatever outputs they are written to
     pub same-lists : listContent (repairedTables (run t cs)) ≡ listContent (repairedTables t)
     pub same-gaps : (offsets ids : List ℕ)
-        → comparedRows (t .lanes) (gapContent (repairedTables (run t cs)) offsets ids)
-        ≡ comparedRows (t .lanes) (gapContent (repairedTables t) offsets ids)
+        → gapContent (repairedTables (run t cs)) offsets ids ≡ gapContent (repairedTables t) offsets ids
     -- and the lists that are found are each other's converse
     pub converse : (q : Buffers) (l : ListOutputs) → foundLists (found q (run t cs)) ≡ some l →
         Mutual (run t cs .lanes) l

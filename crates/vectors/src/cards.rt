@@ -158,7 +158,7 @@ fn across(x: f32) -> [Point; 2] {
     [at(x, 0.0), at(x, 2.0)]
 }
 
-// The least of four distances, all NaN, and of four numbers: infinity at 0 and 0, and the first of the least.
+// The least of four distances, all NaN, and of four numbers: infinity at 0 and 0, and 2.5.
 fn show_least_gaps() {
     let odd = at(value(NAN), 4.0);
     let here = [across(0.0), across(10.0)];
@@ -215,16 +215,60 @@ fn show_places() {
     print_link_of(b"of the third two", along(), over(1.0e30));
 }
 
-// A two-way lane with both ends equally near, its end drawn onward and its start back; and with the two swapped. The
-// end is shown.
-fn show_tie() {
+// A link of two-way lanes, given by their two ends, and with these swapped.
+fn print_tie(label: &[u8], from: [[Point; 2]; 2], to: [[Point; 2]; 2]) {
+    print(label);
+    print_seen(link_gap(from, Direction::Both, to, Direction::Both));
+    print(b"swapped");
+    print_seen(link_gap(
+        [from[1], from[0]],
+        Direction::Both,
+        [to[1], to[0]],
+        Direction::Both,
+    ));
+}
+
+// Two-way lanes equally near at several ends: the smallest u is shown, then the smallest v, and -0 equals +0.
+fn show_ties() {
+    let far = across(1000.0);
     let onward = along();
     let back = [onward[1], onward[0]];
-    let next = [over(0.5), across(1000.0)];
-    print(b"two-way lane, both ends equally near");
-    print_seen(link_gap([back, onward], Direction::Both, next, Direction::Forward));
-    print(b"swapped");
-    print_seen(link_gap([onward, back], Direction::Both, next, Direction::Forward));
+    let right = Point {
+        x: 1.0,
+        y: -1.0,
+        z: 0.5,
+    };
+    let left = Point {
+        x: 1.0,
+        y: 3.0,
+        z: 0.5,
+    };
+    let low = Point {
+        x: 0.25,
+        y: 0.0,
+        z: -1.0,
+    };
+    let high = Point {
+        x: 0.25,
+        y: 0.0,
+        z: 1.0,
+    };
+    let by = at(0.25, 0.0);
+    print_tie(
+        b"equally near at u = 0.75 and 0.25",
+        [onward, back],
+        [over(0.5), far],
+    );
+    print_tie(
+        b"equally near at u = 0.25, v = 0.75 and 0.25",
+        [onward, far],
+        [[right, left], [left, right]],
+    );
+    print_tie(
+        b"equally near at u = +0, v = 0.5 and u = -0, v = 0",
+        [across(0.0), far],
+        [[by, by], [low, high]],
+    );
 }
 
 // The lanes 7, 3, 5 and 9 along the x axis: of each, two points at its start and two at its end.
@@ -260,7 +304,7 @@ pub fn show() {
     show_distances();
     show_least_gaps();
     show_places();
-    show_tie();
+    show_ties();
     print_link(
         7,
         EDGES_7,
