@@ -100,6 +100,17 @@ eq-is (fin s m e) (inf true) h k = refl
 eq-is (fin s m e) (inf false) h k = refl
 eq-is (fin s m e) (fin t n d) h k = level-is s t (m * up e * down d) (n * up d * down e)
 
+pub eq-comm : (x y : Float) → eq x y ≡ eq y x
+eq-comm x y = go (nan-or-not x) (nan-or-not y)
+  where
+    go : (x ≡ nan) ⊎ T (not (isNan x)) → (y ≡ nan) ⊎ T (not (isNan y)) → eq x y ≡ eq y x
+    go (inl x-nan) either = rw (x-nan, nan-eq, eq-nan)
+    go (inr x-number) (inl y-nan) = rw (y-nan, nan-eq, eq-nan)
+    go (inr x-number) (inr y-number) =
+        eq-is x y x-number y-number
+        ∙ and-comm (not (lt x y)) (not (lt y x))
+        ∙ sym (eq-is y x y-number x-number)
+
 -- what is equal is not below
 pub equal-not-below : (x y : Float) → eq x y ≡ true → lt x y ≡ false
 unfolding le

@@ -3,7 +3,7 @@
 use mathlib.Core.Path.{_≡_, refl, subst}
 use mathlib.Core.Logic.{_⊎_}
 use mathlib.Core.Bool.{false, not}
-use mathlib.Core.List.{List, [], _∷_, List·Memᴰ}
+use mathlib.Core.List.{List, [], _∷_, map, List·Memᴰ}
 use lib.Dec.{T}
 use lib.Ieee.{Float, inf, binary32, ofBits, isNan, fits}
 use lib.Ieee.Positive.{positive}
@@ -48,19 +48,16 @@ distance-no-sign first second = (
 )
 
 -- ---- (c) The least of any list of distances does not depend on their order.
--- f of each of some pairs of segments
-abbrev pub eachOf : {A : Type 0} → (List Point → List Point → A) → List (List Point × List Point) → List A
-eachOf f [] = []
-eachOf f (p ∷ ps) = f (p .0) (p .1) ∷ eachOf f ps
-
+-- P of what f gives of each pair of segments
 each-of : {A : Type 0} (P : A → Type 0) (f : List Point → List Point → A)
-    → ((first second : List Point) → P (f first second)) → (ps : List (List Point × List Point)) → Each P (eachOf f ps)
+    → ((first second : List Point) → P (f first second))
+    → (ps : List (List Point × List Point)) → Each P (map (λ (p : List Point × List Point). f (p .0) (p .1)) ps)
 each-of P f holds [] = tt
 each-of P f holds (p ∷ ps) = (holds (p .0) (p .1), each-of P f holds ps)
 
 -- the distances of some pairs of segments
 abbrev pub distances : List (List Point × List Point) → List Float
-distances ps = eachOf distanceOf ps
+distances ps = map (λ (p : List Point × List Point). distanceOf (p .0) (p .1)) ps
 
 pub least-in-any-order : (ps : List (List Point × List Point)) {ds : List Float} → Rearranged Float (distances ps) ds
     → leastFrom (inf false) (distances ps) ≡ leastFrom (inf false) ds
@@ -120,7 +117,7 @@ places-are-numbers from leaves to enters =
 -- ---- (l) The choice does not depend on the order of candidates: its gap, and its places as a row shows them.
 -- the distances of some pairs of segments with their places
 abbrev pub closests : List (List Point × List Point) → List Closest
-closests ps = eachOf closestOf ps
+closests ps = map (λ (p : List Point × List Point). closestOf (p .0) (p .1)) ps
 
 pub choice-in-any-order : (ps : List (List Point × List Point)) {cs : List Closest}
     → Rearranged Closest (closests ps) cs

@@ -1,6 +1,6 @@
 -- Distances compared by their squares: a smaller root has a smaller number (`closer-not`), one that is four patterns
 -- smaller has a smaller root (`closer-far`), two numbers have one root where the lower has no smaller one
--- (`tied-below`, `tied-above`), and the tolerance has a square of its own (`passed-is`). Assumes nothing.
+-- (`tied-lower`), and the tolerance has a square of its own (`passed-is`). Assumes nothing.
 use mathlib.Core.Path.{_≡_, refl, sym, ap, ap₂, _∙_}
 use mathlib.Core.Logic.{_⊎_, inl, inr}
 use Prim.Native.Nat.{ℕ, _+_, _≤_, _<_, zero-le}
@@ -125,20 +125,12 @@ root-number x plain number = let r = with-root x plain number in rw (r .root) (b
 
 module _ (x y : Float) (plain-x : Plain x) (plain-y : Plain y) where
   -- x at most y: one root unless that of x is smaller
-  pub tied-below : {t : Bool} → le x y ≡ true → t ≡ lt (rootOf x) (rootOf y) → not t ≡ eq (rootOf x) (rootOf y)
-  tied-below at-most smaller =
+  pub tied-lower : {t : Bool} → le x y ≡ true → t ≡ lt (rootOf x) (rootOf y) → not t ≡ eq (rootOf x) (rootOf y)
+  tied-lower at-most smaller =
       let numbers = compared-numbers x y at-most in
       let not-above = not-true _ (sym (le-is x y (numbers .0) (numbers .1)) ∙ at-most) in
       let roots = eq-is _ _ (root-number x plain-x (numbers .0)) (root-number y plain-y (numbers .1)) in
       rw (roots, ← smaller, ← closer-not y x plain-y plain-x not-above) (sym (and-true _))
-
-  -- y at most x: one root unless that of y is smaller
-  pub tied-above : {t : Bool} → le y x ≡ true → t ≡ lt (rootOf y) (rootOf x) → not t ≡ eq (rootOf x) (rootOf y)
-  tied-above at-most smaller =
-      let numbers = compared-numbers y x at-most in
-      let not-above = not-true _ (sym (le-is y x (numbers .0) (numbers .1)) ∙ at-most) in
-      let roots = eq-is _ _ (root-number x plain-x (numbers .1)) (root-number y plain-y (numbers .0)) in
-      rw (roots, ← smaller, ← closer-not x y plain-x plain-y not-above)
 
   -- neither: one of them is a NaN
   pub tied-nan : le x y ≡ false → le y x ≡ false → false ≡ eq (rootOf x) (rootOf y)

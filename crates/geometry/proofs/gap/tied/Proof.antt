@@ -1,8 +1,9 @@
 -- `geometry::gap::tied` meets its contract. Assumes nothing.
-use mathlib.Core.Path.{sym, subst}
+use mathlib.Core.Path.{sym, _∙_, subst}
 use lib.Dec.{T}
+use Rattle.geometry.proofs.FloatOrder.{eq-comm}
 use Rattle.geometry.proofs.GapOrder.{Plain}
-use Rattle.geometry.proofs.SquareOrder.{tied-below, tied-above, tied-nan}
+use Rattle.geometry.proofs.SquareOrder.{tied-lower, tied-nan}
 use borrow.Author.Needs.{needs}
 use Rattle.geometry.proofs.gap.tied.Statement.{statement}
 use Rattle.geometry.proofs.gap.tied.Tie as tie
@@ -21,7 +22,7 @@ returns : tie.Need-returns
 returns c =
     let start : tie.Start = search in
     let at-most : tie.Then1 = search in
-    tied-below _ _ (plain-x start) (plain-y start) (at-most .if1 .taken) (c .closer .ensures)
+    tied-lower _ _ (plain-x start) (plain-y start) (at-most .if1 .taken) (c .closer .ensures)
 
 closer-requires-2 : tie.Need-closer-requires-2
 closer-requires-2 c κs = search needs
@@ -30,7 +31,7 @@ returns-2 : tie.Need-returns-2
 returns-2 c =
     let start : tie.Start = search in
     let at-most : tie.Then2 = search in
-    tied-above _ _ (plain-x start) (plain-y start) (at-most .if2 .taken) (c .closer2 .ensures)
+    tied-lower _ _ (plain-y start) (plain-x start) (at-most .if2 .taken) (c .closer2 .ensures) ∙ eq-comm _ _
 
 returns-3 : tie.Need-returns-3
 returns-3 c =
