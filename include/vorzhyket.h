@@ -30,13 +30,16 @@ enum {
     VZ_LANE = 10,       /* identity, road name, section, number, direction (0 forward, 1 backward, 2 both),
                            successor flag and number, predecessor flag and number */
     VZ_EDGE = 12,       /* floats of a lane: two points at its start, two at its end */
-    VZ_WARNING = 4,     /* of repair: 3, junction row, road row, end; of reading: 1, raw junction row, raw connection
-                           row, 0, or 2, raw junction row, raw connection row, raw lane link row */
+    VZ_WARNING = 4,     /* of repair: 3, junction row, road row, end. Of reading what is dropped: 1, raw junction row,
+                           raw connection row, 0, or 2, raw junction row, raw connection row, raw lane link row; and
+                           a contactPoint that is there and neither "start" nor "end": 4, VZ_NO_ROW, raw road row, 0
+                           for a predecessor and 1 for a successor, or 4, raw junction row, raw connection row, 0 */
     VZ_GAP = 5,         /* lane row, successor row, bits of the gap, bits of u and v: how far along the lane's end and
                            the successor's, from first point to second, 0 to 1, the two come closest; never -0, and 0
                            and 0 where the gap is infinite */
     /* attributes as a file has them: every name may be absent */
-    VZ_RAW_TARGET = 9,      /* element flag, elementType, elementId, contactPoint, elementS; flag 0 has all absent */
+    VZ_RAW_TARGET = 9,      /* element flag, elementType, elementId, contactPoint, elementS; flag 0 has all absent. Two
+                               to a road, predecessor first */
     VZ_RAW_JUNCTION = 8,    /* id, type, mainRoad, raw connection part */
     VZ_RAW_CONNECTION = 14, /* id, type, incomingRoad, connectingRoad, linkedRoad, contactPoint, raw lane link part */
     VZ_RAW_LANE_LINK = 4,   /* from, to */
@@ -44,6 +47,7 @@ enum {
     VZ_LINKS = 4            /* of a lane: predecessor flag and number, successor flag and number */
 };
 #define VZ_ABSENT UINT32_MAX
+#define VZ_NO_ROW UINT32_MAX
 
 /* The most that is read. An output may be longer. */
 enum {
@@ -170,16 +174,20 @@ uint32_t vz_root(float x, float *out);
  * distance is one. */
 float vz_distance(const float first[6], const float second[6], float places[2]);
 
-/* Reads targets. Writes a target for each raw target: none where the flag is 0 or elementId is absent. Refuses by 1, 2
- * and 9. */
+/* Reads targets, two raw targets to a road. Writes a target for each: none where the flag is 0 or elementId is absent.
+ * A contact is given where contactPoint is "start" or "end"; any other reads as start and isn't given. Writes a warning
+ * for each target that is there with such another. Refuses by 1, also where the raw targets are odd in number, 2 and
+ * 9. */
 uint32_t vz_read_targets(
     const uint8_t *text, size_t text_length,
     const uint32_t *raw, size_t raw_length,
     uint32_t *targets_out, size_t targets_out_length,
-    uint32_t written[1]);
+    uint32_t *warnings_out, size_t warnings_out_length,
+    uint32_t written[2]);
 
 /* Reads junctions. Writes the junctions, connections and pairs of a map, and a warning for each connection or lane
- * link that is dropped. Refuses by 1, 2, 5 and 9. */
+ * link that is dropped, and for each connection kept whose contactPoint is there and neither "start" nor "end", ahead
+ * of those of its lane links. Refuses by 1, 2, 5 and 9. */
 uint32_t vz_read_junctions(
     const uint8_t *text, size_t text_length,
     const uint32_t *raw_junctions, size_t raw_junctions_length,

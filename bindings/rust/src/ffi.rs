@@ -82,7 +82,8 @@ extern "C" {
         text: *const u8, text_length: usize,
         raw: *const u32, raw_length: usize,
         targets_out: *mut u32, targets_out_length: usize,
-        written: &mut [u32; 1],
+        warnings_out: *mut u32, warnings_out_length: usize,
+        written: &mut [u32; 2],
     ) -> u32;
 
     pub fn vz_read_junctions(

@@ -54,6 +54,9 @@ macro_rules! call {
 /// Where a name is absent, its start; its length is then 0.
 pub const ABSENT: u32 = u32::MAX;
 
+/// Where a row's number stands and there is none.
+pub const NO_ROW: u32 = u32::MAX;
+
 /// The tables of a map.
 #[derive(Clone, Copy, Debug, Default)]
 pub struct Map<'a> {
@@ -139,6 +142,20 @@ pub struct ReversalCounts {
     pub pairs: usize,
     pub lanes: usize,
     pub edges: usize,
+}
+
+/// What [`read_targets`] writes.
+#[derive(Debug)]
+pub struct TargetOutputs<'a> {
+    pub targets: &'a mut [u32],
+    pub warnings: &'a mut [u32],
+}
+
+/// The rows that [`read_targets`] wrote to each output.
+#[derive(Clone, Copy, Debug, PartialEq, Eq)]
+pub struct TargetCounts {
+    pub targets: usize,
+    pub warnings: usize,
 }
 
 /// The tables that [`read_junctions`] reads: attributes as a file has them.
@@ -276,15 +293,20 @@ pub fn distance(first: &[f32; 6], second: &[f32; 6]) -> Closest {
     Closest { gap, u: places[0], v: places[1] }
 }
 
-/// Reads targets: for each raw target of nine words, a target's seven. Returns how many.
-pub fn read_targets(text: &[u8], raw: &[u32], out: &mut [u32]) -> Result<usize, Refusal> {
-    let mut n = [0; 1];
-    call!(vz_read_targets, [text, raw], [out], &mut n)?;
-    Ok(n[0] as usize)
+/// Reads targets, two raw targets to a road, predecessor first: for each raw target of nine words, a target's seven. A
+/// contact is given where contactPoint is "start" or "end"; any other reads as start and isn't given. Writes a warning
+/// row for each target that is there with such another: 4, [`NO_ROW`], raw road row, 0 for a predecessor and 1 for a
+/// successor. An odd count of raw targets is a [`Refusal::BadSize`].
+pub fn read_targets(text: &[u8], raw: &[u32], outputs: TargetOutputs) -> Result<TargetCounts, Refusal> {
+    let (o, mut n) = (outputs, [0; 2]);
+    call!(vz_read_targets, [text, raw], [o.targets, o.warnings], &mut n)?;
+    let [targets, warnings] = n.map(|k| k as usize);
+    Ok(TargetCounts { targets, warnings })
 }
 
 /// Reads junctions with their connections and pairs. Writes a warning row for each connection or lane link that is
-/// dropped.
+/// dropped, and for each connection kept whose contactPoint is there and neither "start" nor "end": 4, raw junction row,
+/// raw connection row, 0, ahead of the rows of its lane links.
 pub fn read_junctions(raw: RawJunctions, outputs: JunctionOutputs) -> Result<JunctionCounts, Refusal> {
     let (r, o, mut n) = (raw, outputs, [0; 4]);
     call!(vz_read_junctions, [r.text, r.junctions, r.connections, r.lane_links], [o.junctions, o.connections, o.pairs, o.warnings], &mut n)?;
@@ -345,8 +367,10 @@ mod tests {
         // SAFETY: `out` is a local.
         assert_eq!(Refusal::check(unsafe { ffi::vz_root(-1.0, &mut out) }), Err(Refusal::BelowZero));
         assert_eq!(out, 7.0);
+        let mut n = [7; 2];
+        assert_eq!(call!(vz_read_targets, [text, short], [a, b], &mut n), Err(Refusal::BadSize));
+        assert_eq!(n, [7; 2]);
         let mut n = [7; 1];
-        assert_eq!(call!(vz_read_targets, [text, short], [a], &mut n), Err(Refusal::BadSize));
         assert_eq!(call!(vz_read_lanes, [text, short], [a], &mut n), Err(Refusal::BadSize));
         assert_eq!(n, [7; 1]);
         let mut n = [7; 4];

@@ -1,5 +1,5 @@
--- Both calls' warnings joined junction by junction: those of each call are all there, in their own order, and no
--- others.
+-- The targets' warnings, and those of both calls joined junction by junction: those of each call are all there, in
+-- their own order, and no others.
 use mathlib.Core.Path.{_≡_, refl, sym, _∙_, ap, ap₂, subst}
 use mathlib.Core.Bool.{Bool, true, false, not, cond}
 use mathlib.Core.Option.{Option, none, some}
@@ -8,17 +8,17 @@ use Prim.Native.Nat.{ℕ, zero, suc, _+_, _/_, _≤_}
 use native.Mathlib.Nat.{le-refl, mul-div-cancel}
 use native.Mathlib.Omega.{arith}
 use lib.Dec.{eqb}
-use lib.ListN.{length, length-map}
+use lib.ListN.{length, length-append, length-map}
 use borrow.Author.Tests.{eq-eqb, ne-eqb}
 use Rattle.model.specs.Calls.{repairContent, warningRow, warningWidth}
 use Rattle.model.specs.Joined.{isReadings, isRepairs, joinedFrom, joinedWarnings, warnedAt}
 use Rattle.model.specs.Lists.{gather, isSome, keep, listO, mapO}
-use Rattle.model.specs.Reading.{RawTables, ReadWarning, connectionDropped, connectionWarnings, connectionsAt}
-use Rattle.model.specs.Reading.{junctionRows, junctionWarnings, keptConnections, kindAt, laneLinkDropped}
-use Rattle.model.specs.Reading.{laneLinkWarnings, laneLinksAt, partRows, passedOver, rawJunction}
-use Rattle.model.specs.Reading.{readConnection, readJunction, readJunctions, readPair, readWarningRow}
-use Rattle.model.specs.Reading.{readWarnings, toList}
-use Rattle.model.specs.ReadingCalls.{junctionContent}
+use Rattle.model.specs.Reading.{RawTables, ReadWarning, connectionDropped, connectionLoose, connectionWarnings}
+use Rattle.model.specs.Reading.{connectionsAt, contactAt, contactWarnings, junctionRows, junctionWarnings}
+use Rattle.model.specs.Reading.{keptConnections, kindAt, laneLinkDropped, laneLinkWarnings, laneLinksAt, partRows}
+use Rattle.model.specs.Reading.{passedOver, rawJunction, readConnection, readJunction, readJunctions, readPair}
+use Rattle.model.specs.Reading.{readWarningRow, readWarnings, targetLoose, targetWarnings, toList}
+use Rattle.model.specs.ReadingCalls.{junctionContent, targetContent}
 use Rattle.model.specs.Records.{Connection, Junction, JunctionKind, Road, Span, common, direct, virtual}
 use Rattle.model.specs.Repair.{Warning, missingEnd, missingLink, repairRoads, startRoads, warnAfter, warnAll}
 use Rattle.model.specs.Repair.{warnOne, warnOver, warnings}
@@ -97,14 +97,26 @@ module _ (t : RawTables) where
       go true = tt
       go false = (refl, tt)
 
+  of-contact : (j c : ℕ) → Each (ReadOf j) (contactWarnings t j c)
+  of-contact j c = go (contactAt t c .loose)
+    where
+      go : (b : Bool) → Each (ReadOf j) (cond b (connectionLoose j c ∷ []) [])
+      go true = (refl, tt)
+      go false = tt
+
   of-connection : (j c : ℕ) → Each (ReadOf j) (connectionWarnings t j c)
   unfolding connectionWarnings
   of-connection j c = go (passedOver t j c) (isSome (readConnection t j c))
     where
+      dropped : List ReadWarning
+      dropped = gather (laneLinkWarnings t j c) (laneLinksAt t c)
+
       go : (over there : Bool) → Each (ReadOf j) (cond over []
-          (cond there (gather (laneLinkWarnings t j c) (laneLinksAt t c)) (connectionDropped j c ∷ [])))
+          (cond there (contactWarnings t j c ++ dropped) (connectionDropped j c ∷ [])))
       go true there = tt
-      go false true = each-gathered (ReadOf j) (laneLinkWarnings t j c) (of-lane-link j c) (laneLinksAt t c)
+      go false true =
+          each-append (ReadOf j) (contactWarnings t j c) dropped (of-contact j c)
+          (each-gathered (ReadOf j) (laneLinkWarnings t j c) (of-lane-link j c) (laneLinksAt t c))
       go false false = (refl, tt)
 
   of-junction : (j : ℕ) → Each (ReadOf j) (junctionWarnings t j)
@@ -128,6 +140,30 @@ module _ (t : RawTables) where
 is-reading : (w : ReadWarning) → isReadings (readWarningRow w) ≡ true
 is-reading (connectionDropped j c) = refl
 is-reading (laneLinkDropped j c l) = refl
+is-reading (connectionLoose j c) = refl
+is-reading (targetLoose r e) = refl
+
+-- rows of reading, as its calls write them
+read-rows : (ws : List ReadWarning) → table warningWidth (gather readWarningRow ws) ≡ map readWarningRow ws
+read-rows ws = table-even 4 readWarningRow ws (omega arith) (each four ws)
+  where
+    four : (w : ReadWarning) → length (readWarningRow w) ≡ 4
+    four (connectionDropped j c) = refl
+    four (laneLinkDropped j c l) = refl
+    four (connectionLoose j c) = refl
+    four (targetLoose r e) = refl
+
+all-readings : (ws : List ReadWarning) → Each (λ w. isReadings w ≡ true) (table warningWidth (gather readWarningRow ws))
+all-readings ws =
+    rw (read-rows ws) (each-of-map readWarningRow (λ w. isReadings w ≡ true) ws (each is-reading ws))
+
+-- of reading's rows none is repair's
+turned : (b : Bool) → not b ≡ true → b ≡ false
+turned false e = refl
+turned true e = sym e
+
+none-repairs : (ws : List (List ℕ)) → Each (λ w. isReadings w ≡ true) ws → Each (λ w. isRepairs w ≡ false) ws
+none-repairs ws each-reading = each-map (λ w e. turned (isRepairs w) e) ws each-reading
 
 -- ---- those of repair
 abbrev RepairOf : ℕ → Warning → Type 0
@@ -179,11 +215,6 @@ rowsRead t js = length (gather (λ j. toList (readJunction t j)) js)
 -- ---- joined: dropping those of one call leaves those of the other
 module _ (t : RawTables) (read repaired : List (List ℕ)) (of-reading : Each (λ w. isReadings w ≡ true) read)
     (of-repair : Each (λ w. isRepairs w ≡ true) repaired) where
-  -- of reading's rows none is repair's, and the other way round
-  turned : (b : Bool) → not b ≡ true → b ≡ false
-  turned false e = refl
-  turned true e = sym e
-
   abbrev joined : ℕ → List ℕ → List (List ℕ)
   joined k js = joinedFrom t read repaired k js
 
@@ -209,7 +240,7 @@ module _ (t : RawTables) (read repaired : List (List ℕ)) (of-reading : Each (�
   repairs-past j rest = keep-append isRepairs (warnedAt j read) rest
       ∙ ap (λ xs. xs ++ keep isRepairs rest)
       (keep-no isRepairs (warnedAt j read) (each-keep (λ w. isRepairs w ≡ false) _ read
-      (each-map (λ w e. turned (isRepairs w) e) read of-reading)))
+      (none-repairs read of-reading)))
 
   -- the raw junctions js: what reading says of each
   keep-readings : (k : ℕ) (js : List ℕ) → keep isReadings (joined k js) ≡ gather (λ j. warnedAt j read) js
@@ -244,8 +275,11 @@ module _ (t : RawTables) (read repaired : List (List ℕ)) (of-reading : Each (�
       go (some n) others =
           repairs-at k (joined (suc k) js) ∙ ap (λ xs. warnedAt k repaired ++ xs) (others (suc k))
 
--- ---- the rows that the two calls write, repair on the junctions that reading wrote
-module _ (t : RawTables) (u : Tables) (as-read : u .junctions ≡ junctionContent t .junctions) where
+-- ---- the rows that the calls write, repair on the junctions that reading wrote
+module _ (text raw : List ℕ) (t : RawTables) (u : Tables) (as-read : u .junctions ≡ junctionContent t .junctions) where
+  abbrev targets : List (List ℕ)
+  targets = table warningWidth (targetContent text raw .warnings)
+
   abbrev readings : List (List ℕ)
   readings = table warningWidth (junctionContent t .warnings)
 
@@ -253,15 +287,14 @@ module _ (t : RawTables) (u : Tables) (as-read : u .junctions ≡ junctionConten
   repairs = table warningWidth (repairContent u .warnings)
 
   abbrev both : List (List ℕ)
-  both = joinedWarnings t (junctionContent t .warnings) (repairContent u .warnings)
+  both = joinedFrom t readings repairs 0 (junctionRows t)
+
+  abbrev all : List (List ℕ)
+  all = joinedWarnings t (targetContent text raw .warnings) (junctionContent t .warnings) (repairContent u .warnings)
 
   readings-are : readings ≡ map readWarningRow (readWarnings t)
   unfolding junctionContent
-  readings-are = table-even 4 readWarningRow (readWarnings t) (omega arith) (each four (readWarnings t))
-    where
-      four : (w : ReadWarning) → length (readWarningRow w) ≡ 4
-      four (connectionDropped j c) = refl
-      four (laneLinkDropped j c l) = refl
+  readings-are = read-rows (readWarnings t)
 
   repairs-are : repairs ≡ map (warningRow u) (warnings (same u) (mapOf u))
   unfolding repairContent
@@ -271,10 +304,13 @@ module _ (t : RawTables) (u : Tables) (as-read : u .junctions ≡ junctionConten
       four : (w : Warning) → length (warningRow u w) ≡ 4
       four w = unfold warningRow in refl
 
+  of-targets : Each (λ w. isReadings w ≡ true) targets
+  unfolding targetContent
+  of-targets = all-readings (targetWarnings text raw)
+
   of-reading : Each (λ w. isReadings w ≡ true) readings
-  of-reading =
-      rw readings-are (each-of-map readWarningRow (λ w. isReadings w ≡ true) (readWarnings t)
-      (each is-reading (readWarnings t)))
+  unfolding junctionContent
+  of-reading = all-readings (readWarnings t)
 
   of-repair : Each (λ w. isRepairs w ≡ true) repairs
   of-repair =
@@ -290,16 +326,14 @@ module _ (t : RawTables) (u : Tables) (as-read : u .junctions ≡ junctionConten
       ∙ ap (λ (n : ℕ). n / 5) (length-junctions (readJunctions t))
       ∙ mul-div-cancel (length (readJunctions t)) (omega arith)
 
-  pub joined-readings : keep isReadings both ≡ readings
-  unfolding joinedWarnings
-  joined-readings =
+  both-readings : keep isReadings both ≡ readings
+  both-readings =
       keep-readings t readings repairs of-reading of-repair 0 (junctionRows t)
       ∙ row-by-row (subst (InRows 0 (length (t .junctions) / 8)) (sym readings-are)
       (unfold readWarnings in read-in-rows t 0 (length (t .junctions) / 8)))
 
-  pub joined-repairs : keep isRepairs both ≡ repairs
-  unfolding joinedWarnings
-  joined-repairs =
+  both-repairs : keep isRepairs both ≡ repairs
+  both-repairs =
       let rows : rowsRead t (junctionRows t) ≡ length (mapOf u .junctions)
       = sym (junctions-read ∙ (unfold readJunctions in refl)) in
       keep-repairs t readings repairs of-reading of-repair 0 (junctionRows t)
@@ -307,8 +341,22 @@ module _ (t : RawTables) (u : Tables) (as-read : u .junctions ≡ junctionConten
       ∙ row-by-row (subst (InRows 0 (length (mapOf u .junctions))) (sym repairs-are)
       (unfold warnings in repaired-in-rows u 0 (mapOf u .junctions) (startRoads (same u) (mapOf u))))
 
-  pub joined-length : length both ≡ length readings + length repairs
-  joined-length = sym (halves both) ∙ ap₂ (λ (m n : ℕ). m + n) (ap length joined-readings) (ap length joined-repairs)
+  pub joined-readings : keep isReadings all ≡ targets ++ readings
+  unfolding joinedWarnings
+  joined-readings =
+      keep-append isReadings targets both
+      ∙ ap₂ (λ xs ys. xs ++ ys) (keep-each isReadings targets of-targets) both-readings
+
+  pub joined-repairs : keep isRepairs all ≡ repairs
+  unfolding joinedWarnings
+  joined-repairs =
+      keep-append isRepairs targets both
+      ∙ ap₂ (λ xs ys. xs ++ ys) (keep-no isRepairs targets (none-repairs targets of-targets)) both-repairs
+
+  pub joined-length : length all ≡ length targets + length readings + length repairs
+  joined-length =
+      let read = ap length joined-readings ∙ length-append targets readings in
+      omega (arith, halves all, read, ap length joined-repairs)
     where
       halves : (ws : List (List ℕ)) → length (keep isReadings ws) + length (keep isRepairs ws) ≡ length ws
       halves [] = refl

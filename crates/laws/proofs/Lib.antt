@@ -20,6 +20,7 @@ pub mod RepairKeeps
 pub mod SuccessionReversed
 pub mod SameLists
 pub mod SameGaps
+pub mod Contacts
 pub mod Converse
 pub mod ByBytes
 -- The rules, and words and records.

@@ -8,10 +8,10 @@
 -- reversedOnceBy marks t: the tables with what reversal by the marks writes in place of what it reads.
 -- repairedMap t: the map after repair. gapsOf t: the gap rows, from the lists of that map.
 -- Each P xs: P of every element of xs. List·Memᴰ a l: a stands in l.
-use mathlib.Core.Path.{_≡_}
-use mathlib.Core.Bool.{Bool, true, not}
-use mathlib.Core.Option.{none}
-use mathlib.Core.List.{List, [], map, List·Memᴰ}
+use mathlib.Core.Path.{_≡_, refl}
+use mathlib.Core.Bool.{Bool, true, false, not}
+use mathlib.Core.Option.{Option, none, some}
+use mathlib.Core.List.{List, [], _++_, map, List·Memᴰ}
 use Prim.Native.Nat.{ℕ, _+_, _<_}
 use lib.ListN.{length, getD}
 use Rattle.model.specs.Calls.{ListOutputs, RepairOutputs, gapRules, listContent, repairCall, repairContent}
@@ -21,15 +21,17 @@ use Rattle.model.specs.Claim.{Claim, Mutual, listRows, repairedTables, reversed
 use Rattle.model.specs.Joined.{isReadings, isRepairs, joinedWarnings}
 use Rattle.model.specs.Lists.{count, isSome, keep, member, pick}
 use Rattle.model.specs.Lookup.{listLookup}
-use Rattle.model.specs.Reading.{RawTables}
-use Rattle.model.specs.ReadingCalls.{junctionContent}
-use Rattle.model.specs.Records.{EdgedLane, Lane, Map, Road}
+use Rattle.model.specs.Reading.{RawTables, contactOf, endText, readTarget, reads}
+use Rattle.model.specs.ReadingCalls.{junctionContent, targetContent}
+use Rattle.model.specs.Records.{EdgedLane, Lane, Map, Road, Span, Target}
+use Rattle.model.specs.Repair.{backEnd}
 use Rattle.model.specs.Rows.{table}
 use Rattle.model.specs.Rules.{edgesFit, firstBroken, identitiesOnce, idsOnce, marksFit, same}
 use Rattle.model.specs.Sequence.{Call, isEmpty, reversedOnceBy, toggledMarks}
 use Rattle.model.specs.Succession.{isBoth, predecessorLists, predecessors, successorLists, successors}
 use Rattle.model.specs.Tables.{Tables, edgedLanesOf, isAbsent, laneTables, lanesOf, mapOf, mapTables, nameSize}
-use Rattle.model.specs.Tables.{nameStart, tablesOf}
+use Rattle.model.specs.Tables.{nameIn, nameStart, tablesOf}
+use Rattle.laws.proofs.Contacts.{given-there, loose-reads, no-end}
 use Rattle.laws.proofs.Encoded.{edged-whole, map-back}
 use Rattle.laws.proofs.Joined.{joined-length, joined-readings, joined-repairs}
 use Rattle.laws.proofs.Looked.{listContent-looked}
@@ -160,14 +162,40 @@ pub gap-check-passes : (t : Tables) → firstBroken (successionRules t) ≡ none
 gap-check-passes t succession-passes edges-fit = through t succession-passes edges-fit
 
 -- ---- warnings
--- the Rust's list of warnings, from what reading and then repair, on the junctions that reading wrote, warn of:
--- without repair's it is reading's list, without reading's it is repair's, and nothing else is in it
-pub warnings-joined : (t : RawTables) (u : Tables) → u .junctions ≡ junctionContent t .junctions →
+-- the Rust's list of warnings, from what the readings and then repair, on the junctions that reading wrote, warn of:
+-- without repair's it is the readings' lists, the targets' first; without the readings' it is repair's; and nothing
+-- else is in it
+pub warnings-joined : (text raw : List ℕ) (t : RawTables) (u : Tables) → u .junctions ≡ junctionContent t .junctions →
+    let targets = table warningWidth (targetContent text raw .warnings) in
     let read = table warningWidth (junctionContent t .warnings) in
     let repaired = table warningWidth (repairContent u .warnings) in
-    let both = joinedWarnings t (junctionContent t .warnings) (repairContent u .warnings) in
-    (keep isReadings both ≡ read) × (keep isRepairs both ≡ repaired) × (length both ≡ length read + length repaired)
-warnings-joined t u as-read = (joined-readings t u as-read, joined-repairs t u as-read, joined-length t u as-read)
+    let all =
+    joinedWarnings t (targetContent text raw .warnings) (junctionContent t .warnings) (repairContent u .warnings) in
+    (keep isReadings all ≡ targets ++ read) × (keep isRepairs all ≡ repaired)
+    × (length all ≡ length targets + length read + length repaired)
+warnings-joined text raw t u as-read = (
+  joined-readings text raw t u as-read,
+  joined-repairs text raw t u as-read,
+  joined-length text raw t u as-read,
+)
+
+-- ---- contact points
+-- where a contactPoint is absent or one of the two spellings, its contact and its given flag are the Rust's: "end" is
+-- end, and given means that the attribute is there
+pub contact-as-rust : (text : List ℕ) (o : Option Span) → contactOf text o .loose ≡ false →
+    (contactOf text o .contact ≡ reads text endText o) × (contactOf text o .given ≡ isSome o)
+contact-as-rust text o strict = (refl, given-there text o strict)
+
+-- one spelled loosely reads as an absent one: start, and not given
+pub loose-as-absent : (text : List ℕ) (o : Option Span) → contactOf text o .loose ≡ true →
+    (contactOf text o .contact ≡ contactOf text none .contact) × (contactOf text o .given ≡ contactOf text none .given)
+loose-as-absent text o loose = loose-reads text o loose
+
+-- so a target with such a contactPoint names no end of the road that it links to, and repair takes no notice of it
+pub loose-names-no-end : (text r : List ℕ) (t : Target) → readTarget text r ≡ some t
+    → contactOf text (nameIn r 5) .loose ≡ true → (alike : Span → Span → Bool) (n : Span) →
+    backEnd alike n t ≡ none
+loose-names-no-end text r t read loose alike n = no-end text r t read loose alike n
 
 -- ---- DEMAND 3
 -- THE CLAIM HOLDS of every sequence of reversal calls on every tables, refused ones included, with outputs of

@@ -1,5 +1,6 @@
 -- "The Rust's list is both calls' warnings joined junction by junction": the warnings of reading and of repair as
--- `junctions` of links.rs gives them. Definitions only.
+-- `junctions` of links.rs gives them, and before them those of the targets, which the Rust has none of. Definitions
+-- only.
 use mathlib.Core.Bool.{Bool, not, cond}
 use mathlib.Core.List.{List, [], _∷_, _++_}
 use Prim.Native.Nat.{ℕ, suc}
@@ -10,7 +11,7 @@ use Rattle.model.specs.Tables.{nameIn}
 use Rattle.model.specs.Calls.{warningWidth}
 use Rattle.model.specs.Reading.{RawTables, rawJunction, junctionRows}
 
--- is a warning row repair's? It has 3 in its first word, and those of reading have 1 or 2
+-- is a warning row repair's? It has 3 in its first word, and those of reading have 1, 2 or 4
 abbrev pub isRepairs : List ℕ → Bool
 isRepairs w = eqb (word w 0) 3
 
@@ -32,7 +33,8 @@ module _ (t : RawTables) (read repaired : List (List ℕ)) where
       (warnedAt k repaired ++ joinedFrom (suc k) js)
       (joinedFrom k js)
 
--- THE RUST'S LIST, from the warnings that both calls wrote
-unfoldable pub joinedWarnings : RawTables → (read repaired : List ℕ) → List (List ℕ)
-joinedWarnings t read repaired =
-    joinedFrom t (table warningWidth read) (table warningWidth repaired) 0 (junctionRows t)
+-- THE RUST'S LIST, from the warnings that the calls wrote; those of the targets "come first, in that order"
+unfoldable pub joinedWarnings : RawTables → (targets read repaired : List ℕ) → List (List ℕ)
+joinedWarnings t targets read repaired =
+    table warningWidth targets
+    ++ joinedFrom t (table warningWidth read) (table warningWidth repaired) 0 (junctionRows t)

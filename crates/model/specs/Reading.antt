@@ -1,16 +1,16 @@
 -- "Attribute reading": lane numbers, targets, a lane's links, and junctions with their connections, pairs and
 -- warnings, from attributes as a file has them. Definitions only.
-use mathlib.Core.Bool.{Bool, false, _&&_, _||_, cond}
+use mathlib.Core.Bool.{Bool, false, not, _&&_, _||_, cond}
 use mathlib.Core.Option.{Option, none, some}
 use mathlib.Core.List.{List, [], _∷_, _++_, map}
-use Prim.Native.Nat.{ℕ, zero, suc, _+_, _*_, _-_, _/_}
+use Prim.Native.Nat.{ℕ, zero, suc, _+_, _*_, _-_, _/_, _%_}
 use lib.Dec.{eqb, leb}
 use lib.ListN.{length, take, drop}
 use Rattle.model.specs.Lists.{pick, isSome, mapO, bindO, listO, gather}
 use Rattle.model.specs.Records.{Span, Target, JunctionKind, common, direct, virtual, Pair, Connection, Junction}
 use Rattle.model.specs.Text.{equalBytes, bytesOf, sameIn}
 use Rattle.model.specs.Rows.{word}
-use Rattle.model.specs.Tables.{flag, nameIn, linkWords}
+use Rattle.model.specs.Tables.{flag, nameIn, linkWords, noRow}
 use Rattle.model.specs.Repair.{isVirtual}
 use Rattle.model.specs.Reversal.{negated}
 use Rattle.model.specs.Rules.{isDirect}
@@ -43,7 +43,10 @@ laneNumber (b ∷ bs) = cond (eqb b 45) (mapO negated (upTo 2147483648 (digits b
     (cond (eqb b 43) (upTo 2147483647 (digits bs)) (upTo 2147483647 (digits (b ∷ bs))))
 
 -- ---- attributes: names that may be absent
--- "end", "junction", "direct", "virtual"
+-- "start", "end", "junction", "direct", "virtual"
+abbrev pub startText : List ℕ
+startText = 115 ∷ 116 ∷ 97 ∷ 114 ∷ 116 ∷ []
+
 abbrev pub endText : List ℕ
 endText = 101 ∷ 110 ∷ 100 ∷ []
 
@@ -55,6 +58,12 @@ directText = 100 ∷ 105 ∷ 114 ∷ 101 ∷ 99 ∷ 116 ∷ []
 
 abbrev pub virtualText : List ℕ
 virtualText = 118 ∷ 105 ∷ 114 ∷ 116 ∷ 117 ∷ 97 ∷ 108 ∷ []
+
+-- what a contactPoint says: the contact, false being start; whether it is given; whether it is spelled loosely
+pub record ContactPoint : Type 0 where
+  pub contact : Bool
+  pub given : Bool
+  pub loose : Bool
 
 module _ (text : List ℕ) where
   -- is the attribute there, and has it just these bytes?
@@ -77,14 +86,22 @@ module _ (text : List ℕ) where
   abbrev pub kindRead : Option Span → JunctionKind
   kindRead o = cond (reads directText o) direct (cond (reads virtualText o) virtual common)
 
+  -- "OpenDRIVE knows "start" and "end" only"
+  abbrev pub isSpelled : Option Span → Bool
+  isSpelled o = reads startText o || reads endText o
+
+  -- "A contact is given only with those two spellings; any other reads as start, isn't given": a loose one
+  abbrev pub contactOf : Option Span → ContactPoint
+  contactOf o = record { contact = reads endText o; given = isSpelled o; loose = isSome o && not (isSpelled o) }
+
   -- "Raw target: element flag and elementType, elementId, contactPoint, elementS"; flag 0 and "absent elementId
-  -- gives no target. contactPoint "end" is end, all else start; given means the attribute is there"
+  -- gives no target"
   unfoldable pub readTarget : List ℕ → Option Target
   readTarget r = cond (flag (word r 0)) (mapO (λ n. record {
     isJunction = reads junctionText (nameIn r 1);
     name = n;
-    contact = reads endText (nameIn r 5);
-    given = isSome (nameIn r 5);
+    contact = contactOf (nameIn r 5) .contact;
+    given = contactOf (nameIn r 5) .given;
     along = isSome (nameIn r 7);
   }) (nameIn r 3)) none
 
@@ -92,14 +109,7 @@ module _ (text : List ℕ) where
   unfoldable pub readLane : List ℕ → List ℕ
   readLane r = linkWords (numberOf (nameIn r 0)) ++ linkWords (numberOf (nameIn r 2))
 
--- ---- junctions
--- the raw tables as lent
-pub record RawTables : Type 0 where
-  pub text : List ℕ
-  pub junctions : List ℕ
-  pub connections : List ℕ
-  pub laneLinks : List ℕ
-
+-- ---- rows and warnings
 -- row k of a table with w words a row
 abbrev pub rowAt : ℕ → List ℕ → ℕ → List ℕ
 rowAt w ws k = take w (drop (k * w) ws)
@@ -109,14 +119,41 @@ abbrev pub partRows : ℕ → ℕ → List ℕ
 partRows first zero = []
 partRows first (suc count) = first ∷ partRows (suc first) count
 
--- "Warnings, 4 words: 1, raw junction row, connection row, 0; or 2, junction row, connection row, lane link row"
+-- "Warnings, 4 words: 1, raw junction row, connection row, 0; or 2, junction row, connection row, lane link row"; and
+-- "warning row 4 with raw junction row or 4,294,967,295, raw connection or road row, 0 for a predecessor or
+-- connection and 1 for a successor"
 pub data ReadWarning : Type 0 where
   connectionDropped : (junction connection : ℕ) → ReadWarning
   laneLinkDropped : (junction connection laneLink : ℕ) → ReadWarning
+  connectionLoose : (junction connection : ℕ) → ReadWarning
+  targetLoose : (road end : ℕ) → ReadWarning
 
 abbrev pub readWarningRow : ReadWarning → List ℕ
 readWarningRow (connectionDropped j c) = 1 ∷ j ∷ c ∷ 0 ∷ []
 readWarningRow (laneLinkDropped j c l) = 2 ∷ j ∷ c ∷ l ∷ []
+readWarningRow (connectionLoose j c) = 4 ∷ j ∷ c ∷ 0 ∷ []
+readWarningRow (targetLoose r e) = 4 ∷ noRow ∷ r ∷ e ∷ []
+
+module _ (text raw : List ℕ) where
+  -- is the target of raw row i kept, and its contactPoint spelled loosely?
+  unfoldable pub looseTarget : ℕ → Bool
+  looseTarget i = isSome (readTarget text (rowAt 9 raw i)) && contactOf text (nameIn (rowAt 9 raw i) 5) .loose
+
+  -- warning 4, for such a target: "Raw targets stand two to a road, predecessor first"
+  abbrev pub targetWarningsAt : ℕ → List ReadWarning
+  targetWarningsAt i = cond (looseTarget i) (targetLoose (i / 2) (i % 2) ∷ []) []
+
+  -- THE WARNINGS OF TARGETS, "in that order"
+  unfoldable pub targetWarnings : List ReadWarning
+  targetWarnings = gather targetWarningsAt (partRows 0 (length raw / 9))
+
+-- ---- junctions
+-- the raw tables as lent
+pub record RawTables : Type 0 where
+  pub text : List ℕ
+  pub junctions : List ℕ
+  pub connections : List ℕ
+  pub laneLinks : List ℕ
 
 -- the value, or nothing, as a list
 abbrev pub toList : {A : Type 0} → Option A → List A
@@ -167,12 +204,16 @@ module _ (t : RawTables) where
   unfoldable pub leadsInto : (j c : ℕ) → Option Span
   leadsInto j c = pick (isDirect (kindAt j)) (nameIn (rawConnection c) 6) (nameIn (rawConnection c) 8)
 
+  -- what its contactPoint says
+  abbrev pub contactAt : ℕ → ContactPoint
+  contactAt c = contactOf (t .text) (nameIn (rawConnection c) 10)
+
   -- it, if its incoming and its connecting road are there, with the pairs of its lane links
   unfoldable pub readConnection : (j c : ℕ) → Option Connection
   readConnection j c = bindO (nameIn (rawConnection c) 4) λ incoming. mapO (λ connecting. record {
     incoming = incoming;
     connecting = connecting;
-    contact = reads (t .text) endText (nameIn (rawConnection c) 10);
+    contact = contactAt c .contact;
     pairs = gather (λ l. toList (readPair l)) (laneLinksAt c);
   }) (leadsInto j c)
 
@@ -184,11 +225,15 @@ module _ (t : RawTables) where
   abbrev pub laneLinkWarnings : (j c l : ℕ) → List ReadWarning
   laneLinkWarnings j c l = cond (isSome (readPair l)) [] (laneLinkDropped j c l ∷ [])
 
-  -- its warnings: 1 where a road is absent, and else those of its lane links
+  -- warning 4, for a connection whose contactPoint is spelled loosely
+  abbrev pub contactWarnings : (j c : ℕ) → List ReadWarning
+  contactWarnings j c = cond (contactAt c .loose) (connectionLoose j c ∷ []) []
+
+  -- its warnings: 1 where a road is absent; where it is kept 4, "ahead of that connection's lane link warnings"
   unfoldable pub connectionWarnings : (j c : ℕ) → List ReadWarning
   connectionWarnings j c =
       cond (passedOver j c) [] (cond (isSome (readConnection j c))
-      (gather (laneLinkWarnings j c) (laneLinksAt c)) (connectionDropped j c ∷ []))
+      (contactWarnings j c ++ gather (laneLinkWarnings j c) (laneLinksAt c)) (connectionDropped j c ∷ []))
 
   -- "a junction without id gives no row and one warning for each connection"
   unfoldable pub readJunction : ℕ → Option Junction

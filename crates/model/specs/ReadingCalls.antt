@@ -1,8 +1,8 @@
 -- The three calls of attribute reading: how each refuses, and its whole outcome. Definitions only.
 use mathlib.Core.Bool.{Bool, true, _&&_, _||_}
 use mathlib.Core.List.{List, [], _∷_}
-use Prim.Native.Nat.{ℕ, zero, suc, _+_, _/_}
-use lib.Dec.{leb}
+use Prim.Native.Nat.{ℕ, zero, suc, _+_, _/_, _%_}
+use lib.Dec.{eqb, leb}
 use lib.ListN.{length}
 use Rattle.model.specs.Lists.{every, gather}
 use Rattle.model.specs.Text.{placed}
@@ -11,7 +11,8 @@ use Rattle.model.specs.Tables.{flag, isAbsent, spanIn, junctionWidth, co
 use Rattle.model.specs.Tables.{targetWords, junctionWords, connectionWords, pairWords}
 use Rattle.model.specs.Rules.{Rule, rule, sized}
 use Rattle.model.specs.Calls.{Outcome, Writing, tableWriting, called, warningWidth}
-use Rattle.model.specs.Reading.{readTarget, readLane, RawTables, readJunctions, readWarnings, readWarningRow}
+use Rattle.model.specs.Reading.{readTarget, targetWarnings, readLane, RawTables, readJunctions, readWarnings}
+use Rattle.model.specs.Reading.{readWarningRow}
 
 -- ---- how many words a row has
 abbrev pub targetWidth : ℕ
@@ -64,17 +65,36 @@ rawPartsFit t = partsFit 6 7 0 (length (t .connections) / rawConnectionWidth) (t
     && partsFit 12 13 0 (length (t .laneLinks) / rawLaneLinkWidth) (table rawConnectionWidth (t .connections))
 
 -- ---- targets
+pub record TargetOutputs : Type 0 where
+  pub targets : List ℕ
+  pub warnings : List ℕ
+
+abbrev pub targetWriting : Writing TargetOutputs
+targetWriting = record {
+  lengths = λ o. length (o .targets) ∷ length (o .warnings) ∷ [];
+  rows = λ o. length (o .targets) / targetWidth ∷ length (o .warnings) / warningWidth ∷ [];
+  put = λ c o. record { targets = written (c .targets) (o .targets); warnings = written (c .warnings) (o .warnings) };
+}
+
+-- "Raw targets stand two to a road": "an odd count is refusal 1"
+unfoldable pub twoToARoad : ℕ → Bool
+twoToARoad n = eqb (n / rawTargetWidth % 2) 0
+
 unfoldable pub targetRules : (text raw : List ℕ) → List Rule
 targetRules text raw =
-    rule 1 (rawSized text rawTargetWidth (length raw))
+    rule 1 (rawSized text rawTargetWidth (length raw) && twoToARoad (length raw))
     ∷ rule 2 (every (rawTargetWorded text) (table rawTargetWidth raw)) ∷ []
 
-unfoldable pub targetContent : (text raw : List ℕ) → List ℕ
-targetContent text raw = gather (λ r. targetWords (readTarget text r)) (table rawTargetWidth raw)
+-- the words of the targets read, and the warnings
+unfoldable pub targetContent : (text raw : List ℕ) → TargetOutputs
+targetContent text raw = record {
+  targets = gather (λ r. targetWords (readTarget text r)) (table rawTargetWidth raw);
+  warnings = gather readWarningRow (targetWarnings text raw);
+}
 
--- THE READING OF TARGETS, ITS WHOLE OUTCOME
-unfoldable pub readTargetsCall : (text raw out : List ℕ) → Outcome (List ℕ)
-readTargetsCall text raw out = called (tableWriting targetWidth) (targetRules text raw) (targetContent text raw) out
+-- THE READING OF TARGETS, ITS WHOLE OUTCOME: "1, 2, .. 9"
+unfoldable pub readTargetsCall : (text raw : List ℕ) → TargetOutputs → Outcome TargetOutputs
+readTargetsCall text raw o = called targetWriting (targetRules text raw) (targetContent text raw) o
 
 -- ---- lanes
 unfoldable pub rawLaneRules : (text raw : List ℕ) → List Rule

@@ -99,6 +99,10 @@ spanIn r k = record { start = word r k; size = word r (k + 1) }
 abbrev pub absentStart : ℕ
 absentStart = 4294967295
 
+-- where a row's number stands, "4,294,967,295" is none
+abbrev pub noRow : ℕ
+noRow = 4294967295
+
 -- do two words mean absent?
 abbrev pub isAbsent : ℕ → ℕ → Bool
 isAbsent s n = eqb s absentStart && eqb n 0

@@ -1,10 +1,9 @@
 -- The reading of junctions: its refusals in their order, what an admission says, and its outcome.
-use Prim.Native.Nat.{ℕ, _*_, _/_, _≤_, _<_}
+use Prim.Native.Nat.{ℕ, _*_, _/_, _≤_}
 use mathlib.Core.Path.{_≡_, sym, ap, _∙_}
 use mathlib.Core.List.{List, [], _∷_}
 use mathlib.Core.Bool.{Bool, true, false, _&&_}
 use mathlib.Core.Option.{none, some}
-use native.Mathlib.Nat.{mul-div-cancel}
 use native.Mathlib.Omega.{arith}
 use lib.Dec.{leb}
 use lib.ListN.{length}
@@ -22,18 +21,8 @@ use Rattle.words.proofs.Scans.{left-on, right-on}
 use Rattle.tables.proofs.Called.{all-written, too-short}
 use Rattle.rules.proofs.Fits.{fit-of}
 use Rattle.reading.specs.JunctionAnswers.{outputs}
-use Rattle.reading.specs.Laid.{JunctionsRead, Ready, Run, junctionOuts, output}
-use Rattle.reading.proofs.RunLaws.{run-written}
-
--- ---- a run from the front: its words and its rows
-module _ {w k n : ℕ} {rows out after : List ℕ} (r : Run w rows k (output out 0) (output after n)) where
-  wide-by : length rows ≡ n * w
-  wide-by =
-      let all : k ≡ n = omega (arith, r .count) in
-      r .wide ∙ ap (λ (m : ℕ). m * w) all
-
-  rows-by : 0 < w → length rows / w ≡ n
-  rows-by positive = ap (λ (m : ℕ). m / w) wide-by ∙ mul-div-cancel n positive
+use Rattle.reading.specs.Laid.{JunctionsRead, Ready, junctionOuts}
+use Rattle.reading.proofs.RunLaws.{run-rows, run-wide, run-written}
 
 four-fit : (a b c d x y z u : ℕ) → fits (a ∷ b ∷ c ∷ d ∷ []) (x ∷ y ∷ z ∷ u ∷ []) ≡ true
     → (a ≤ x) × (b ≤ y) × (c ≤ z) × (d ≤ u)
@@ -133,19 +122,19 @@ module _ (t : RawTables) where
       lengths-are : junctionLengths (junctionContent t) ≡ m * 5 ∷ n * 7 ∷ p * 2 ∷ w * 4 ∷ []
       unfolding junctionLengths junctionContent junctionWords connectionWords pairWords allConnections allPairs
       lengths-are =
-          let junctions = wide-by (r .rows) in
-          let connections = wide-by (r .rest .rows) in
-          let pairs = wide-by (r .rest .rest .pairs) in
-          let warnings = wide-by (r .rest .rest .warnings) in
+          let junctions = run-wide (r .rows) in
+          let connections = run-wide (r .rest .rows) in
+          let pairs = run-wide (r .rest .rest .pairs) in
+          let warnings = run-wide (r .rest .rest .warnings) in
           λ i. junctions i ∷ connections i ∷ pairs i ∷ warnings i ∷ []
 
       counts-are : junctionCounts (junctionContent t) ≡ m ∷ n ∷ p ∷ w ∷ []
       unfolding junctionCounts junctionContent junctionWords connectionWords pairWords allConnections allPairs
       counts-are =
-          let junctions = rows-by (r .rows) (omega arith) in
-          let connections = rows-by (r .rest .rows) (omega arith) in
-          let pairs = rows-by (r .rest .rest .pairs) (omega arith) in
-          let warnings = rows-by (r .rest .rest .warnings) (omega arith) in
+          let junctions = run-rows (r .rows) (omega arith) in
+          let connections = run-rows (r .rest .rows) (omega arith) in
+          let pairs = run-rows (r .rest .rest .pairs) (omega arith) in
+          let warnings = run-rows (r .rest .rest .warnings) (omega arith) in
           λ i. junctions i ∷ connections i ∷ pairs i ∷ warnings i ∷ []
 
   module _ (jo co po wo : List ℕ) where

@@ -1,35 +1,30 @@
 -- A connection read: passed over, dropped with warning 1, or kept with its pairs.
 use Prim.Native.Nat.{ℕ, _+_, _*_, _≤_}
 use mathlib.Core.Path.{_≡_, refl, sym, ap, ap₂, _∙_}
-use mathlib.Core.List.{List, [], _∷_, append-nil}
-use mathlib.Core.Bool.{Bool, true, false, not, _&&_, _||_, cond, true≢false}
+use mathlib.Core.List.{List, [], _∷_, _++_, append-nil}
+use mathlib.Core.Bool.{Bool, true, false, _&&_, _||_, cond, true≢false}
 use mathlib.Core.Option.{Option, none, some}
 use native.Mathlib.Omega.{arith}
 use lib.ListN.{length, getD}
 use Rattle.model.specs.Lists.{bindO, gather, isSome, mapO, pick}
-use Rattle.model.specs.Reading.{RawTables, ReadWarning, connectionDropped, connectionWarnings, directText, endText}
-use Rattle.model.specs.Reading.{keptConnections, kindAt, kindRead, laneLinkWarnings, laneLinksAt, leadsInto}
-use Rattle.model.specs.Reading.{partRows, passedOver, readConnection, readPair, reads, rowAt, sameNames, toList}
+use Rattle.model.specs.Reading.{ContactPoint, RawTables, ReadWarning, connectionDropped, connectionLoose}
+use Rattle.model.specs.Reading.{connectionWarnings, contactOf, contactWarnings, directText, keptConnections, kindAt}
+use Rattle.model.specs.Reading.{kindRead, laneLinkWarnings, laneLinksAt, leadsInto, partRows, passedOver}
+use Rattle.model.specs.Reading.{readConnection, readPair, reads, rowAt, sameNames, toList}
 use Rattle.model.specs.Reading.{virtualText}
 use Rattle.model.specs.Records.{Connection, JunctionKind, Pair, Span, common, direct, virtual}
 use Rattle.model.specs.Repair.{isVirtual}
 use Rattle.model.specs.Rules.{isDirect}
 use Rattle.model.specs.Tables.{connectionRow, isAbsent, kindWord, nameIn, spanIn}
 use Rattle.words.proofs.Scans.{left-on, right-on}
-use Rattle.reading.specs.Laid.{ConnectionOuts, ConnectionsRead, LinksRead, PutIf}
+use Rattle.reading.specs.Laid.{ConnectionOuts, ConnectionsRead, LinksRead, PutIf, Warned}
 use Rattle.reading.specs.Laid.{connectionOuts, connectionRead, dropsAt, linkOuts, output, pairsAt, rawTables}
 use Rattle.reading.proofs.LinkLaws.{nothing}
 use Rattle.reading.proofs.NameLaws.{name-of, word-of}
-use Rattle.reading.proofs.RunLaws.{connections-as, connections-none, links-as, run-as, run-none, run-one}
+use Rattle.reading.proofs.RunLaws.{connections-as, connections-none, links-as, links-join, run-as}
+use Rattle.reading.proofs.RunLaws.{run-none, run-one}
 
 -- ---- attributes that are there
-pub there-is : (ws : List ℕ) (at : ℕ) → not (isAbsent (getD ws at 0) (getD ws (at + 1) 0)) ≡ isSome (nameIn ws at)
-there-is ws at = go (isAbsent (getD ws at 0) (getD ws (at + 1) 0))
-  where
-    go : (b : Bool) → not b ≡ isSome (cond b none (some (spanIn ws at)))
-    go true = refl
-    go false = refl
-
 name-some : (ws : List ℕ) (at : ℕ) → isSome (nameIn ws at) ≡ true → nameIn ws at ≡ some (spanIn ws at)
 name-some ws at e = go (isAbsent (getD ws at 0) (getD ws (at + 1) 0)) e
   where
@@ -72,7 +67,7 @@ by-kind virtual kind k f e a b = ap f (sym (b (λ z. let y : kind ≡ 2 = e in o
 abbrev connectionBy : List ℕ → (incoming connecting contact : Option Span) → List Pair → Option Connection
 connectionBy text incoming connecting contact ps =
     bindO incoming λ a. mapO
-    (λ b. record { incoming = a; connecting = b; contact = reads text endText contact; pairs = ps }) connecting
+    (λ b. record { incoming = a; connecting = b; contact = contactOf text contact .contact; pairs = ps }) connecting
 
 by-both : (text : List ℕ) (a b o : Option Span) (ps : List Pair)
     → isSome (connectionBy text a b o ps) ≡ (isSome a && isSome b)
@@ -119,7 +114,8 @@ module _ (text junctions connections links : List ℕ) (j c : ℕ) where
   -- the warnings of a connection that is not passed over, by what it reads as
   abbrev warnedBy : Option Connection → List ReadWarning
   warnedBy o =
-      cond (isSome o) (gather (laneLinkWarnings t j c) (laneLinksAt t c)) (connectionDropped j c ∷ [])
+      cond (isSome o) (contactWarnings t j c ++ gather (laneLinkWarnings t j c) (laneLinksAt t c))
+      (connectionDropped j c ∷ [])
 
   pub read-passed : (o : ConnectionOuts) → passedOver t j c ≡ true
       → ConnectionsRead (keptConnections t j c) (connectionWarnings t j c) o o
@@ -137,6 +133,18 @@ module _ (text junctions connections links : List ℕ) (j c : ℕ) where
     leads =
         by-kind (kindAt t j) kind k (nameIn (rowAt 14 connections c)) e on off
         ∙ name-of 14 c connections k (omega arith)
+
+    -- what its contactPoint says, and the warning of it
+    abbrev point : ContactPoint
+    point = contactOf text (attribute 10)
+
+    abbrev loose : List ReadWarning
+    loose = cond (point .loose) (connectionLoose j c ∷ []) []
+
+    loose-is : contactWarnings t j c ≡ loose
+    loose-is =
+        ap (λ (o : Option Span). cond (contactOf text o .loose) (connectionLoose j c ∷ []) [])
+        (name-of 14 c connections 10 (omega arith))
 
     -- its lane links, their pairs and warnings
     abbrev part : List ℕ
@@ -175,12 +183,12 @@ module _ (text junctions connections links : List ℕ) (j c : ℕ) where
         record {
           incoming = spanIn connections (c * 14 + 4);
           connecting = spanIn connections (c * 14 + k);
-          contact = reads text endText (attribute 10);
+          contact = point .contact;
           pairs = pairs;
         }
 
     abbrev rowOf : (p size : ℕ) → List ℕ
-    rowOf p size = connectionRead text connections (c * 14) (c * 14 + k) p size
+    rowOf p size = connectionRead connections (c * 14) (c * 14 + k) (point .contact) p size
 
     some-read : (isSome (attribute 4) && isSome (attribute k)) ≡ true → readConnection t j c ≡ some connection
     some-read there =
@@ -198,7 +206,7 @@ module _ (text junctions connections links : List ℕ) (j c : ℕ) where
     module _ (past : passedOver t j c ≡ false) where
       -- what was read, by what the connection reads as
       read-as : {o : Option Connection} {old new : ConnectionOuts} → readConnection t j c ≡ o
-          → ConnectionsRead (toList o) (cond (isSome o) drops (connectionDropped j c ∷ [])) old new
+          → ConnectionsRead (toList o) (cond (isSome o) (loose ++ drops) (connectionDropped j c ∷ [])) old new
           → ConnectionsRead (keptConnections t j c) (connectionWarnings t j c) old new
       unfolding keptConnections connectionWarnings
       read-as is r =
@@ -206,7 +214,7 @@ module _ (text junctions connections links : List ℕ) (j c : ℕ) where
           (sym (ap (λ (b : Bool). cond b [] (toList (readConnection t j c))) past ∙ ap toList is))
           (sym (ap (λ (b : Bool). cond b [] (warnedBy (readConnection t j c))) past
           ∙ ap₂ (λ (x : Option Connection) (l : List ReadWarning). cond (isSome x) l (connectionDropped j c ∷ [])) is
-          drops-are))
+          (ap₂ _++_ loose-is drops-are)))
 
       module _ {co po wo : List ℕ} {n p w : ℕ} where
         -- a road is missing
@@ -221,20 +229,23 @@ module _ (text junctions connections links : List ℕ) (j c : ℕ) where
               rest = record { pairs = run-none 2 (output po p); warnings = run-one 4 _ (output wo w) refl put kept };
             })
 
-        pub read-kept : (size : ℕ) {p′ w′ : ℕ} {row co′ po′ wo′ : List ℕ}
+        pub read-kept : (size : ℕ) {p′ v w′ : ℕ} {row co′ po′ vo wo′ : List ℕ}
             → (isSome (attribute 4) && isSome (attribute k)) ≡ true
-            → LinksRead pairs drops (linkOuts po p wo w) (linkOuts po′ p′ wo′ w′)
+            → Warned loose (output wo w) (output vo v)
+            → LinksRead pairs drops (linkOuts po p vo v) (linkOuts po′ p′ wo′ w′)
             → row ≡ rowOf p size → p′ ≡ p + size → PutIf (n * 7) row co co′ → length co′ ≡ length co
             → ConnectionsRead (keptConnections t j c) (connectionWarnings t j c) (connectionOuts co n po p wo w)
             (connectionOuts co′ (n + 1) po′ p′ wo′ w′)
         unfolding connectionRow
-        read-kept size {row = row} there links-read row-is sized put kept =
+        read-kept size {v = v} {row = row} {vo = vo} there warned links-read row-is sized put kept =
             let count : size ≡ length pairs = omega (arith, links-read .pairs .count) in
             let is : row ≡ connectionRow p connection = row-is ∙ ap (rowOf p) count in
             let wide : length row ≡ 7 = ap length row-is in
+            let contact-read : LinksRead [] loose (linkOuts po p wo w) (linkOuts po p vo v) =
+            record { pairs = run-none 2 (output po p); warnings = warned } in
             read-as (some-read there)
             (record {
               rows = run-as (run-one 7 row (output co n) wide put kept)
                   (is ∙ sym (append-nil (connectionRow p connection))) refl;
-              rest = links-as links-read (sym (append-nil pairs)) refl;
+              rest = links-as (links-join contact-read links-read) (sym (append-nil pairs)) refl;
             })

@@ -17,12 +17,8 @@ use Rattle.laws.proofs.Basics.{gather-map}
 use Rattle.reading.specs.Laid.{ConnectionsRead, JunctionOuts, JunctionsRead, PutIf, Run}
 use Rattle.reading.specs.Laid.{connectionOuts, junctionOuts, output, rawTables}
 use Rattle.reading.proofs.NameLaws.{name-absent, name-of, name-there, word-of}
-use Rattle.reading.proofs.RowLaws.{part-more}
+use Rattle.reading.proofs.RowLaws.{part-length, part-more}
 use Rattle.reading.proofs.RunLaws.{connections-as, junctions-as, run-as, run-join, run-none, run-one}
-
-length-part : (a n : ℕ) → length (partRows a n) ≡ n
-length-part a zero = refl
-length-part a (suc n) = ap suc (length-part (suc a) n)
 
 -- the words of warning 1
 abbrev pub dropped : ℕ → ℕ → List ℕ
@@ -100,7 +96,7 @@ module _ (text junctions connections links : List ℕ) (j : ℕ) where
                 pairs = run-none 2 (output po p);
                 warnings = run-as dropped-all
                     (sym (gather-map (connectionDropped j) readWarningRow (partRows first count)))
-                    (sym (length-map (partRows first count) (connectionDropped j) ∙ length-part first count));
+                    (sym (length-map (partRows first count) (connectionDropped j) ∙ part-length first count));
               };
             };
           })

@@ -17,7 +17,7 @@ use Rattle.model.specs.Tables.{linkWords, nameIn}
 use Rattle.laws.proofs.RulesReversed.{all-pass}
 use Rattle.rules.proofs.Counts.{sized-few}
 use Rattle.words.proofs.Scans.{right-on}
-use Rattle.reading.specs.Links.{linkRead}
+use Rattle.reading.specs.Read.{linkRead}
 use Rattle.reading.specs.declared.numbers.Link.{Link}
 use Rattle.reading.proofs.NameLaws.{name-of}
 use Rattle.reading.proofs.RowLaws.{numbered-rows, part-even}

@@ -13,7 +13,7 @@ use Rattle.model.specs.Reading.{laneLinkDropped, numberOf, pairOf, readPair, to
 use Rattle.model.specs.Records.{Pair, Span}
 use Rattle.model.specs.Tables.{linkFlag, linkNumber, nameIn, pairRow}
 use Rattle.reading.specs.Laid.{LinkOuts, LinksRead, PutIf, dropsAt, linkOuts, output, pairsAt, rawTables}
-use Rattle.reading.specs.Links.{linkRead}
+use Rattle.reading.specs.Read.{linkRead}
 use Rattle.reading.specs.declared.numbers.Link.{Link}
 use Rattle.reading.proofs.NameLaws.{name-of}
 use Rattle.reading.proofs.RunLaws.{links-as, run-none, run-one}

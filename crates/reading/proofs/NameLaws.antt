@@ -2,12 +2,13 @@
 use Prim.Native.Nat.{ℕ, zero, suc, _+_, _*_, _-_, _/_, _<_, _≤_}
 use mathlib.Core.Path.{_≡_, refl, sym, ap, ap₂, _∙_}
 use mathlib.Core.List.{List}
-use mathlib.Core.Bool.{Bool, true, false, _&&_, _||_, cond}
+use mathlib.Core.Bool.{Bool, true, false, not, _&&_, _||_, cond}
 use mathlib.Core.Option.{none, some}
 use native.Mathlib.Nat.{add-assoc, add-zero}
 use native.Mathlib.Omega.{arith}
 use lib.ListN.{length, getD, take, drop}
 use lib.Seq.{getD-drop, getD-take}
+use Rattle.model.specs.Lists.{isSome}
 use Rattle.model.specs.Reading.{rowAt}
 use Rattle.model.specs.ReadingCalls.{nameWorded, namesWorded, rowsNamed}
 use Rattle.model.specs.Tables.{isAbsent, nameIn, spanIn}
@@ -23,6 +24,13 @@ pub name-there : (ws : List ℕ) (at : ℕ) {s n : ℕ} → isAbsent (getD ws at
     → s ≡ getD ws at 0 → n ≡ getD ws (at + 1) 0 → nameIn ws at ≡ some (span s n)
 name-there ws at e f g =
     ap (λ (b : Bool). cond b none (some (spanIn ws at))) e ∙ ap₂ (λ (s n : ℕ). some (span s n)) (sym f) (sym g)
+
+pub there-is : (ws : List ℕ) (at : ℕ) → not (isAbsent (getD ws at 0) (getD ws (at + 1) 0)) ≡ isSome (nameIn ws at)
+there-is ws at = go (isAbsent (getD ws at 0) (getD ws (at + 1) 0))
+  where
+    go : (b : Bool) → not b ≡ isSome (cond b none (some (spanIn ws at)))
+    go true = refl
+    go false = refl
 
 -- ---- a row's names are the table's
 pub word-of : (w k : ℕ) (ws : List ℕ) (j : ℕ) → j < w → getD (rowAt w ws k) j 0 ≡ getD ws (k * w + j) 0

@@ -13,7 +13,7 @@ use Rattle.model.specs.Lists.{mapO}
 use Rattle.model.specs.Reading.{digits, digitsFrom, isDigit, laneNumber, upTo}
 use Rattle.model.specs.Reversal.{negated}
 use Rattle.model.specs.Tables.{linkFlag, linkNumber}
-use Rattle.reading.specs.Links.{linkRead}
+use Rattle.reading.specs.Read.{linkRead}
 
 -- ---- digits
 pub digits-step : (v i : ℕ) (bytes : List ℕ) → i < length bytes

@@ -25,6 +25,10 @@ pub row-room : {i n l : ℕ} (w : ℕ) → i < n → n * w ≤ l → i * w + w �
 row-room {i} {n} w inside room = omega (arith, row-fits n w i inside)
 
 -- ---- rows of a part
+pub part-length : (a n : ℕ) → length (partRows a n) ≡ n
+part-length a zero = refl
+part-length a (suc n) = ap suc (part-length (suc a) n)
+
 module _ {A : Type 0} (f : ℕ → List A) where
   -- one row more
   pub part-more : (a n : ℕ) → gather f (partRows a (n + 1)) ≡ gather f (partRows a n) ++ f (a + n)
@@ -38,6 +42,12 @@ module _ {A : Type 0} (f : ℕ → List A) where
           ∙ ap (λ (m : ℕ). gather f (partRows (suc a) n) ++ f m)
           (let e : suc a + n ≡ a + suc n = omega arith in e))
           ∙ sym (append-assoc (f a) (gather f (partRows (suc a) n)) (f (a + suc n)))
+
+  -- the row after the n first ones
+  pub part-next : (n : ℕ) → gather f (partRows 0 n) ++ f n ≡ gather f (partRows 0 (n + 1))
+  part-next n =
+      let from-front : 0 + n ≡ n = omega arith in
+      sym (part-more 0 n ∙ ap (λ (m : ℕ). gather f (partRows 0 n) ++ f m) from-front)
 
   pub part-even : (w : ℕ) → ((k : ℕ) → length (f k) ≡ w) → (a n : ℕ) → length (gather f (partRows a n)) ≡ n * w
   part-even w h a zero = sym (zero-mul w)
@@ -55,7 +65,7 @@ module _ {A : Type 0} (f : ℕ → List A) where
   rows-turn w i out₀ {row} {out} {out′} even e r p h =
       put-step (gather f (partRows 0 i)) (f i) out₀ e (p ∙ ap (λ (l : List A). spliced (i * w) l out) r)
       (sym (part-even w even 0 i))
-      (part-more 0 i ∙ ap (λ (m : ℕ). gather f (partRows 0 i) ++ f m) (let z : 0 + i ≡ i = omega arith in z))
+      (sym (part-next i))
       (let z = even i in omega arith)
 
 -- a table's rows are those of its numbers

@@ -1,21 +1,22 @@
 -- Runs of rows one after the other: of one table, and of lane links, connections and junctions.
-use Prim.Native.Nat.{ℕ, _+_, _*_, _≤_}
+use Prim.Native.Nat.{ℕ, _+_, _*_, _/_, _≤_, _<_}
 use mathlib.Core.Path.{_≡_, refl, sym, ap, ap₂, _∙_, subst}
+use mathlib.Core.Bool.{Bool, true, false, cond}
 use mathlib.Core.List.{List, [], _∷_, _++_, append-assoc, append-nil}
-use native.Mathlib.Nat.{add-mul, add-zero, zero-mul}
+use native.Mathlib.Nat.{add-mul, add-zero, mul-div-cancel, zero-mul}
 use native.Mathlib.Omega.{arith}
 use lib.ListN.{length, take, drop, length-append, take-append-drop}
 use Rattle.model.specs.Lists.{gather}
 use Rattle.model.specs.Reading.{ReadWarning, partRows, readWarningRow}
 use Rattle.model.specs.Records.{Connection, Junction, Pair}
 use Rattle.model.specs.Rows.{rowsFrom, written}
-use Rattle.model.specs.Tables.{connectionRow, junctionRow, pairRow}
+use Rattle.model.specs.Tables.{bit, connectionRow, junctionRow, pairRow}
 use Rattle.laws.proofs.WordsReversed.{gather-append}
 use Rattle.words.specs.Rows.{spliced}
 use Rattle.words.proofs.Laws.{put-all, spliced-twice}
 use Rattle.reading.specs.Laid.{ConnectionOuts, ConnectionsRead, JunctionOuts, JunctionsRead, LinkOuts}
-use Rattle.reading.specs.Laid.{LinksRead, Output, PutIf, Run, output}
-use Rattle.reading.proofs.RowLaws.{part-more}
+use Rattle.reading.specs.Laid.{LinksRead, Output, PutIf, Run, Warned, output}
+use Rattle.reading.proofs.RowLaws.{part-more, part-next}
 
 -- ---- rows of one table
 pub run-none : (w : ℕ) (o : Output) → Run w [] 0 o o
@@ -54,12 +55,47 @@ pub run-as : {w k l : ℕ} {a b : List ℕ} {x y : Output} → Run w a k x y →
 run-as {w} {k} {l} {a} {b} {x} {y} r e f =
     subst (λ (c : List ℕ). Run w c l x y) e (subst (λ (m : ℕ). Run w a m x y) f r)
 
--- a run from the front that has room is written
-pub run-written : {w k n : ℕ} {a out after : List ℕ} → Run w a k (output out 0) (output after n)
-    → length a ≤ length out → after ≡ written a out
-run-written {w} {a = a} {out = out} r room =
-    let front = zero-mul w in
-    r .put (omega arith) ∙ ap (λ (at : ℕ). spliced at a out) front ∙ put-all a out
+-- a run from the front: its words, its rows, and the output where it has room
+module _ {w k n : ℕ} {rows out after : List ℕ} (r : Run w rows k (output out 0) (output after n)) where
+  pub run-wide : length rows ≡ n * w
+  run-wide =
+      let all : k ≡ n = omega (arith, r .count) in
+      r .wide ∙ ap (λ (m : ℕ). m * w) all
+
+  pub run-rows : 0 < w → length rows / w ≡ n
+  run-rows positive = ap (λ (m : ℕ). m / w) run-wide ∙ mul-div-cancel n positive
+
+  pub run-written : length rows ≤ length out → after ≡ written rows out
+  run-written room =
+      let front = zero-mul w in
+      r .put (omega arith) ∙ ap (λ (at : ℕ). spliced at rows out) front ∙ put-all rows out
+
+-- ---- a row for each element
+rows-join : {A : Type 0} (row : A → List ℕ) (xs ys : List A) {w : ℕ} {x y z : Output}
+    → Run w (gather row xs) (length xs) x y → Run w (gather row ys) (length ys) y z
+    → Run w (gather row (xs ++ ys)) (length (xs ++ ys)) x z
+rows-join row xs ys r s = run-as (run-join r s) (sym (gather-append row xs ys)) (sym (length-append xs ys))
+
+pub bit-most : (b : Bool) → bit b ≤ 1
+bit-most true = omega arith
+bit-most false = omega arith
+
+-- a warning that is given where a test holds
+pub warned-if : {b holds : Bool} (v : ReadWarning) {x y : Output} → b ≡ holds
+    → Run 4 (cond b (readWarningRow v) []) (bit b) x y → Warned (cond holds (v ∷ []) []) x y
+warned-if {holds = holds} v {x} {y} e r =
+    go holds (subst (λ (a : Bool). Run 4 (cond a (readWarningRow v) []) (bit a) x y) e r)
+  where
+    go : (a : Bool) → Run 4 (cond a (readWarningRow v) []) (bit a) x y → Warned (cond a (v ∷ []) []) x y
+    go true r = run-as r (sym (append-nil (readWarningRow v))) refl
+    go false r = r
+
+-- warnings by row: those of row k after those of the k rows before it
+pub warned-turn : (g : ℕ → List ReadWarning) (k : ℕ) {x y z : Output} → Warned (gather g (partRows 0 k)) x y
+    → Warned (g k) y z → Warned (gather g (partRows 0 (k + 1))) x z
+warned-turn g k {x} {z = z} r s =
+    subst (λ (ws : List ReadWarning). Warned ws x z) (part-next g k)
+    (rows-join readWarningRow (gather g (partRows 0 k)) (g k) r s)
 
 -- ---- lane links
 pub links-as : {ps qs : List Pair} {ws vs : List ReadWarning} {old new : LinkOuts} → LinksRead ps ws old new
@@ -74,9 +110,8 @@ links-none o = record { pairs = run-none 2 (o .pairs); warnings = run-none 4 (o 
 pub links-join : {ps qs : List Pair} {ws vs : List ReadWarning} {x y z : LinkOuts} → LinksRead ps ws x y
     → LinksRead qs vs y z → LinksRead (ps ++ qs) (ws ++ vs) x z
 links-join {ps} {qs} {ws} {vs} r s = record {
-  pairs = run-as (run-join (r .pairs) (s .pairs)) (sym (gather-append pairRow ps qs)) (sym (length-append ps qs));
-  warnings = run-as (run-join (r .warnings) (s .warnings)) (sym (gather-append readWarningRow ws vs))
-      (sym (length-append ws vs));
+  pairs = rows-join pairRow ps qs (r .pairs) (s .pairs);
+  warnings = rows-join readWarningRow ws vs (r .warnings) (s .warnings);
 }
 
 -- ---- connections, and junctions: each part begins where those before it end
@@ -149,12 +184,7 @@ module _ (f : ℕ → List Connection) (g : ℕ → List ReadWarning) (first k :
   connections-turn r s = connections-as (connections-join r s) (sym (part-more f first k)) (sym (part-more g first k))
 
 module _ (f : ℕ → List Junction) (g : ℕ → List ReadWarning) (k : ℕ) where
-  here : {A : Type 0} (h : ℕ → List A) → gather h (partRows 0 k) ++ h k ≡ gather h (partRows 0 (k + 1))
-  here h =
-      let from-front : 0 + k ≡ k = omega arith in
-      sym (part-more h 0 k ∙ ap (λ (m : ℕ). gather h (partRows 0 k) ++ h m) from-front)
-
   pub junctions-turn : {x y z : JunctionOuts}
       → JunctionsRead (gather f (partRows 0 k)) (gather g (partRows 0 k)) x y → JunctionsRead (f k) (g k) y z
       → JunctionsRead (gather f (partRows 0 (k + 1))) (gather g (partRows 0 (k + 1))) x z
-  junctions-turn r s = junctions-as (junctions-join r s) (here f) (here g)
+  junctions-turn r s = junctions-as (junctions-join r s) (part-next f k) (part-next g k)

@@ -1,15 +1,15 @@
 -- What the readers of lane links, connections and junctions have done: rows counted, and their words put where
 -- an output has room for them. Definitions only.
 use mathlib.Core.Path.{_≡_}
+use mathlib.Core.Bool.{Bool}
 use mathlib.Core.List.{List, [], _∷_}
 use Prim.Native.Nat.{ℕ, _+_, _*_, _/_, _≤_, _<_}
 use lib.ListN.{length, getD}
 use Rattle.model.specs.Lists.{gather}
-use Rattle.model.specs.Reading.{RawTables, ReadWarning, endText, laneLinkWarnings, readPair, readWarningRow}
-use Rattle.model.specs.Reading.{kindAt, reads, toList}
+use Rattle.model.specs.Reading.{RawTables, ReadWarning, kindAt, laneLinkWarnings, readPair, readWarningRow, toList}
 use Rattle.model.specs.Records.{Connection, Junction, Pair}
 use Rattle.model.specs.Rows.{rowsFrom}
-use Rattle.model.specs.Tables.{bit, connectionRow, junctionRow, kindWord, nameIn, pairRow}
+use Rattle.model.specs.Tables.{bit, connectionRow, junctionRow, kindWord, pairRow}
 use Rattle.words.specs.Rows.{spliced, total}
 use Rattle.rules.specs.Parts.{Fit, counts}
 
@@ -59,12 +59,12 @@ connectionOuts co n po p wo w = record { connections = output co n; rest = linkO
 abbrev pub junctionOuts : List ℕ → ℕ → List ℕ → ℕ → List ℕ → ℕ → List ℕ → ℕ → JunctionOuts
 junctionOuts jo m co n po p wo w = record { junctions = output jo m; rest = connectionOuts co n po p wo w }
 
--- the row of the connection whose raw row begins at word `at`, its connecting road's name at word k, with `count`
--- pairs from row `first` on
-abbrev pub connectionRead : (text connections : List ℕ) → (at k first count : ℕ) → List ℕ
-connectionRead text connections at k first count =
+-- the row of the connection whose raw row begins at word `at`, its connecting road's name at word k, with that contact
+-- and `count` pairs from row `first` on
+abbrev pub connectionRead : List ℕ → (at k : ℕ) → Bool → (first count : ℕ) → List ℕ
+connectionRead connections at k contact first count =
     getD connections (at + 4) 0 ∷ getD connections (at + 4 + 1) 0 ∷ getD connections k 0 ∷ getD connections (k + 1) 0
-    ∷ bit (reads text endText (nameIn connections (at + 10))) ∷ first ∷ count ∷ []
+    ∷ bit contact ∷ first ∷ count ∷ []
 
 -- ---- what a run of reading leaves: from the outputs `old` to the outputs `new`
 -- a row put into an output from word `at` on, where there is room
@@ -78,10 +78,14 @@ pub record Run (w : ℕ) (rows : List ℕ) (k : ℕ) (old new : Output) : Type 0
   pub put : PutIf (old .rows * w) rows (old .words) (new .words)
   pub kept : length (new .words) ≡ length (old .words)
 
+-- these warnings, a row each
+abbrev pub Warned : List ReadWarning → (old new : Output) → Type 0
+Warned ws old new = Run 4 (gather readWarningRow ws) (length ws) old new
+
 -- these pairs and warnings were read
 pub record LinksRead (ps : List Pair) (ws : List ReadWarning) (old new : LinkOuts) : Type 0 where
   pub pairs : Run 2 (gather pairRow ps) (length ps) (old .pairs) (new .pairs)
-  pub warnings : Run 4 (gather readWarningRow ws) (length ws) (old .warnings) (new .warnings)
+  pub warnings : Warned ws (old .warnings) (new .warnings)
 
 -- the pairs of connections, and the connections of junctions
 abbrev pub pairsOf : List Connection → List Pair

@@ -1,4 +1,5 @@
-pub mod Links
+pub mod Read
 pub mod Laid
 pub mod Answers
+pub mod TargetAnswers
 pub mod JunctionAnswers

@@ -4,6 +4,7 @@ use crate::numbers::Link;
 use words::names;
 use words::rows;
 use words::tests::both;
+use words::tests::either;
 use words::tests::is;
 ghost use mathlib.Core.Path.{_≡_};
 ghost use Prim.Native.Nat.{_+_, _*_, _≤_, _<_};
@@ -11,9 +12,9 @@ ghost use lib.ListN.{length, getD};
 ghost use Rattle.model.specs.Lists.{isSome};
 ghost use Rattle.model.specs.Tables;
 ghost use Rattle.model.specs.Tables.{isAbsent, nameIn};
-ghost use Rattle.model.specs.Reading.{reads, numberOf, endText};
+ghost use Rattle.model.specs.Reading.{reads, numberOf, contactOf};
 ghost use Rattle.model.specs.ReadingCalls.{nameWorded, namesWorded, rowsNamed};
-ghost use Rattle.reading.specs.Links.{linkRead};
+ghost use Rattle.reading.specs.Read.{contactRead, linkRead};
 
 // Whether the name at words `at` and `at + 1` is absent.
 pub fn absent_at(ws: &[u32], at: usize) -> bool
@@ -36,16 +37,6 @@ pub fn reads_at(text: &[u8], ws: &[u32], at: usize, bytes: &[u8]) -> bool
     names::same_bytes(names::name(text, s, n), bytes)
 }
 
-// A flag's word.
-pub fn bit(b: bool) -> u32
-    ensures { λ q. ⌜ q ≡ Tables.bit b ⌝ }
-{
-    if b {
-        return 1;
-    }
-    0
-}
-
 // 1 where the attribute is there.
 pub fn there_at(ws: &[u32], at: usize) -> u32
     requires { ⌜ at + 1 < length (now ws) ⌝ }
@@ -57,12 +48,25 @@ pub fn there_at(ws: &[u32], at: usize) -> u32
     1
 }
 
-// The contact that a contactPoint gives: 1 for "end", 0 for all else.
-pub fn contact_at(text: &[u8], ws: &[u32], at: usize) -> u32
+// What a contactPoint says: whether the contact is the end, whether it is given, whether it is spelled loosely.
+pub struct ContactPoint {
+    pub contact: bool,
+    pub given: bool,
+    pub loose: bool,
+}
+
+// The contactPoint at words `at` and `at + 1`.
+pub fn contact_at(text: &[u8], ws: &[u32], at: usize) -> ContactPoint
     requires { ⌜ at + 1 < length (now ws) ⌝ }
-    ensures { λ q. ⌜ q ≡ Tables.bit (reads (now (text .entry)) endText (nameIn (now (ws .entry)) at)) ⌝ }
+    ensures { λ q. ⌜ q ≡ contactRead (contactOf (now (text .entry)) (nameIn (now (ws .entry)) at)) ⌝ }
 {
-    bit(reads_at(text, ws, at, b"end"))
+    let contact = reads_at(text, ws, at, b"end");
+    let given = either(reads_at(text, ws, at, b"start"), contact);
+    ContactPoint {
+        contact,
+        given,
+        loose: both(!absent_at(ws, at), !given),
+    }
 }
 
 // The attribute as a lane number.

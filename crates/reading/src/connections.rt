@@ -4,8 +4,10 @@ use crate::attributes::contact_at;
 use crate::attributes::reads_at;
 use crate::links::put_if;
 use crate::links::read_links;
+use crate::links::warn_if;
 use words::names;
 use words::rows;
+use words::tests::bit;
 ghost use mathlib.Core.Path.{_≡_};
 ghost use mathlib.Core.Bool.{_&&_};
 ghost use mathlib.Core.List.{[]};
@@ -104,24 +106,23 @@ fn both_there(ws: &[u32], a: usize, b: usize) -> bool
 // The row of the connection whose raw row begins at word `at` and whose connecting road stands at word k, with `count`
 // pairs from row `first` on.
 fn connection_row(
-    text: &[u8],
     connections: &[u32],
     at: usize,
     k: usize,
+    contact: bool,
     first: usize,
     count: usize,
 ) -> [u32; 7]
     requires { ⌜ (at + 14 ≤ length (now connections)) × (k + 1 < length (now connections)) × (first ≤ 16384)
         × (count ≤ 16384) ⌝ }
-    ensures { λ q. ⌜ q ≡ connectionRead (now (text .entry)) (now (connections .entry)) at k first count ⌝ }
+    ensures { λ q. ⌜ q ≡ connectionRead (now (connections .entry)) at k contact first count ⌝ }
 {
-    let contact = contact_at(text, connections, at + 10);
     [
         connections[at + 4],
         connections[at + 4 + 1],
         connections[k],
         connections[k + 1],
-        contact,
+        bit(contact),
         first as u32,
         count as u32,
     ]
@@ -173,8 +174,10 @@ fn read_connection(
     }
     let first = rows::word(connections, at + 12);
     let count = rows::word(connections, at + 13);
-    let q = read_links(text, links, j as u32, c as u32, first, count, po, p, wo, w);
-    let row = connection_row(text, connections, at, k, p, q.pairs - p);
+    let point = contact_at(text, connections, at + 10);
+    let v = warn_if(point.loose, &[4, j as u32, c as u32, 0], wo, w);
+    let q = read_links(text, links, j as u32, c as u32, first, count, po, p, wo, v);
+    let row = connection_row(connections, at, k, point.contact, p, q.pairs - p);
     put_if(co, n * 7, &row);
     Reach {
         connections: n + 1,

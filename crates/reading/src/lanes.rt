@@ -17,8 +17,8 @@ ghost use Rattle.model.specs.ReadingCalls.{rawSized, rawLaneRules, rawLaneConte
 ghost use Rattle.tables.specs.Verdicts.{refusalOf};
 ghost use Rattle.reading.specs.Answers.{answerOf};
 
-// What a call that writes one table answers: the rows written, or why it was refused.
-pub enum ReadTable {
+// What the reading of lanes answers: the rows written, or why it was refused.
+pub enum ReadLanes {
     Written(usize),
     Refused(Verdict),
 }
@@ -71,18 +71,18 @@ fn lanes_verdict(text: &[u8], raw: &[u32]) -> Verdict
 }
 
 // Reads lanes: for each raw row, predecessor id and successor id, a flag and number each.
-pub fn read_lanes(text: &[u8], raw: &[u32], out: &mut [u32]) -> ReadTable
+pub fn read_lanes(text: &[u8], raw: &[u32], out: &mut [u32]) -> ReadLanes
     ensures { λ q. ⌜ outcome (answerOf q) (now (out .exit))
         ≡ readLanesCall (now (text .entry)) (now (raw .entry)) (now (out .entry)) ⌝ }
 {
     let v = lanes_verdict(text, raw);
     if !admitted(v) {
-        return ReadTable::Refused(v);
+        return ReadLanes::Refused(v);
     }
     let n = raw.len() / 4;
     if out.len() < n * 4 {
-        return ReadTable::Refused(Verdict::OutputShort);
+        return ReadLanes::Refused(Verdict::OutputShort);
     }
     put_lanes(text, raw, out);
-    ReadTable::Written(n)
+    ReadLanes::Written(n)
 }

@@ -5,11 +5,14 @@ use words::rows;
 use words::tests::both;
 use words::tests::is;
 ghost use mathlib.Core.Path.{_≡_};
+ghost use mathlib.Core.Bool.{cond};
+ghost use mathlib.Core.List.{[]};
 ghost use Prim.Native.Nat.{_+_, _*_, _/_, _≤_, _<_};
 ghost use lib.ListN.{length};
 ghost use Rattle.model.specs.Lists.{gather};
 ghost use Rattle.model.specs.Reading.{partRows};
-ghost use Rattle.reading.specs.Laid.{LinkOuts, LinksRead, PutIf, linkOuts, pairsAt, dropsAt};
+ghost use Rattle.model.specs.Tables.{bit};
+ghost use Rattle.reading.specs.Laid.{LinkOuts, LinksRead, PutIf, Run, linkOuts, output, pairsAt, dropsAt};
 
 // How many pairs and warnings there are.
 pub struct Links {
@@ -25,6 +28,19 @@ pub fn put_if(out: &mut [u32], at: usize, row: &[u32])
     if at + row.len() <= out.len() {
         rows::put(out, at, row);
     }
+}
+
+// Puts a warning row, if there is something to warn of, after w rows. Returns how many there are.
+pub fn warn_if(warned: bool, row: &[u32], wo: &mut [u32], w: usize) -> usize
+    requires { ⌜ (length (now row) ≡ 4) × (w ≤ 32768) ⌝ }
+    ensures { λ q. ⌜ Run 4 (cond warned (now (row .entry)) []) (bit warned) (output (now (wo .entry)) w)
+        (output (now (wo .exit)) q) ⌝ }
+{
+    if warned {
+        put_if(wo, w * 4, row);
+        return w + 1;
+    }
+    w
 }
 
 // Reads lane link l of connection c of junction j, after p pairs and w warnings.

@@ -7,7 +7,7 @@ ghost use mathlib.Core.Option.{none};
 ghost use Prim.Native.Nat.{_+_, _*_, _-_, _≤_, _<_};
 ghost use lib.ListN.{length, drop};
 ghost use Rattle.model.specs.Reading.{isDigit, digits, upTo, laneNumber};
-ghost use Rattle.reading.specs.Links.{linkRead};
+ghost use Rattle.reading.specs.Read.{linkRead};
 
 // A link as written: flag and number; without flag the number is 0.
 pub struct Link {

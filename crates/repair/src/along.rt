@@ -5,6 +5,7 @@ use tables::lookup::RoadId;
 use words::index;
 use words::names;
 use words::rows;
+use words::tests::bit;
 use words::tests::both;
 use words::tests::is;
 ghost use mathlib.Core.Path.{_≡_};
@@ -95,16 +96,6 @@ fn mark_road(
     let b = both(v, is(at(roads, r * 20 + 17), 1));
     ends[r * 2 + 0] = bit(a);
     ends[r * 2 + 1] = bit(b);
-}
-
-// A flag's word.
-fn bit(b: bool) -> u32
-    ensures { λ q. ⌜ q ≡ bit b ⌝ }
-{
-    if b {
-        return 1;
-    }
-    0
 }
 
 // Marks the ends of all roads.

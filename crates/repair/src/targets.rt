@@ -3,9 +3,9 @@ use tables::lookup::RoadId;
 use words::index;
 use words::names;
 use words::tests::both;
+use words::tests::either;
 use words::tests::is;
 ghost use mathlib.Core.Path.{_≡_};
-ghost use mathlib.Core.Bool.{_||_};
 ghost use mathlib.Core.List.{List};
 ghost use Prim.Native.Nat.{ℕ, _/_, _≤_, _<_};
 ghost use lib.ListN.{length, getD};
@@ -111,15 +111,6 @@ pub fn names_junction(text: &[u8], words: [u32; 7], junctions: &[u32], k: usize)
     let l = at(junctions, k * 5 + 0 + 1);
     let a = both(is(words[0], 1), is(words[1], 1));
     both(a, alike(text, words[2], words[3], s, l))
-}
-
-fn either(a: bool, b: bool) -> bool
-    ensures { λ q. ⌜ q ≡ (a || b) ⌝ }
-{
-    if a {
-        return true;
-    }
-    b
 }
 
 // Whether a road names junction k at either end.

@@ -8,32 +8,48 @@ use crate::stream::list;
 use crate::stream::number as word;
 use reading::junctions::ReadJunctions;
 use reading::junctions::read_junctions;
-use reading::lanes::ReadTable;
+use reading::lanes::ReadLanes;
 use reading::lanes::read_lanes;
 use reading::length::Length;
 use reading::length::check_length;
+use reading::targets::ReadTargets;
 use reading::targets::read_targets;
 use tables::check::number;
 use words::tests::both;
 ghost use Prim.Native.Nat.{_≤_};
 
-fn table_told(step: &[u32], answer: ReadTable) -> bool {
+fn targets_told(step: &[u32], answer: ReadTargets) -> bool {
     match answer {
-        ReadTable::Refused(v) => told(step, [number(v) as usize, 0, 0, 0, 0, 0, 0]),
-        ReadTable::Written(n) => told(step, [0, n, 0, 0, 0, 0, 0]),
+        ReadTargets::Refused(v) => told(step, [number(v) as usize, 0, 0, 0, 0, 0, 0]),
+        ReadTargets::Written(n, w) => told(step, [0, n, w, 0, 0, 0, 0]),
     }
 }
 
 pub fn targets_again(text: &[u8], raw: &[u32], step: &[u32]) -> bool {
-    let mut rows = [MARK; 256];
-    let answer = read_targets(text, list(raw, 1), &mut rows[0..lent(step, 1)]);
-    same(table_told(step, answer), step, 1, &rows)
+    let mut targets = [MARK; 256];
+    let mut warnings = [MARK; 256];
+    let answer = read_targets(
+        text,
+        list(raw, 1),
+        &mut targets[0..lent(step, 1)],
+        &mut warnings[0..lent(step, 2)],
+    );
+    let a = targets_told(step, answer);
+    let b = same(a, step, 1, &targets);
+    same(b, step, 2, &warnings)
+}
+
+fn lanes_told(step: &[u32], answer: ReadLanes) -> bool {
+    match answer {
+        ReadLanes::Refused(v) => told(step, [number(v) as usize, 0, 0, 0, 0, 0, 0]),
+        ReadLanes::Written(n) => told(step, [0, n, 0, 0, 0, 0, 0]),
+    }
 }
 
 pub fn lanes_again(text: &[u8], raw: &[u32], step: &[u32]) -> bool {
     let mut rows = [MARK; 256];
     let answer = read_lanes(text, list(raw, 2), &mut rows[0..lent(step, 1)]);
-    same(table_told(step, answer), step, 1, &rows)
+    same(lanes_told(step, answer), step, 1, &rows)
 }
 
 fn junctions_told(step: &[u32], answer: ReadJunctions) -> bool {

@@ -1,6 +1,10 @@
 // Reading, repair, succession, one after the other.
-// Road w leads into junction j, and its own links leave that out; road c connects it with road e.
+// Road w leads into junction j, and its own links leave that out; road c connects it with road e. Once as OpenDRIVE
+// spells contact points, and once spelled loosely.
 use crate::NO;
+use crate::attributes::NO_ELEMENT;
+use crate::attributes::three_roads;
+use crate::attributes::two;
 use crate::cards::EDGES_3;
 use crate::cards::EDGES_7;
 use crate::cards::EDGES_9;
@@ -10,8 +14,9 @@ use crate::print::print_number;
 use crate::print::print_refusal;
 use reading::junctions::ReadJunctions;
 use reading::junctions::read_junctions;
-use reading::lanes::ReadTable;
+use reading::lanes::ReadLanes;
 use reading::lanes::read_lanes;
+use reading::targets::ReadTargets;
 use reading::targets::read_targets;
 use repair::call::Repaired;
 use repair::call::repair;
@@ -19,8 +24,8 @@ use succession::call::succession;
 use succession::lists::list_lookup;
 use words::rows;
 
-// Names: w at 0, c at 1, e at 2, j at 3; -1 at 4, end at 6, start at 9.
-pub const TEXT: [u8; 14] = *b"wcej-1endstart";
+// Names: w at 0, c at 1, e at 2, j at 3; -1 at 4, end at 6, start at 9, End at 14, Start at 17.
+pub const TEXT: [u8; 22] = *b"wcej-1endstartEndStart";
 
 // Each road has one section.
 pub const SECTIONS: [u32; 3] = [0, 0, 0];
@@ -42,51 +47,81 @@ pub struct Lists {
     pub before_ids: [u32; 3],
 }
 
-// What is said of a table that was read, or the refusal.
-fn say_read(said: &[u8], answer: ReadTable) {
+// What was accepted, and the warning row that it wrote, or none.
+fn say_warned(said: &[u8], n: usize, warnings: [u32; 4]) {
+    print(said);
+    print(b", warning row:");
+    if n == 0 {
+        print(b" none\n");
+        return;
+    }
+    print_list(&warnings);
+    print(b"\n");
+}
+
+fn say_targets(answer: ReadTargets, warnings: [u32; 4]) {
     match answer {
-        ReadTable::Written(_) => print(said),
-        ReadTable::Refused(v) => print_refusal(v),
+        ReadTargets::Written(_, w) => say_warned(b"targets: read", w, warnings),
+        ReadTargets::Refused(v) => print_refusal(v),
     }
 }
 
-fn say_joined(answer: ReadJunctions) {
+fn say_lanes(answer: ReadLanes) {
     match answer {
-        ReadJunctions::Written(_) => print(b"junctions: read\n"),
+        ReadLanes::Written(_) => print(b"lanes: read\n"),
+        ReadLanes::Refused(v) => print_refusal(v),
+    }
+}
+
+fn say_joined(answer: ReadJunctions, warnings: [u32; 4]) {
+    match answer {
+        ReadJunctions::Written(n) => say_warned(b"junctions: read", n.warnings, warnings),
         ReadJunctions::Refused(v) => print_refusal(v),
     }
 }
 
-fn say_repaired(answer: Repaired) {
+fn say_repaired(answer: Repaired, warnings: [u32; 4]) {
     match answer {
-        Repaired::Written(_) => print(b"repaired, warning row:"),
+        Repaired::Written(n) => say_warned(b"repaired", n.warnings, warnings),
         Repaired::Refused(v) => print_refusal(v),
     }
 }
 
-// A road with one section, which stands in a row; its two raw targets, predecessor first, are read into their place.
-fn read_road(name: u32, inside: [u32; 2], raw: [u32; 18], section: u32) -> [u32; 20] {
+// w has no target; c comes from w's end, where its contactPoint says so, and leads to e's start; e comes from c's end.
+fn raw_targets(point: [u32; 2]) -> [u32; 54] {
+    let w = two(NO_ELEMENT, NO_ELEMENT);
+    let c = two(
+        [1, NO, 0, 0, 1, point[0], point[1], NO, 0],
+        [1, NO, 0, 2, 1, 9, 5, NO, 0],
+    );
+    let e = two([1, NO, 0, 1, 1, 6, 3, NO, 0], NO_ELEMENT);
+    three_roads(w, c, e)
+}
+
+fn read_ends(point: [u32; 2]) -> [u32; 42] {
+    let mut targets = [0u32; 42];
+    let mut warnings = [0u32; 4];
+    let answer = read_targets(&TEXT, &raw_targets(point), &mut targets, &mut warnings);
+    say_targets(answer, warnings);
+    targets
+}
+
+// A road with one section, which stands in a row, and with its two targets, 14 words.
+fn road(name: u32, inside: [u32; 2], targets: &[u32], section: u32) -> [u32; 20] {
     let mut road = [0u32; 20];
-    road[0] = name;
-    road[1] = 1;
-    road[2] = inside[0];
-    road[3] = inside[1];
-    road[18] = section;
-    road[19] = 1;
-    say_read(b"", read_targets(&TEXT, &raw, &mut road[4..18]));
+    rows::put(&mut road, 0, &[name, 1, inside[0], inside[1]]);
+    rows::put(&mut road, 18, &[section, 1]);
+    if targets.len() == 14 {
+        rows::put(&mut road, 4, targets);
+    }
     road
 }
 
-fn read_roads() -> [u32; 60] {
-    // w has no target; c comes from w's end and leads to e's start; e comes from c's end
-    let w = [0, NO, 0, NO, 0, NO, 0, NO, 0, 0, NO, 0, NO, 0, NO, 0, NO, 0];
-    let c = [1, NO, 0, 0, 1, 6, 3, NO, 0, 1, NO, 0, 2, 1, 9, 5, NO, 0];
-    let e = [1, NO, 0, 1, 1, 6, 3, NO, 0, 0, NO, 0, NO, 0, NO, 0, NO, 0];
+fn roads(t: [u32; 42]) -> [u32; 60] {
     let mut roads = [0u32; 60];
-    rows::put(&mut roads, 0, &read_road(0, [NO, 0], w, 0));
-    rows::put(&mut roads, 20, &read_road(1, [3, 1], c, 1));
-    rows::put(&mut roads, 40, &read_road(2, [NO, 0], e, 2));
-    print(b"targets: read\n");
+    rows::put(&mut roads, 0, &road(0, [NO, 0], &t[0..14], 0));
+    rows::put(&mut roads, 20, &road(1, [3, 1], &t[14..28], 1));
+    rows::put(&mut roads, 40, &road(2, [NO, 0], &t[28..42], 2));
     roads
 }
 
@@ -94,7 +129,7 @@ fn read_roads() -> [u32; 60] {
 fn read_links() -> [u32; 12] {
     let raw = [NO, 0, NO, 0, 4, 2, 4, 2, 4, 2, NO, 0];
     let mut links = [0u32; 12];
-    say_read(b"lanes: read\n", read_lanes(&TEXT, &raw, &mut links));
+    say_lanes(read_lanes(&TEXT, &raw, &mut links));
     links
 }
 
@@ -120,9 +155,10 @@ fn edges() -> [f32; 36] {
     table
 }
 
-// The map. Junction j: from w, met at its start, into c; lane -1 to lane -1.
-fn read() -> Map {
-    let roads = read_roads();
+// The map with the contactPoints of c's predecessor and of the connection. Junction j: from w into c, met at its start;
+// lane -1 to lane -1.
+fn read(point: [u32; 2], met: [u32; 2]) -> Map {
+    let roads = roads(read_ends(point));
     let lanes = lanes(read_links());
     let mut junctions = [0u32; 5];
     let mut connections = [0u32; 7];
@@ -131,14 +167,14 @@ fn read() -> Map {
     let answer = read_junctions(
         &TEXT,
         &[3, 1, NO, 0, NO, 0, 0, 1],
-        &[NO, 0, NO, 0, 0, 1, 1, 1, NO, 0, 9, 5, 0, 1],
+        &[NO, 0, NO, 0, 0, 1, 1, 1, NO, 0, met[0], met[1], 0, 1],
         &[4, 2, 4, 2],
         &mut junctions,
         &mut connections,
         &mut pairs,
         &mut warnings,
     );
-    say_joined(answer);
+    say_joined(answer, warnings);
     Map {
         roads,
         junctions,
@@ -175,9 +211,7 @@ pub fn repaired(m: Map) -> Map {
         &mut d,
         &mut warnings,
     );
-    say_repaired(answer);
-    print_list(&warnings);
-    print(b"\n");
+    say_repaired(answer, warnings);
     Map {
         roads: a,
         junctions: b,
@@ -247,9 +281,31 @@ pub fn print_lists(l: Lists) {
     print_row(l, 5, 2);
 }
 
+// The targets of w, c and e.
+fn print_targets(said: &[u8], roads: [u32; 60]) {
+    print(said);
+    print_list(&roads[4..18]);
+    print_list(&roads[24..38]);
+    print_list(&roads[44..58]);
+    print(b"\n");
+}
+
+// Reads the map with these contactPoints, and goes on with it.
+fn run(point: [u32; 2], met: [u32; 2]) -> Map {
+    let m = read(point, met);
+    let read = m.roads;
+    print_targets(b"targets before repair:", read);
+    let r = repaired(m);
+    let left = r.roads;
+    print_targets(b"targets after repair:", left);
+    print_lists(linked(r));
+    m
+}
+
 pub fn show() -> Map {
     print(b"# Chain\n");
-    let m = read();
-    print_lists(linked(repaired(m)));
+    let m = run([6, 3], [9, 5]);
+    print(b"# Chain with End and Start\n");
+    run([14, 3], [17, 5]);
     m
 }

@@ -16,9 +16,9 @@ use Rattle.model.specs.Calls.{reversalCall, reversalContent, reversalCounts, re
 use Rattle.model.specs.Calls.{settled, successionCall, successionRules, tableRules, tableWriting, wrote}
 use Rattle.model.specs.Lists.{every}
 use Rattle.model.specs.Reading.{RawTables}
-use Rattle.model.specs.ReadingCalls.{JunctionOutputs, junctionContent, junctionCounts, junctionWriting}
+use Rattle.model.specs.ReadingCalls.{JunctionOutputs, TargetOutputs, junctionContent, junctionCounts, junctionWriting}
 use Rattle.model.specs.ReadingCalls.{rawJunctionRules, rawLaneContent, rawLaneRules, readJunctionsCall}
-use Rattle.model.specs.ReadingCalls.{readLanesCall, readTargetsCall, targetContent, targetRules}
+use Rattle.model.specs.ReadingCalls.{readLanesCall, readTargetsCall, targetContent, targetRules, targetWriting}
 use Rattle.model.specs.Rules.{Rule, firstBroken}
 use Rattle.model.specs.Tables.{Tables}
 use Rattle.laws.proofs.ListTests.{every-append}
@@ -104,11 +104,12 @@ unfolding reversalCall reversalRules tableRules markRules rulesTo5 laneRules abo
 reversal-accepted t marks o before =
     zero-accepted reversalWriting (reversalRules t marks) (reversalContent t marks) o refl before
 
-pub targets-accepted : (text raw o before : List ℕ) → exported (readTargetsCall text raw o) before .0 .0 ≡ 0
-    → readTargetsCall text raw o .answer ≡ wrote (length (targetContent text raw) / 7 ∷ [])
+pub targets-accepted : (text raw : List ℕ) (o : TargetOutputs) (before : List ℕ)
+    → exported (readTargetsCall text raw o) before .0 .0 ≡ 0
+    → readTargetsCall text raw o .answer ≡ wrote (targetWriting .rows (targetContent text raw))
 unfolding readTargetsCall targetRules above-zero
 targets-accepted text raw o before =
-    zero-accepted (tableWriting 7) (targetRules text raw) (targetContent text raw) o refl before
+    zero-accepted targetWriting (targetRules text raw) (targetContent text raw) o refl before
 
 pub lanes-accepted : (text raw o before : List ℕ) → exported (readLanesCall text raw o) before .0 .0 ≡ 0
     → readLanesCall text raw o .answer ≡ wrote (length (rawLaneContent text raw) / 4 ∷ [])

@@ -2,21 +2,22 @@
 use mathlib.Core.Path.{_≡_, refl, sym, ap, _∙_}
 use mathlib.Core.Bool.{Bool, true, false, cond}
 use mathlib.Core.Option.{Option, none, some}
-use mathlib.Core.List.{List, [], _∷_, append-nil, map}
+use mathlib.Core.List.{List, [], _∷_, _++_, append-nil, map}
 use Prim.Native.Nat.{ℕ, zero, suc, _+_, _/_, _≤_, _<_}
 use native.Mathlib.Nat.{add-zero}
 use native.Mathlib.Omega.{arith}
 use lib.ListN.{length, length-append, length-map}
 use Rattle.model.specs.Calls.{Answer, outcome, tableWriting}
 use Rattle.model.specs.Lists.{bindO, gather, isSome, mapO}
-use Rattle.model.specs.Reading.{RawTables, ReadWarning, connectionDropped, connectionWarnings, connectionsAt, endText}
-use Rattle.model.specs.Reading.{junctionWarnings, keptConnections, kindAt, laneLinkDropped, laneLinkWarnings}
-use Rattle.model.specs.Reading.{laneLinksAt, leadsInto, partRows, passedOver, rawConnection, rawJunction}
-use Rattle.model.specs.Reading.{readConnection, readJunction, readJunctions, readPair, readWarningRow, readWarnings}
-use Rattle.model.specs.Reading.{reads, toList}
-use Rattle.model.specs.ReadingCalls.{JunctionOutputs, junctionContent, junctionCounts, junctionWriting}
-use Rattle.model.specs.ReadingCalls.{rawJunctionRules, rawLaneContent, rawLaneRules, readJunctionsCall}
-use Rattle.model.specs.ReadingCalls.{readLanesCall, readTargetsCall, targetContent, targetRules}
+use Rattle.model.specs.Reading.{RawTables, ReadWarning, connectionDropped, connectionLoose, connectionWarnings}
+use Rattle.model.specs.Reading.{connectionsAt, contactAt, contactWarnings, junctionWarnings, keptConnections, kindAt}
+use Rattle.model.specs.Reading.{laneLinkDropped, laneLinkWarnings, laneLinksAt, leadsInto, partRows, passedOver}
+use Rattle.model.specs.Reading.{rawConnection, rawJunction, readConnection, readJunction, readJunctions, readPair}
+use Rattle.model.specs.Reading.{readWarningRow, readWarnings, toList}
+use Rattle.model.specs.ReadingCalls.{JunctionOutputs, TargetOutputs, junctionContent, junctionCounts}
+use Rattle.model.specs.ReadingCalls.{junctionWriting, rawJunctionRules, rawLaneContent, rawLaneRules}
+use Rattle.model.specs.ReadingCalls.{readJunctionsCall, readLanesCall, readTargetsCall, targetContent, targetRules}
+use Rattle.model.specs.ReadingCalls.{targetWriting}
 use Rattle.model.specs.Records.{Connection, Junction, Pair, Span}
 use Rattle.model.specs.Rows.{word}
 use Rattle.model.specs.Rules.{firstBroken}
@@ -30,26 +31,29 @@ use Rattle.reading.specs.Laid.{Ready, connectionsOf, pairsOf}
 use Rattle.reading.proofs.CallLaws.{ready}
 use Rattle.reading.proofs.LaneLaws.{lanes-few, lanes-length}
 use Rattle.reading.proofs.NameLaws.{word-of}
-use Rattle.reading.proofs.TargetLaws.{targets-few, targets-length}
+use Rattle.reading.proofs.RowLaws.{part-length}
+use Rattle.reading.proofs.TargetLaws.{at-most-four, at-most-one, targets-few, targets-length, warnings-few}
 use Rattle.vorzhyket.specs.Exported.{Counted, Words}
 use Rattle.vorzhyket.proofs.Left.{counted}
 
 -- ---- targets and lanes
 target-words : (text raw : List ℕ) → firstBroken (targetRules text raw) ≡ none
-    → Words (length (targetContent text raw) / 7 ∷ [])
+    → Words (targetWriting .rows (targetContent text raw))
 target-words text raw unbroken =
-    let rows = targets-length text raw in (omega (arith, targets-few text raw (sym unbroken)), tt)
+    let few = targets-few text raw (sym unbroken) in
+    let rows = targets-length text raw in
+    let warned = warnings-few text raw in (omega arith, (omega arith, tt))
 
 lane-words : (text raw : List ℕ) → firstBroken (rawLaneRules text raw) ≡ none
     → Words (length (rawLaneContent text raw) / 4 ∷ [])
 lane-words text raw unbroken =
     let rows = lanes-length text raw in (omega (arith, lanes-few text raw (sym unbroken)), tt)
 
-pub targets-counted : (text raw o : List ℕ) {y : Answer} {after : List ℕ}
+pub targets-counted : (text raw : List ℕ) (o : TargetOutputs) {y : Answer} {after : TargetOutputs}
     → outcome y after ≡ readTargetsCall text raw o → Counted y
 unfolding readTargetsCall
 targets-counted text raw o e =
-    counted (tableWriting 7) (targetRules text raw) (targetContent text raw) o e (target-words text raw)
+    counted targetWriting (targetRules text raw) (targetContent text raw) o e (target-words text raw)
 
 pub lanes-counted : (text raw o : List ℕ) {y : Answer} {after : List ℕ} → outcome y after ≡ readLanesCall text raw o
     → Counted y
@@ -70,10 +74,6 @@ rows-most f g n each first (suc m) within =
     let next : first + 1 ≡ suc first = omega arith in
     let end : suc first + m ≡ first + suc m = omega arith in
     omega (arith, ap g next, ap g end)
-
-part-length : (first count : ℕ) → length (partRows first count) ≡ count
-part-length first zero = refl
-part-length first (suc n) = ap suc (part-length (suc first) n)
 
 one-most : {A : Type 0} (o : Option A) → length (toList o) ≤ 1
 one-most none = omega arith
@@ -116,8 +116,7 @@ module _ (t : RawTables) where
     kept-pairs : length (pairsOf (keptConnections t j c)) ≤ linksOf c
     unfolding keptConnections readConnection
     kept-pairs =
-        go (passedOver t j c) (nameIn (rawConnection t c) 4) (leadsInto t j c)
-        (reads (t .text) endText (nameIn (rawConnection t c) 10))
+        go (passedOver t j c) (nameIn (rawConnection t c) 4) (leadsInto t j c) (contactAt t c .contact)
       where
         few : length pairs ≤ linksOf c
         few =
@@ -143,9 +142,14 @@ module _ (t : RawTables) where
             one true = omega arith
             one false = omega arith
 
-        go : (b d : Bool) → length (cond b [] (cond d dropped (connectionDropped j c ∷ []))) ≤ linksOf c + 1
+        go : (b d : Bool)
+            → length (cond b [] (cond d (contactWarnings t j c ++ dropped) (connectionDropped j c ∷ [])))
+            ≤ linksOf c + 1
         go true d = omega arith
-        go false true = omega (arith, gather-most 1 (laneLinkWarnings t j c) (laneLinksAt t c) drop-one, links)
+        go false true =
+            let contact = at-most-one (contactAt t c .loose) (connectionLoose j c) in
+            let one-each = gather-most 1 (laneLinkWarnings t j c) (laneLinksAt t c) drop-one in
+            omega (arith, length-append (contactWarnings t j c) dropped, links)
         go false false = omega arith
 
   -- ---- a junction: as many connections as its part has, their pairs, and a warning for each of both
@@ -280,12 +284,8 @@ junction-words t unbroken =
     let junctions = length-junctions (readJunctions t) in
     let connections = length-connections (readJunctions t) in
     let pairs = length-pairs (readJunctions t) in
-    let warnings = gather-most 4 readWarningRow (readWarnings t) four in
+    let warnings = gather-most 4 readWarningRow (readWarnings t) at-most-four in
     (omega arith, (omega arith, (omega arith, (omega arith, tt))))
-  where
-    four : (w : ReadWarning) → length (readWarningRow w) ≤ 4
-    four (connectionDropped j c) = omega arith
-    four (laneLinkDropped j c l) = omega arith
 
 pub junctions-counted : (t : RawTables) (o : JunctionOutputs) {y : Answer} {after : JunctionOutputs}
     → outcome y after ≡ readJunctionsCall t o → Counted y

@@ -2,10 +2,11 @@
 // output, or returns the number of a refusal and changes no lent word.
 use reading::junctions::ReadJunctions;
 use reading::junctions::read_junctions;
-use reading::lanes::ReadTable;
+use reading::lanes::ReadLanes;
 use reading::lanes::read_lanes;
 use reading::length::Length;
 use reading::length::check_length;
+use reading::targets::ReadTargets;
 use reading::targets::read_targets;
 use tables::check::number;
 ghost use mathlib.Core.Path.{_≡_};
@@ -14,19 +15,34 @@ ghost use Rattle.model.specs.ReadingCalls.{readJunctionsCall, readLanesCall, re
 ghost use Rattle.reading.specs.Answers as reading;
 ghost use Rattle.reading.specs.JunctionAnswers as junctions;
 ghost use Rattle.reading.specs.Laid.{rawTables};
+ghost use Rattle.reading.specs.TargetAnswers as targets;
 ghost use Rattle.vorzhyket.specs.Exported.{Counted, answered, exported, exportedLength};
 
-// What a reading of one table answers, as a number and the rows in `written`.
-fn table_read(a: ReadTable, written: &mut [u32; 1]) -> u32
+// What the reading of lanes answers, as a number and the rows in `written`.
+fn lanes_read(a: ReadLanes, written: &mut [u32; 1]) -> u32
     requires { ⌜ Counted (reading.answerOf a) ⌝ }
     ensures { λ q. ⌜ (q, now (written .exit)) ≡ answered (reading.answerOf a) (now (written .entry)) ⌝ }
 {
     match a {
-        ReadTable::Written(n) => {
+        ReadLanes::Written(n) => {
             *written = [n as u32];
             0
         }
-        ReadTable::Refused(v) => number(v),
+        ReadLanes::Refused(v) => number(v),
+    }
+}
+
+// The same of the reading of targets.
+fn targets_read(a: ReadTargets, written: &mut [u32; 2]) -> u32
+    requires { ⌜ Counted (targets.answerOf a) ⌝ }
+    ensures { λ q. ⌜ (q, now (written .exit)) ≡ answered (targets.answerOf a) (now (written .entry)) ⌝ }
+{
+    match a {
+        ReadTargets::Written(n, w) => {
+            *written = [n as u32, w as u32];
+            0
+        }
+        ReadTargets::Refused(v) => number(v),
     }
 }
 
@@ -49,24 +65,29 @@ fn junctions_read(a: ReadJunctions, written: &mut [u32; 4]) -> u32
     }
 }
 
-// The target of each raw target.
+// The target of each raw target, two to a road, and a warning for each contact point that is spelled loosely.
 #[no_mangle]
 pub extern "C" fn vz_read_targets(
     text: &[u8],
     raw: &[u32],
     targets_out: &mut [u32],
-    written: &mut [u32; 1],
+    warnings_out: &mut [u32],
+    written: &mut [u32; 2],
 ) -> u32
-    ensures { λ q. ⌜ ((q, now (written .exit)), now («targets_out» .exit))
-        ≡ exported (readTargetsCall (now (text .entry)) (now (raw .entry)) (now («targets_out» .entry)))
+    ensures { λ q. ⌜ (
+      (q, now (written .exit)),
+      targets.outputs (now («targets_out» .exit)) (now («warnings_out» .exit)),
+    )
+        ≡ exported (readTargetsCall (now (text .entry)) (now (raw .entry))
+        (targets.outputs (now («targets_out» .entry)) (now («warnings_out» .entry))))
         (now (written .entry)) ⌝ }
 {
-    let targets = read_targets(text, raw, targets_out);
-    table_read(targets, written)
+    let a = read_targets(text, raw, targets_out, warnings_out);
+    targets_read(a, written)
 }
 
 // The junctions, connections and pairs of the raw tables, and a warning for each connection or lane link that is
-// dropped.
+// dropped and each contact point that is spelled loosely.
 #[no_mangle]
 pub extern "C" fn vz_read_junctions(
     text: &[u8],
@@ -117,7 +138,7 @@ pub extern "C" fn vz_read_lanes(
         (now (written .entry)) ⌝ }
 {
     let links = read_lanes(text, raw, links_out);
-    table_read(links, written)
+    lanes_read(links, written)
 }
 
 // 1 and where the plan view ends in `sum`, if that is off the road's length; 0 if there is nothing to report, 16 if

@@ -1,7 +1,8 @@
 // Tests as values: a chain of tests is then an equation, with no branch to take apart.
 ghost use mathlib.Core.Path.{_≡_};
-ghost use mathlib.Core.Bool.{not, _&&_};
+ghost use mathlib.Core.Bool.{not, _&&_, _||_};
 ghost use lib.Dec.{leb, eqb};
+ghost use Rattle.model.specs.Tables;
 
 pub fn both(a: bool, b: bool) -> bool
     ensures { λ r. ⌜ r ≡ (a && b) ⌝ }
@@ -10,6 +11,25 @@ pub fn both(a: bool, b: bool) -> bool
         return b;
     }
     false
+}
+
+pub fn either(a: bool, b: bool) -> bool
+    ensures { λ r. ⌜ r ≡ (a || b) ⌝ }
+{
+    if a {
+        return true;
+    }
+    b
+}
+
+// A flag's word.
+pub fn bit(b: bool) -> u32
+    ensures { λ r. ⌜ r ≡ Tables.bit b ⌝ }
+{
+    if b {
+        return 1;
+    }
+    0
 }
 
 // x is at most m.

@@ -2,7 +2,7 @@
 use borrow.Author.Needs.{needs}
 use mathlib.Core.Path.{sym, ap, _∙_}
 use Rattle.model.specs.Reading.{laneNumber, numberOf}
-use Rattle.reading.specs.Links.{linkRead}
+use Rattle.reading.specs.Read.{linkRead}
 use Rattle.reading.proofs.NameLaws.{name-absent, name-there}
 use Rattle.reading.proofs.attributes.number_at.Statement.{statement}
 use Rattle.reading.proofs.attributes.number_at.Tie as tie

@@ -5,7 +5,7 @@ use mathlib.Core.Path.{sym, ap, _∙_}
 use Rattle.model.specs.Lists.{isSome}
 use Rattle.model.specs.Tables.{nameIn}
 use Rattle.words.proofs.Scans.{and-off-left, and-on}
-use Rattle.reading.proofs.ConnectionLaws.{there-is}
+use Rattle.reading.proofs.NameLaws.{there-is}
 use Rattle.reading.proofs.connections.both_there.Statement.{statement}
 use Rattle.reading.proofs.connections.both_there.Tie as tie
 

@@ -4,7 +4,7 @@ use lib.ListN.{drop}
 use mathlib.Core.Path.{ap, _∙_}
 use Rattle.model.specs.Reading.{digits, upTo}
 use Rattle.model.specs.Reversal.{negated}
-use Rattle.reading.specs.Links.{linkRead}
+use Rattle.reading.specs.Read.{linkRead}
 use Rattle.reading.proofs.NumberLaws.{link-negated, number-minus, number-none, number-plain, number-plus}
 use Rattle.reading.proofs.numbers.lane_number.Statement.{statement}
 use Rattle.reading.proofs.numbers.lane_number.Tie as tie

@@ -62,38 +62,39 @@ add-there-at c = search needs
 there-at-requires : tie.Need-there-at-requires
 there-at-requires c κs = search needs
 
-add-there-at-2 : tie.Need-add-there-at-2
-add-there-at-2 c = search needs
+add-t9 : tie.Need-add-t9
+add-t9 c = search needs
 
-there-at-requires-2 : tie.Need-there-at-requires-2
-there-at-requires-2 c κs = search needs
+mul-t16 : tie.Need-mul-t16
+mul-t16 c = search needs
 
-add-t10 : tie.Need-add-t10
-add-t10 c = search needs
+shared-slice-read-t11 : tie.Need-shared-slice-read-t11
+shared-slice-read-t11 c = search needs
 
-mul-t17 : tie.Need-mul-t17
-mul-t17 c = search needs
-
-shared-slice-read-t12 : tie.Need-shared-slice-read-t12
-shared-slice-read-t12 c = search needs
+add-t18 : tie.Need-add-t18
+add-t18 c = search needs
 
 add-t19 : tie.Need-add-t19
 add-t19 c = search needs
 
-add-t20 : tie.Need-add-t20
-add-t20 c = search needs
+mul-t20 : tie.Need-mul-t20
+mul-t20 c = search needs
 
-mul-t21 : tie.Need-mul-t21
-mul-t21 c = search needs
+shared-slice-read-t22 : tie.Need-shared-slice-read-t22
+shared-slice-read-t22 c = search needs
 
-shared-slice-read-t23 : tie.Need-shared-slice-read-t23
-shared-slice-read-t23 c = search needs
+bit-requires-2 : tie.Need-bit-requires-2
+bit-requires-2 c κs = search needs
+
+bit-requires-3 : tie.Need-bit-requires-3
+bit-requires-3 c κs = search needs
 
 returns-3 : tie.Need-returns-3
 returns-3 c =
-    let along : tie.After-there-at2 = search in
-    let given : tie.After-there-at = search in
-    let contact : tie.After-contact-at = search in
+    let given : tie.After-bit3 = search in
+    let contact : tie.After-bit2 = search in
+    let along : tie.After-there-at = search in
+    let point : tie.After-contact-at = search in
     let kind : tie.After-bit = search in
     let read : tie.After-reads-at = search in
     let named : tie.Else2 = search in
@@ -104,8 +105,9 @@ returns-3 c =
     let i = start .args .i in
     let there = name-there raw (i * 9 + 3) (sym (tested .absent-at .ensures) ∙ named .if2 .left) refl refl in
     target-named (start .args .text .now) raw i (flagged .if1 .left) there
-    (kind .bit .ensures ∙ ap bit (read .reads-at .ensures)) (contact .contact-at .ensures) (given .there-at .ensures)
-    (along .there-at2 .ensures)
+    (kind .bit .ensures ∙ ap bit (read .reads-at .ensures))
+    (contact .bit2 .ensures ∙ ap (λ p. bit (p .contact)) (point .contact-at .ensures))
+    (given .bit3 .ensures ∙ ap (λ p. bit (p .given)) (point .contact-at .ensures)) (along .there-at .ensures)
 
 pub target-row-spec : {M : Type 1} → statement M
 target-row-spec =
@@ -126,13 +128,13 @@ target-row-spec =
     contact-at-requires
     add-there-at
     there-at-requires
-    add-there-at-2
-    there-at-requires-2
-    add-t10
-    mul-t17
-    shared-slice-read-t12
+    add-t9
+    mul-t16
+    shared-slice-read-t11
+    add-t18
     add-t19
-    add-t20
-    mul-t21
-    shared-slice-read-t23
+    mul-t20
+    shared-slice-read-t22
+    bit-requires-2
+    bit-requires-3
     returns-3)

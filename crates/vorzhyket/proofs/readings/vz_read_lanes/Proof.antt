@@ -8,8 +8,8 @@ use Rattle.vorzhyket.proofs.readings.vz_read_lanes.Tie as tie
 read-lanes-requires : tie.Need-read-lanes-requires
 read-lanes-requires c κs = search needs
 
-table-read-requires : tie.Need-table-read-requires
-table-read-requires c κs =
+lanes-read-requires : tie.Need-lanes-read-requires
+lanes-read-requires c κs =
     let made : tie.After-read-lanes = search in
     lanes-counted _ _ _ (made .read-lanes .ensures)
 
@@ -19,8 +19,8 @@ same-length c = search needs
 returns : tie.Need-returns
 returns c =
     let made : tie.After-read-lanes = search in
-    leaves (made .read-lanes .ensures) _ (c .table-read .ensures)
+    leaves (made .read-lanes .ensures) _ (c .lanes-read .ensures)
 
 pub vz-read-lanes-spec : {M : Type 1} → statement M
 vz-read-lanes-spec =
-    tie.close (tie.spec read-lanes-requires table-read-requires same-length returns)
+    tie.close (tie.spec read-lanes-requires lanes-read-requires same-length returns)

@@ -8,19 +8,22 @@ use Rattle.vorzhyket.proofs.readings.vz_read_targets.Tie as tie
 read-targets-requires : tie.Need-read-targets-requires
 read-targets-requires c κs = search needs
 
-table-read-requires : tie.Need-table-read-requires
-table-read-requires c κs =
+targets-read-requires : tie.Need-targets-read-requires
+targets-read-requires c κs =
     let made : tie.After-read-targets = search in
     targets-counted _ _ _ (made .read-targets .ensures)
 
 same-length : tie.Need-same-length
 same-length c = search needs
 
+same-length-2 : tie.Need-same-length-2
+same-length-2 c = search needs
+
 returns : tie.Need-returns
 returns c =
     let made : tie.After-read-targets = search in
-    leaves (made .read-targets .ensures) _ (c .table-read .ensures)
+    leaves (made .read-targets .ensures) _ (c .targets-read .ensures)
 
 pub vz-read-targets-spec : {M : Type 1} → statement M
 vz-read-targets-spec =
-    tie.close (tie.spec read-targets-requires table-read-requires same-length returns)
+    tie.close (tie.spec read-targets-requires targets-read-requires same-length same-length-2 returns)

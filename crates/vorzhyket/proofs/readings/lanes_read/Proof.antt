@@ -1,13 +1,13 @@
--- `table_read`: the rows of an answer that wrote, each a word; or the refusal's number.
+-- `lanes_read`: the rows of an answer that wrote, each a word; or the refusal's number.
 use borrow.Author.Needs.{needs}
 use mathlib.Core.Path.{refl}
 use native.Mathlib.Omega.{arith}
 use Rattle.reading.specs.Answers.{answerOf}
-use Rattle.reading.specs.declared.lanes.ReadTable.the-variants.{Written}
+use Rattle.reading.specs.declared.lanes.ReadLanes.the-variants.{Written}
 use Rattle.vorzhyket.specs.Exported.{Counted}
 use Rattle.vorzhyket.proofs.Left.{case-counted, case-refused, case-wrote}
-use Rattle.vorzhyket.proofs.readings.table_read.Statement.{statement}
-use Rattle.vorzhyket.proofs.readings.table_read.Tie as tie
+use Rattle.vorzhyket.proofs.readings.lanes_read.Statement.{statement}
+use Rattle.vorzhyket.proofs.readings.lanes_read.Tie as tie
 
 -- ---- it wrote: the counts are words
 module _ (there : tie.After-a) where
@@ -35,6 +35,6 @@ returns-2 c =
     let there : tie.After-a2 = search in
     case-refused answerOf (there .a2 .given .1) _ refl (c .number .ensures)
 
-pub table-read-spec : {M : Type 1} → statement M
-table-read-spec =
+pub lanes-read-spec : {M : Type 1} → statement M
+lanes-read-spec =
     tie.close (tie.spec enum-known-a cast-t6 enum-known-a-2 number-requires returns returns-2)
