@@ -63,6 +63,7 @@ impl Outcome {
 
 pub const REPAIR_WIDTHS: [usize; 5] = [ROAD, JUNCTION, CONNECTION, PAIR, 4];
 pub const LIST_WIDTHS: [usize; 4] = [1, 1, 1, 1];
+pub const TARGET_WIDTHS: [usize; 2] = [7, 4];
 pub const READING_WIDTHS: [usize; 4] = [JUNCTION, CONNECTION, PAIR, 4];
 pub const REVERSAL_WIDTHS: [usize; 6] = [ROAD, 1, CONNECTION, PAIR, LANE, EDGE];
 
@@ -91,6 +92,46 @@ impl Buffers {
     pub fn reverse(&mut self, t: &Tables, marks: &[u32], edges: &mut [f32]) -> u32 {
         let [a, b, c, d, e] = &mut self.outs[..] else { unreachable!() };
         call!(vz_reverse, t, [t.lanes, t.edges, marks], [a, b, c, d, e, edges], self.written)
+    }
+    pub fn read_targets(&mut self, raw: &Raw) -> u32 {
+        let [t, w] = &mut self.outs[..] else { unreachable!() };
+        unsafe {
+            vz_read_targets(
+                raw.text.as_ptr(),
+                raw.text.len(),
+                raw.targets.as_ptr(),
+                raw.targets.len(),
+                t.as_mut_ptr(),
+                t.len(),
+                w.as_mut_ptr(),
+                w.len(),
+                first(&mut self.written),
+            )
+        }
+    }
+    pub fn read_junctions(&mut self, raw: &Raw) -> u32 {
+        let [j, c, p, w] = &mut self.outs[..] else { unreachable!() };
+        unsafe {
+            vz_read_junctions(
+                raw.text.as_ptr(),
+                raw.text.len(),
+                raw.junctions.as_ptr(),
+                raw.junctions.len(),
+                raw.connections.as_ptr(),
+                raw.connections.len(),
+                raw.links.as_ptr(),
+                raw.links.len(),
+                j.as_mut_ptr(),
+                j.len(),
+                c.as_mut_ptr(),
+                c.len(),
+                p.as_mut_ptr(),
+                p.len(),
+                w.as_mut_ptr(),
+                w.len(),
+                first(&mut self.written),
+            )
+        }
     }
     /// The rows written, output by output.
     pub fn contents(&self, widths: &[usize]) -> Vec<Vec<u32>> {
@@ -129,11 +170,9 @@ pub fn reverse(t: &Tables, marks: &[u32], [roads, sections, connections, pairs, 
     b.outcome(refusal)
 }
 
-pub fn read_targets(raw: &Raw, length: usize) -> Outcome {
-    let mut b = Buffers::new([length]);
-    let refusal = unsafe {
-        vz_read_targets(raw.text.as_ptr(), raw.text.len(), raw.targets.as_ptr(), raw.targets.len(), b.outs[0].as_mut_ptr(), length, first(&mut b.written))
-    };
+pub fn read_targets(raw: &Raw, lengths: [usize; 2]) -> Outcome {
+    let mut b = Buffers::new(lengths);
+    let refusal = b.read_targets(raw);
     b.outcome(refusal)
 }
 
@@ -146,28 +185,7 @@ pub fn read_lanes(raw: &Raw, length: usize) -> Outcome {
 
 pub fn read_junctions(raw: &Raw, lengths: [usize; 4]) -> Outcome {
     let mut b = Buffers::new(lengths);
-    let [j, c, p, w] = &mut b.outs[..] else { unreachable!() };
-    let refusal = unsafe {
-        vz_read_junctions(
-            raw.text.as_ptr(),
-            raw.text.len(),
-            raw.junctions.as_ptr(),
-            raw.junctions.len(),
-            raw.connections.as_ptr(),
-            raw.connections.len(),
-            raw.links.as_ptr(),
-            raw.links.len(),
-            j.as_mut_ptr(),
-            j.len(),
-            c.as_mut_ptr(),
-            c.len(),
-            p.as_mut_ptr(),
-            p.len(),
-            w.as_mut_ptr(),
-            w.len(),
-            first(&mut b.written),
-        )
-    };
+    let refusal = b.read_junctions(raw);
     b.outcome(refusal)
 }
 

@@ -1,5 +1,6 @@
 //! Faulty tables: which refusal they get by document 01, and that it changes no lent word.
 use crate::calls::{self, Outcome};
+use crate::raw::Raw;
 use crate::rules;
 use crate::tables::{Dice, Tables, ABSENT, CONNECTION, EDGE, GAP, JUNCTION, LANE, PAIR, ROAD};
 use std::collections::BTreeMap;
@@ -251,7 +252,24 @@ pub fn limits() -> Result<(), String> {
     check("gaps, identities", calls::gaps(&t, &[0], &vec![0; 131_072], 0).refusal, 11)?;
     check("gaps, identities", calls::gaps(&t, &[0], &vec![0; 131_073], 0).refusal, 1)?;
     check("gaps, offsets", calls::gaps(&t, &vec![0; 16_385], &[], 0).refusal, 11)?;
-    check("gaps, offsets", calls::gaps(&t, &vec![0; 16_386], &[], 0).refusal, 1)
+    check("gaps, offsets", calls::gaps(&t, &vec![0; 16_386], &[], 0).refusal, 1)?;
+    for (n, expected) in [(16_384, 0), (16_386, 1), (16_383, 1)] {
+        let targets = [1, ABSENT, 0, 0, 3, 0, 3, ABSENT, 0].repeat(n);
+        let raw = Raw { text: b"End".to_vec(), targets, ..Raw::default() };
+        check("reading, targets", calls::read_targets(&raw, [7 * n, 4 * n]).refusal, expected)?;
+        check("reading, their warnings", calls::read_targets(&raw, [7 * n, 4 * n - 1]).refusal, if expected == 0 { 9 } else { expected })?;
+    }
+    let n = 16_384;
+    let connection = |c: u32| [ABSENT, 0, ABSENT, 0, 0, 3, 0, 3, ABSENT, 0, 0, 3, c, 1];
+    let raw = Raw {
+        text: b"End".to_vec(),
+        junctions: vec![0, 3, ABSENT, 0, ABSENT, 0, 0, n as u32],
+        connections: (0..n as u32).flat_map(connection).collect(),
+        links: [ABSENT, 0, ABSENT, 0].repeat(n),
+        ..Raw::default()
+    };
+    check("reading, two warnings for each connection", calls::read_junctions(&raw, [5, 7 * n, 0, 8 * n]).refusal, 0)?;
+    check("reading, two warnings for each connection", calls::read_junctions(&raw, [5, 7 * n, 0, 8 * n - 1]).refusal, 9)
 }
 
 fn check(what: &str, found: u32, expected: u32) -> Result<(), String> {

@@ -11,6 +11,7 @@ pub mod original;
 pub mod ours;
 pub mod places;
 pub mod raw;
+pub mod readings;
 pub mod reversal;
 pub mod rules;
 mod shim;

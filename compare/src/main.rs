@@ -3,7 +3,7 @@
 //! distances.
 use compare::original::Lists;
 use compare::tables::{Dice, Tables, CONNECTION, LANE};
-use compare::{damage, lookups, maps, measures, original, ours, places, raw, turned};
+use compare::{damage, lookups, maps, measures, original, ours, places, readings, turned};
 
 /// How much the maps gave to compare.
 #[derive(Default)]
@@ -22,6 +22,7 @@ struct Counts {
     seen: Seen,
     tally: damage::Tally,
     turned: turned::Count,
+    readings: readings::Count,
     lookups: lookups::Count,
     measures: measures::Count,
 }
@@ -37,6 +38,7 @@ impl Counts {
         println!("  damaged tables:");
         self.tally.print();
         self.turned.print();
+        self.readings.print();
         self.lookups.print();
         self.measures.print();
     }
@@ -68,7 +70,7 @@ fn main() {
     let n: u64 = args.next().and_then(|a| a.parse().ok()).unwrap_or(1000);
     let seed: u64 = args.next().and_then(|a| a.parse().ok()).unwrap_or(1);
     // the other dice are for what came later, so that a seed's maps stay the same
-    let (mut dice, mut others, mut slopes) = (Dice::new(seed), Dice::new(!seed), Dice::new(seed.swap_bytes()));
+    let (mut dice, mut others, mut slopes, mut attributes) = (Dice::new(seed), Dice::new(!seed), Dice::new(seed.swap_bytes()), Dice::new(!seed.swap_bytes()));
     let (mut counts, mut wrong) = (Counts::default(), 0);
     let mut say = |k: &str, r: Result<(), String>| {
         if let Err(e) = r {
@@ -87,7 +89,7 @@ fn main() {
         say(&format!("map {k}"), beside(&t, &mut counts.seen).and_then(|(m, lists)| lookups::run(&m, &lists, &mut others, &mut counts.lookups)));
         say(&format!("map {k} damaged"), damage::run(&t, &mut dice, &mut counts.tally));
         say(&format!("map {k} reversed"), turned::run(&t, &mut dice, &mut counts.turned));
-        say(&format!("raw tables {k}"), raw::run(&mut dice, &mut counts.tally));
+        say(&format!("raw tables {k}"), readings::run(&mut attributes, &mut counts.tally, &mut counts.readings));
         say(&format!("measures {k}"), measures::run(&mut others, &mut counts.measures));
     }
     println!("{n} maps, seed {seed}");
@@ -97,5 +99,5 @@ fn main() {
         println!("  answers that no table brought about: {missing:?}");
     }
     println!("{wrong} disagreements");
-    std::process::exit(i32::from(wrong > 0 || (n >= 2000 && !missing.is_empty())));
+    std::process::exit(i32::from(wrong > 0 || (n >= 2000 && !(missing.is_empty() && counts.readings.all_seen()))));
 }

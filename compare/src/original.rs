@@ -47,12 +47,9 @@ pub fn road_end(word: u32) -> RoadEnd {
     }
 }
 
+/// The roads in the original's form.
 fn roads(t: &Tables) -> HashMap<String, RoadInfo> {
-    roads_by(t, |n| t.stand_in(n[0], n[1]))
-}
-
-/// The roads in the original's form, with their names as `name` writes them.
-pub fn roads_by(t: &Tables, name: impl Fn(&[u32]) -> String) -> HashMap<String, RoadInfo> {
+    let name = |n: &[u32]| t.stand_in(n[0], n[1]);
     let target = |w: &[u32]| {
         (w[0] == 1).then(|| LinkTarget {
             elem: if w[1] == 1 { ElemType::Junction } else { ElemType::Road },

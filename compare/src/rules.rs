@@ -1,4 +1,4 @@
-//! Document 01's refusals, read once more and written plainly: what the library must answer on any tables.
+//! The refusals of documents 01 and 02, read once more and written plainly: what the library must answer on any tables.
 use crate::raw::{Raw, RAW_CONNECTION, RAW_JUNCTION, RAW_LINK, RAW_TARGET};
 use crate::tables::{Tables, ABSENT, CONNECTION, EDGE, JUNCTION, LANE, PAIR, ROAD};
 
@@ -175,10 +175,10 @@ fn raw_text(raw: &Raw) -> bool {
     raw.text.len() <= 1_048_576
 }
 
-/// Reading of targets, but for 9.
+/// Reading of targets, two to a road, but for 9.
 pub fn read_targets(raw: &Raw) -> u32 {
     first(&[
-        (1, &|| raw_text(raw) && sized(raw.targets.len(), RAW_TARGET, ROWS)),
+        (1, &|| raw_text(raw) && sized(raw.targets.len(), RAW_TARGET, ROWS) && raw.targets.len() % (2 * RAW_TARGET) == 0),
         (2, &|| {
             raw_names(raw, &raw.targets, RAW_TARGET, 1, 4)
                 && raw.targets.chunks(RAW_TARGET).all(|r| r[0] == 1 || (r[0] == 0 && r[1..].chunks(2).all(|n| n == [ABSENT, 0])))

@@ -1,6 +1,6 @@
 //! Attributes read, and the length check; the refusals of both.
 mod maps;
-use maps::FILL;
+use maps::{cut, FILL};
 use vorzhyket::*;
 
 const ROOM: usize = 60;
@@ -18,41 +18,53 @@ impl Text {
     }
 }
 
-type Reader = fn(&[u8], &[u32], &mut [u32]) -> Result<usize, Refusal>;
-
-/// The words read, rows of that width; the words after them, and all of them after a refusal, are as they were.
-fn table(read: Reader, width: usize, text: &[u8], raw: &[u32], room: usize) -> Result<Vec<u32>, Refusal> {
-    let mut out = vec![FILL; room];
-    let answer = read(text, raw, &mut out);
-    let n = answer.map_or(0, |n| n * width);
-    assert!(out[n..].iter().all(|w| *w == FILL));
-    out.truncate(n);
-    answer.map(|_| out)
+/// Outputs of these lengths, filled with a mark.
+fn lent<const N: usize>(rooms: [usize; N]) -> [Vec<u32>; N] {
+    rooms.map(|n| vec![FILL; n])
 }
 
-fn targets(text: &[u8], raw: &[u32], room: usize) -> Result<Vec<u32>, Refusal> {
-    table(read_targets, 7, text, raw, room)
+/// The words written to outputs, rows of those widths; the words after them, and all of them after a refusal, are as they were.
+fn kept<const N: usize>(outputs: [Vec<u32>; N], rows: Result<[usize; N], Refusal>, widths: [usize; N]) -> Result<[Vec<u32>; N], Refusal> {
+    let words = cut(outputs, std::array::from_fn(|k| rows.map_or(0, |rows| rows[k] * widths[k])));
+    rows.map(|_| words)
+}
+
+/// Targets and warnings.
+fn targets(text: &[u8], raw: &[u32], rooms: [usize; 2]) -> Result<[Vec<u32>; 2], Refusal> {
+    let mut o = lent(rooms);
+    let [targets, warnings] = &mut o;
+    let answer = read_targets(text, raw, TargetOutputs { targets, warnings });
+    kept(o, answer.map(|n| [n.targets, n.warnings]), [7, 4])
 }
 
 fn lanes(text: &[u8], raw: &[u32], room: usize) -> Result<Vec<u32>, Refusal> {
-    table(read_lanes, 4, text, raw, room)
+    let mut o = lent([room]);
+    let answer = read_lanes(text, raw, &mut o[0]);
+    kept(o, answer.map(|n| [n]), [4]).map(|[links]| links)
 }
 
-/// The same of junctions, connections, pairs and warnings.
-fn junctions(raw: RawJunctions, room: usize) -> Result<[Vec<u32>; 4], Refusal> {
-    let mut o: [Vec<u32>; 4] = std::array::from_fn(|_| vec![FILL; room]);
+/// Junctions, connections, pairs and warnings.
+fn junctions(raw: RawJunctions, rooms: [usize; 4]) -> Result<[Vec<u32>; 4], Refusal> {
+    let mut o = lent(rooms);
     let [junctions, connections, pairs, warnings] = &mut o;
     let answer = read_junctions(raw, JunctionOutputs { junctions, connections, pairs, warnings });
-    let n = answer.map_or([0; 4], |n| [n.junctions * 5, n.connections * 7, n.pairs * 2, n.warnings * 4]);
-    for (words, n) in o.iter_mut().zip(n) {
-        assert!(words[n..].iter().all(|w| *w == FILL));
-        words.truncate(n);
+    kept(o, answer.map(|n| [n.junctions, n.connections, n.pairs, n.warnings]), [5, 7, 2, 4])
+}
+
+/// Every output one word too short, one after the other, is refused by 9; outputs that just fit are not.
+fn each_too_short<const N: usize>(read: impl Fn([usize; N]) -> Result<[Vec<u32>; N], Refusal>) {
+    let found = read([ROOM; N]).unwrap();
+    let need: [usize; N] = std::array::from_fn(|k| found[k].len());
+    assert_eq!(read(need), Ok(found));
+    for k in 0..N {
+        let mut rooms = need;
+        rooms[k] = rooms[k].checked_sub(1).expect("each output has a row");
+        assert_eq!(read(rooms), Err(Refusal::OutputShort), "output {k}");
     }
-    answer.map(|_| o)
 }
 
 /// Tables of a direct junction with three connections: one with two lane links, of which the second has no number; one
-/// without linkedRoad; one without lane links. Then a junction without id, with one connection.
+/// without linkedRoad; one without lane links, whose contactPoint is "a". Then a junction without id, with one connection.
 #[derive(Default)]
 struct Raw {
     text: Text,
@@ -81,12 +93,13 @@ fn small() -> Raw {
 
 #[test]
 fn a_small_junction() {
-    let [j, c, p, w] = junctions(small().tables(), ROOM).unwrap();
+    let [j, c, p, w] = junctions(small().tables(), [ROOM; 4]).unwrap();
     assert_eq!(j, [0, 2, 1, 0, 2]);
     assert_eq!(c, [8, 1, 9, 1, 1, 0, 1, 9, 1, 8, 1, 0, 1, 0]);
     assert_eq!(p, [-1i32 as u32, -1i32 as u32]);
-    assert_eq!(w, [2, 0, 0, 1, 1, 0, 1, 0, 1, 1, 3, 0]);
-    assert_eq!(junctions(RawJunctions::default(), 0).unwrap(), [vec![], vec![], vec![], vec![]]);
+    assert_eq!(w, [[2, 0, 0, 1], [1, 0, 1, 0], [4, 0, 2, 0], [1, 1, 3, 0]].concat());
+    assert_eq!(junctions(RawJunctions::default(), [0; 4]).unwrap(), [vec![], vec![], vec![], vec![]]);
+    each_too_short(|rooms| junctions(small().tables(), rooms));
 }
 
 #[test]
@@ -100,7 +113,7 @@ fn virtual_connections_are_passed_over() {
         connections: [connection(id, a), connection(NONE, main), connection(NONE, a)].concat(),
         lane_links: vec![],
     };
-    let [j, c, p, w] = junctions(raw.tables(), ROOM).unwrap();
+    let [j, c, p, w] = junctions(raw.tables(), [ROOM; 4]).unwrap();
     assert_eq!((j, c), (vec![0, 7, 2, 0, 1], vec![a[0], 1, b[0], 1, 0, 0, 0]));
     assert!(p.is_empty() && w.is_empty());
 }
@@ -119,17 +132,84 @@ fn lane_numbers() {
     }
 }
 
+/// A raw target that is there, and one that is not.
+fn raw_target(kind: [u32; 2], name: [u32; 2], contact: [u32; 2], along: [u32; 2]) -> Vec<u32> {
+    [&[1][..], &kind, &name, &contact, &along].concat()
+}
+
+fn no_target() -> Vec<u32> {
+    [&[0][..], &NONE, &NONE, &NONE, &NONE].concat()
+}
+
 #[test]
 fn targets_of_every_sort() {
     let mut t = Text::default();
     let [junction, road, id, end, start] = ["junction", "road", "id", "end", "start"].map(|n| t.name(n));
-    let raw = |kind: [u32; 2], name: [u32; 2], contact: [u32; 2], along: [u32; 2]| [&[1][..], &kind, &name, &contact, &along].concat();
-    let none = [&[0][..], &NONE, &NONE, &NONE, &NONE].concat();
-    let rows = [raw(junction, id, NONE, NONE), raw(road, id, end, NONE), raw(NONE, id, start, end), raw(road, NONE, end, NONE), none].concat();
+    let rows = [
+        raw_target(junction, id, NONE, NONE),
+        raw_target(road, id, end, NONE),
+        raw_target(NONE, id, start, end),
+        raw_target(road, NONE, end, NONE),
+        no_target(),
+        raw_target(road, id, NONE, NONE),
+    ]
+    .concat();
     let (at, n) = (id[0], id[1]);
-    let read = [[1, 1, at, n, 0, 0, 0], [1, 0, at, n, 1, 1, 0], [1, 0, at, n, 0, 1, 1], [0; 7], [0; 7]].concat();
-    assert_eq!(targets(&t.0, &rows, 35).unwrap(), read);
-    assert_eq!(targets(&t.0, &rows, 34).unwrap_err(), Refusal::OutputShort);
+    let read = [[1, 1, at, n, 0, 0, 0], [1, 0, at, n, 1, 1, 0], [1, 0, at, n, 0, 1, 1], [0; 7], [0; 7], [1, 0, at, n, 0, 0, 0]].concat();
+    assert_eq!(targets(&t.0, &rows, [42, 0]).unwrap(), [read, vec![]]);
+    assert_eq!(targets(&t.0, &rows, [41, 0]), Err(Refusal::OutputShort));
+    assert_eq!(targets(&t.0, &rows[..45], [ROOM; 2]), Err(Refusal::BadSize), "an odd count");
+    assert_eq!(targets(b"", &[], [0; 2]).unwrap(), [vec![], vec![]]);
+}
+
+/// Whatever else a contactPoint is, it reads as start, is not given, and gives a warning where the target is there.
+#[test]
+fn loose_targets() {
+    for loose in ["End", "END", "Start", "ends", "en", "start ", " end", "\u{0}end", "", "starte", "anfang"] {
+        let mut t = Text::default();
+        let [junction, id, end, contact] = ["junction", "id", "end", loose].map(|n| t.name(n));
+        let rows = [
+            raw_target(NONE, id, end, NONE),
+            raw_target(NONE, id, contact, NONE),
+            raw_target(junction, NONE, contact, NONE),
+            no_target(),
+            raw_target(junction, id, contact, end),
+            raw_target(NONE, id, NONE, NONE),
+        ]
+        .concat();
+        let (at, n) = (id[0], id[1]);
+        let read = [[1, 0, at, n, 1, 1, 0], [1, 0, at, n, 0, 0, 0], [0; 7], [0; 7], [1, 1, at, n, 0, 0, 1], [1, 0, at, n, 0, 0, 0]].concat();
+        let warnings = [[4, NO_ROW, 0, 1], [4, NO_ROW, 2, 0]].concat();
+        assert_eq!(targets(&t.0, &rows, [ROOM; 2]).unwrap(), [read, warnings], "{loose:?}");
+        each_too_short(|rooms| targets(&t.0, &rows, rooms));
+    }
+}
+
+/// Warning 4 of a connection stands ahead of its lane links'; one that is dropped or passed over has none.
+#[test]
+fn loose_connections() {
+    let mut t = Text::default();
+    let [id, virtually, a, b, x, loose] = ["id", "virtual", "a", "b", "x", "End"].map(|n| t.name(n));
+    let connection = |kind, incoming, connecting, links| [NONE, kind, incoming, connecting, NONE, loose, links].concat();
+    let raw = Raw {
+        text: t,
+        junctions: [id, NONE, NONE, [0, 3], NONE, NONE, NONE, [3, 1], id, virtually, a, [4, 3]].concat(),
+        connections: [
+            connection(NONE, a, b, [0, 2]),
+            connection(virtually, a, b, [2, 0]),
+            connection(NONE, a, NONE, [2, 1]),
+            connection(NONE, a, b, [3, 0]),
+            connection(NONE, a, b, [3, 0]),
+            connection(virtually, b, a, [3, 0]),
+            connection(NONE, b, a, [3, 0]),
+        ]
+        .concat(),
+        lane_links: [x, x, NONE, x, x, x].concat(),
+    };
+    let [j, c, p, w] = junctions(raw.tables(), [ROOM; 4]).unwrap();
+    assert_eq!(j, [id[0], 2, 0, 0, 2, id[0], 2, 2, 2, 1]);
+    assert!(p.is_empty() && c.chunks(7).all(|c| c[4] == 0), "a loose contact is the start");
+    assert_eq!(w, [[4, 0, 0, 0], [2, 0, 0, 0], [2, 0, 0, 1], [4, 0, 1, 0], [1, 0, 2, 0], [1, 1, 3, 0], [4, 2, 6, 0]].concat());
 }
 
 #[test]
@@ -148,13 +228,17 @@ fn lengths() {
 #[test]
 fn refusals_of_reading() {
     let short = [0; 3];
-    assert_eq!([targets(b"", &short, ROOM), lanes(b"", &short, ROOM)], [Err(Refusal::BadSize), Err(Refusal::BadSize)]);
+    assert_eq!((targets(b"", &short, [ROOM; 2]), lanes(b"", &short, ROOM)), (Err(Refusal::BadSize), Err(Refusal::BadSize)));
     let outside = [0, 1, ABSENT, 0];
     assert_eq!(lanes(b"", &outside, ROOM), Err(Refusal::BadWord));
-    let mut flagless = [&[0][..], &[0, 0], &NONE, &NONE, &NONE].concat();
-    assert_eq!(targets(b"", &flagless, ROOM), Err(Refusal::BadWord));
+    let mut flagless = [[&[0][..], &[0, 0], &NONE, &NONE, &NONE].concat(), no_target()].concat();
+    assert_eq!(targets(b"", &flagless, [ROOM; 2]), Err(Refusal::BadWord));
     flagless[0] = 2;
-    assert_eq!(targets(b"", &flagless, ROOM), Err(Refusal::BadWord));
+    assert_eq!(targets(b"", &flagless, [ROOM; 2]), Err(Refusal::BadWord));
+    assert_eq!(targets(b"", &flagless[..9], [ROOM; 2]), Err(Refusal::BadSize), "an odd count comes before the words");
+    let most = no_target().repeat(16384);
+    assert_eq!(targets(b"", &most, [16384 * 7, 0]).unwrap(), [vec![0; 16384 * 7], vec![]]);
+    assert_eq!(targets(b"", &no_target().repeat(16386), [16386 * 7, 0]), Err(Refusal::BadSize));
     assert_eq!(lanes(b"1", &outside, 3), Err(Refusal::OutputShort));
     let damages: [(Refusal, fn(&mut Raw)); 6] = [
         (Refusal::BadSize, |r| r.junctions.truncate(15)),
@@ -167,8 +251,6 @@ fn refusals_of_reading() {
     for (refusal, damage) in damages {
         let mut r = small();
         damage(&mut r);
-        assert_eq!(junctions(r.tables(), ROOM), Err(refusal));
+        assert_eq!(junctions(r.tables(), [ROOM; 4]), Err(refusal));
     }
-    assert!(junctions(small().tables(), 14).is_ok());
-    assert_eq!(junctions(small().tables(), 13), Err(Refusal::OutputShort));
 }

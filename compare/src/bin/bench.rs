@@ -1,6 +1,8 @@
 //! The calls beside the original on the same maps in one run, best of many; root and distance beside f32::sqrt and gaps.rs.
 use compare::calls;
 use compare::original;
+use compare::raw::{document, Raw};
+use compare::readings::{connections_in, targets_in};
 use compare::tables::{Dice, Tables, ABSENT, CONNECTION, EDGE, GAP, JUNCTION, LANE, PAIR, ROAD};
 use std::hint::black_box;
 use std::time::Instant;
@@ -179,7 +181,55 @@ fn main() {
     }
     println!("\nFrom 4,000 to 16,384 lanes: this library {:.2} times, the original {:.2} times.", totals[1].0 / totals[0].0, totals[1].1 / totals[0].1);
     gap_checks(times);
+    readings(times);
     geometry(times);
+}
+
+/// A map's targets, junctions and connections as a file has their attributes, with those spellings of start and end.
+fn attributes(t: &Tables, contacts: [&str; 2]) -> Raw {
+    let mut raw = Raw { text: t.text.clone(), ..Raw::default() };
+    let mut word = |s: &str| {
+        raw.text.extend(s.bytes());
+        [(raw.text.len() - s.len()) as u32, s.len() as u32]
+    };
+    let (kinds, contacts, none) = (["road", "junction"].map(&mut word), contacts.map(&mut word), [ABSENT, 0]);
+    for w in t.roads.chunks(ROAD).flat_map(|r| [&r[4..11], &r[11..18]]) {
+        let names = if w[0] == 0 { [none; 4] } else { [kinds[w[1] as usize], [w[2], w[3]], contacts[w[4] as usize], none] };
+        raw.targets.push(w[0]);
+        raw.targets.extend(names.concat());
+    }
+    raw.links = t.pairs.iter().flat_map(|&n| word(&(n as i32).to_string())).collect();
+    raw.junctions = t.junctions.chunks(JUNCTION).flat_map(|j| [[j[0], j[1]], none, none, [j[3], j[4]]].concat()).collect();
+    let connection = |c: &[u32]| [none, none, [c[0], c[1]], [c[2], c[3]], none, contacts[c[4] as usize], [c[5], c[6]]].concat();
+    raw.connections = t.connections.chunks(CONNECTION).flat_map(connection).collect();
+    raw
+}
+
+/// Reading of the larger town's attributes beside `road_link` and the first half of `junctions` on a document that is parsed before, the two in turns.
+fn readings(times: usize) {
+    println!("\n| reading | rows | this library, us | original, us | ratio |\n|---|---:|---:|---:|---:|");
+    let t = town(1_600, 16_384);
+    for (spelled, contacts) in [("\"start\" and \"end\"", ["start", "end"]), ("\"Start\" and \"End\"", ["Start", "End"])] {
+        let raw = attributes(&t, contacts);
+        let text = document(&raw);
+        let doc = roxmltree::Document::parse(&text).unwrap();
+        let mut targets = calls::Buffers::new([raw.targets.len(); 2]);
+        let mut junctions = calls::Buffers::new([raw.junctions.len(), raw.connections.len(), raw.links.len(), raw.connections.len()]);
+        let mut least = [[f64::INFINITY; 2]; 2];
+        for _ in 0..times {
+            let a = [clocked(|| assert_eq!(targets.read_targets(&raw), 0)), clocked(|| targets_in(&doc))];
+            let b = [clocked(|| assert_eq!(junctions.read_junctions(&raw), 0)), clocked(|| connections_in(&doc))];
+            for (l, n) in least.iter_mut().flatten().zip([a, b].iter().flatten()) {
+                *l = l.min(*n);
+            }
+        }
+        let there = targets.contents(&calls::TARGET_WIDTHS)[0].chunks(7).filter(|w| w[0] == 1).count();
+        let rows = [(there, targets_in(&doc)), (junctions.written[1] as usize, connections_in(&doc))];
+        for ((what, (ours, theirs)), [a, b]) in ["targets", "connections"].into_iter().zip(rows).zip(least) {
+            assert_eq!(ours, theirs, "the two read other {what}");
+            println!("| {what}, {spelled} | {ours} | {:.1} | {:.1} | {:.2} |", a * 1e6, b * 1e6, a / b);
+        }
+    }
 }
 
 /// The same map with each lane's end drawn where its start is: all pairs of ends of a link between two-way lanes are equally near.

@@ -15,7 +15,7 @@ use compare::original::{self, Wide};
 use compare::places::Ties;
 use compare::raw::{self, Raw};
 use compare::tables::{Dice, Tables, GAP, LANE, ROAD};
-use compare::{damage, maps, ours, reversal, rules};
+use compare::{damage, maps, ours, readings, reversal, rules};
 
 fn put(kind: u32, lists: &[Vec<u32>]) {
     println!("{kind} {}", lists.iter().map(|l| l.len() + 1).sum::<usize>());
@@ -45,36 +45,29 @@ fn widths(kind: u32) -> Vec<usize> {
         3 => calls::LIST_WIDTHS.to_vec(),
         4 => vec![GAP],
         5 => calls::REVERSAL_WIDTHS.to_vec(),
-        6 => vec![7],
+        6 => calls::TARGET_WIDTHS.to_vec(),
         7 => vec![4],
         _ => calls::READING_WIDTHS.to_vec(),
     }
 }
 
-/// Outputs that are longer than what is written to them, or as long, or for `short` the first of them that is not empty a word too short.
-fn lent(contents: Vec<Vec<u32>>, short: bool, dice: &mut Dice) -> (bool, Vec<(usize, Vec<u32>)>) {
-    let mut cut = false;
-    let outs = contents
-        .into_iter()
-        .map(|words| {
-            let less = short && !cut && !words.is_empty();
-            cut |= less;
-            (if less { words.len() - 1 } else { words.len() + dice.below(3) }, words)
-        })
-        .collect();
-    (cut, outs)
+/// Outputs that are longer than what is written to them, or as long, but for one of that number, which is a word too short.
+fn lent(contents: Vec<Vec<u32>>, short: Option<usize>, dice: &mut Dice) -> Vec<(usize, Vec<u32>)> {
+    let length = |(k, words): (usize, &Vec<u32>)| if short == Some(k) { words.len() - 1 } else { words.len() + dice.below(3) };
+    let lengths: Vec<usize> = contents.iter().enumerate().map(length).collect();
+    lengths.into_iter().zip(contents).collect()
 }
 
-/// What a call must leave: by the rules, and by what the original found. Now and then an output is too short.
+/// What a call must leave: by the rules, and by what the original found. Now and then the first output that is not empty is too short.
 fn step(kind: u32, before: &[&[u32]], broken: u32, contents: Vec<Vec<u32>>, dice: &mut Dice) {
-    let short = broken == 0 && dice.one_in(5);
+    let short = if broken == 0 && dice.one_in(5) { contents.iter().position(|words| !words.is_empty()) } else { None };
     step_with(kind, before, broken, contents, short, dice);
 }
 
-/// The same, with an output too short where `short` says so.
-fn step_with(kind: u32, before: &[&[u32]], broken: u32, contents: Vec<Vec<u32>>, short: bool, dice: &mut Dice) {
-    let (cut, outs) = lent(contents, short, dice);
-    let refusal = if cut { 9 } else { broken };
+/// The same, with the output too short that `short` names.
+fn step_with(kind: u32, before: &[&[u32]], broken: u32, contents: Vec<Vec<u32>>, short: Option<usize>, dice: &mut Dice) {
+    let outs = lent(contents, short, dice);
+    let refusal = if short.is_some() { 9 } else { broken };
     let written = |words: &[u32]| if refusal == 0 { words.to_vec() } else { Vec::new() };
     let rows = outs.iter().zip(widths(kind)).map(|((_, words), width)| (written(words).len() / width) as u32);
     let answer = [refusal].into_iter().chain(rows).collect();
@@ -116,7 +109,7 @@ fn gap_checks(t: &Tables, dice: &mut Dice) {
         let (lists, wide) = original::lists_and_gaps(&map);
         let rows: Vec<u32> = wide.iter().flat_map(Wide::row).collect();
         load(&ours::repair(&map).0);
-        step_with(4, &[&offsets(&lists.successors), &lists.successors.concat()], 0, vec![rows.clone()], false, dice);
+        step_with(4, &[&offsets(&lists.successors), &lists.successors.concat()], 0, vec![rows.clone()], None, dice);
         rows
     });
     assert_eq!(found[0], found[1], "a reversal changes the gap rows");
@@ -175,10 +168,11 @@ fn damaged(map: &Tables, dice: &mut Dice) {
     refused(5, &[&marks], rules::reverse(&t, &marks));
 }
 
-/// The three readings of raw tables, as far as they are refused or, for tables that are not damaged, accepted.
+/// The three readings of raw tables, as far as they are refused or, for tables that are not damaged, accepted. Where there are warnings, now and then once more
+/// with no room for the last of them.
 fn read(raw: &Raw, dice: &mut Dice, accepted: bool) {
     let broken = [rules::read_targets(raw), rules::read_lanes(raw), rules::read_junctions(raw)];
-    let found = [calls::read_targets(raw, 1000), calls::read_lanes(raw, 1000), calls::read_junctions(raw, [1000; 4])];
+    let found = [calls::read_targets(raw, [1000; 2]), calls::read_lanes(raw, 1000), calls::read_junctions(raw, [1000; 4])];
     if accepted || broken != [0; 3] {
         let r = raw.clone();
         put(1, &[bytes(&r.text), r.targets, r.lanes, r.junctions, r.connections, r.links]);
@@ -187,7 +181,11 @@ fn read(raw: &Raw, dice: &mut Dice, accepted: bool) {
         let wide = widths(kind);
         let words = if out.refusal == 0 { out.contents(&wide) } else { vec![vec![0; 20]; wide.len()] };
         if accepted || refusal != 0 {
-            step(kind, &[], refusal, words, dice);
+            step(kind, &[], refusal, words.clone(), dice);
+        }
+        let last = wide.len() - 1;
+        if accepted && last > 0 && !words[last].is_empty() && dice.one_in(2) {
+            step_with(kind, &[], 0, words, Some(last), dice);
         }
     }
 }
@@ -226,9 +224,13 @@ fn main() {
         let tables = raw::random(&mut dice);
         if tables.text.len() <= 900 && tables.links.len() + tables.connections.len() < 300 {
             left -= 1;
-            raw::beside(&tables).expect("record what the two agree on");
+            readings::beside(&tables).expect("record what the two agree on");
             read(&tables, &mut dice, true);
-            read(&raw::damage(&tables, &mut dice), &mut dice, false);
+            let damaged = raw::damage(&tables, &mut dice);
+            read(&damaged, &mut dice, false);
+            if dice.one_in(6) {
+                read(&raw::of_odd_count(&damaged), &mut dice, false);
+            }
             length(&mut dice);
         }
     }

@@ -149,7 +149,7 @@ pub fn reversed(m: &Owned, marks: &[u32], room: usize) -> Result<Owned, Refusal>
 }
 
 /// The words written; those after them are as they were.
-fn cut<const N: usize>(o: [Vec<u32>; N], lengths: [usize; N]) -> [Vec<u32>; N] {
+pub fn cut<const N: usize>(o: [Vec<u32>; N], lengths: [usize; N]) -> [Vec<u32>; N] {
     let mut lengths = lengths.into_iter();
     o.map(|mut words| {
         let n = lengths.next().unwrap();
