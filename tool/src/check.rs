@@ -70,6 +70,7 @@ impl<'a> Check<'a> {
             (self.lost.len(), "lost movement", ""),
             (self.found.warnings.len(), "road end", " repaired"),
             (self.map.wrong_lengths.len(), "wrong length", ""),
+            (self.map.loose_contacts.len(), "loose contact point", ""),
             (self.map.notes.len(), "note", ""),
         ];
         let counts = kinds.iter().filter(|(n, ..)| *n > 0).map(|(n, what, more)| counted(*n, what) + more);

@@ -2,7 +2,7 @@
 //! replacement character, so two names can look alike there. A number that is not finite is null. At most five rows of
 //! each kind stand in it, and the lists of links not at all; with `--all` every row does.
 use crate::check::{Check, Lost, PlacedGap};
-use crate::map::{Tables, WrongLength};
+use crate::map::{Contact, LooseContact, Tables, WrongLength};
 use crate::place::Place;
 use vorzhyket::sizes::{CONNECTION, JUNCTION, LANE, PAIR, ROAD};
 
@@ -20,6 +20,7 @@ pub fn object(check: &Check, file: &str, all: bool) -> Vec<u8> {
         ("gaps", gaps(check, shown)),
         ("lost_movements", lost_movements(check, shown)),
         ("wrong_lengths", wrong_lengths(check, shown)),
+        ("loose_contacts", loose_contacts(check, shown)),
         ("notes", notes(check, shown)),
         ("found", array(findings.iter().map(|f| string(f.as_bytes())))),
     ];
@@ -153,6 +154,21 @@ fn wrong_lengths(check: &Check, shown: usize) -> String {
     braced(&[("count", all.len().to_string()), ("rows", array(all.iter().take(shown).map(row)))])
 }
 
+fn loose_contacts(check: &Check, shown: usize) -> String {
+    let t = &check.map.tables;
+    let row = |c: &LooseContact| {
+        let null = || "null".to_string();
+        let [road, link, junction, connection] = match &c.of {
+            Contact::Road { row, link } => [string(t.name(&t.road(*row)[0..2])), string(link.as_bytes()), null(), null()],
+            Contact::Connection { junction, id } => [null(), null(), string(t.name(&t.junctions[junction * JUNCTION..][..2])), string(id.as_bytes())],
+        };
+        let (line, value) = (c.line.to_string(), string(c.value.as_bytes()));
+        braced(&[("road", road), ("link", link), ("junction", junction), ("connection", connection), ("line", line), ("value", value)])
+    };
+    let all = &check.map.loose_contacts;
+    braced(&[("count", all.len().to_string()), ("rows", array(all.iter().take(shown).map(row)))])
+}
+
 fn notes(check: &Check, shown: usize) -> String {
     let row = |(line, what): &(u32, String)| braced(&[("line", line.to_string()), ("what", string(what.as_bytes()))]);
     let all = &check.map.notes;
@@ -166,18 +182,28 @@ mod tests {
     use crate::{form, found};
 
     #[test]
-    fn lengths_and_notes() {
-        let mut map: Map = form::read(b"road a sections 0\nlane 1 a 0 1 forward\n").expect("a map");
+    fn lengths_contacts_and_notes() {
+        let mut map: Map = form::read(b"road a\xff sections 0\nlane 1 a\xff 0 1 forward\njunction j common\n").expect("a map");
         map.wrong_lengths = vec![WrongLength { road: b"a\xff".to_vec(), line: 3, length: 50.02, geometry: f64::INFINITY }; 6];
+        let of = Contact::Connection { junction: 0, id: "a\n".into() };
+        map.loose_contacts = vec![LooseContact { of, line: 5, value: "\"End\"\u{1}".into() }; 6];
+        map.loose_contacts[0].of = Contact::Road { row: 0, link: "successor" };
         map.notes = vec![(7, "a \"mark\"".into()); 6];
         let found = found::find(&map.tables).expect("no refusal");
         let length = "{\"road\":\"a\u{fffd}\",\"line\":3,\"length\":50.02,\"geometry\":null}";
         let note = "{\"line\":7,\"what\":\"a \\\"mark\\\"\"}";
+        let [of_road, of_connection] = [
+            "{\"road\":\"a\u{fffd}\",\"link\":\"successor\",\"junction\":null,\"connection\":null,",
+            "{\"road\":null,\"link\":null,\"junction\":\"j\",\"connection\":\"a\\u000a\",",
+        ]
+        .map(|of| format!("{of}\"line\":5,\"value\":\"\\\"End\\\"\\u0001\"}}"));
         for (all, n) in [(false, 5), (true, 6)] {
             let text = String::from_utf8(object(&Check::new(&map, &found, false), "m.xodr", all)).expect("UTF-8");
             assert!(text.contains(&format!("\"wrong_lengths\":{{\"count\":6,\"rows\":[{}]}}", [length].repeat(n).join(","))), "{text}");
+            let contacts = [vec![&of_road[..]], vec![&of_connection[..]; n - 1]].concat().join(",");
+            assert!(text.contains(&format!("\"loose_contacts\":{{\"count\":6,\"rows\":[{contacts}]}}")), "{text}");
             assert!(text.contains(&format!("\"notes\":{{\"count\":6,\"rows\":[{}]}}", [note].repeat(n).join(","))), "{text}");
-            assert!(text.ends_with(",\"found\":[\"6 wrong lengths\",\"6 notes\"]}\n"), "{text}");
+            assert!(text.ends_with(",\"found\":[\"6 wrong lengths\",\"6 loose contact points\",\"6 notes\"]}\n"), "{text}");
         }
     }
 }

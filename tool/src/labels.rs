@@ -18,6 +18,13 @@ pub fn name(name: &[u8]) -> Vec<u8> {
     word
 }
 
+/// A text in quotation marks: short, on one line, and what can't be seen in it escaped.
+pub fn quoted(text: &str) -> String {
+    const MOST: usize = 60;
+    let more = if text.chars().nth(MOST).is_some() { ".." } else { "" };
+    format!("{:?}{more}", text.chars().take(MOST).collect::<String>())
+}
+
 /// A name in a message, as far as it is UTF-8.
 pub fn said(bytes: &[u8]) -> String {
     String::from_utf8_lossy(&name(bytes)).into_owned()
@@ -79,6 +86,15 @@ mod tests {
         assert_eq!(width(25f32.to_bits(), 3), "25.000 m");
         assert_eq!(width(1e9f32.to_bits(), 3), "1000000000 m or more");
         assert_eq!(width(f32::INFINITY.to_bits(), 6), "no distance");
+    }
+
+    #[test]
+    fn values_in_quotation_marks() {
+        assert_eq!(quoted("End"), "\"End\"");
+        assert_eq!(quoted(""), "\"\"");
+        assert_eq!(quoted("a\"b\\\n\u{9b}\u{2028}\u{e9}"), "\"a\\\"b\\\\\\n\\u{9b}\\u{2028}\u{e9}\"");
+        assert_eq!(quoted(&"x".repeat(60)), format!("\"{}\"", "x".repeat(60)));
+        assert_eq!(quoted(&"x".repeat(1000)), format!("\"{}\"..", "x".repeat(60)));
     }
 
     #[test]

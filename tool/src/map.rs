@@ -42,6 +42,22 @@ pub struct WrongLength {
     pub geometry: f64,
 }
 
+/// A contactPoint that is neither "start" nor "end", of a link or a connection that is kept; its value as the file has it.
+#[derive(Clone, Debug, PartialEq)]
+pub struct LooseContact {
+    pub of: Contact,
+    pub line: u32,
+    pub value: String,
+}
+
+/// What has a contactPoint: the link of a road's row, predecessor or successor, or a connection, by its id, of a junction's
+/// row.
+#[derive(Clone, Debug, PartialEq)]
+pub enum Contact {
+    Road { row: usize, link: &'static str },
+    Connection { junction: usize, id: String },
+}
+
 /// What a file gives: the tables, and what is worth saying of the reading.
 #[derive(Clone, Debug, Default)]
 pub struct Map {
@@ -55,6 +71,8 @@ pub struct Map {
     /// One for each lane, or none; asked for by `draw` alone, and of .xodr alone.
     pub outlines: Vec<Outline>,
     pub wrong_lengths: Vec<WrongLength>,
+    /// Those of roads, then those of connections.
+    pub loose_contacts: Vec<LooseContact>,
     /// What was left out of the file, or read in another way than it says, with its line: a sentence each.
     pub notes: Vec<(u32, String)>,
 }

@@ -1,6 +1,7 @@
 //! `lanes check` in words: a summary that fits a screen, or every row.
 use crate::check::Check;
 use crate::labels::{self, counted};
+use crate::map::Contact;
 use crate::place::Places;
 use crate::report;
 use vorzhyket::sizes::{CONNECTION, JUNCTION, LANE, PAIR, ROAD};
@@ -32,7 +33,7 @@ pub fn text(check: &Check, all: bool) -> Vec<u8> {
 
 fn kinds(check: &Check, all: bool) -> Vec<Kind> {
     let plain = |head: String| Kind { head, count: 0, row: |_, _| Vec::new() };
-    let (lengths, notes) = (check.map.wrong_lengths.len(), check.map.notes.len());
+    let (lengths, contacts, notes) = (check.map.wrong_lengths.len(), check.map.loose_contacts.len(), check.map.notes.len());
     let mut kinds = vec![
         plain(sizes(check)),
         Kind {
@@ -46,6 +47,10 @@ fn kinds(check: &Check, all: bool) -> Vec<Kind> {
     ];
     if lengths > 0 {
         kinds.push(Kind { head: format!("lengths: {} of another length than the geometry", counted(lengths, "road")), count: lengths, row: length });
+    }
+    if contacts > 0 {
+        let head = format!("contacts: {} spelled loosely, neither \"start\" nor \"end\"", counted(contacts, "contact point"));
+        kinds.push(Kind { head, count: contacts, row: contact });
     }
     if notes > 0 {
         kinds.push(Kind { head: format!("notes: {} on the reading", counted(notes, "note")), count: notes, row: note });
@@ -133,6 +138,19 @@ fn length(check: &Check, i: usize) -> Vec<u8> {
     [b"road ", &labels::name(&w.road)[..], lengths.as_bytes()].concat()
 }
 
+fn contact(check: &Check, i: usize) -> Vec<u8> {
+    let (t, c) = (&check.map.tables, &check.map.loose_contacts[i]);
+    let (line, value) = (format!(" (line {}): ", c.line), format!(": contactPoint {} reads as start", labels::quoted(&c.value)));
+    match &c.of {
+        Contact::Road { row, link } => {
+            [b"road ", &labels::road(t, *row)[..], line.as_bytes(), link.as_bytes(), value.as_bytes(), b", not given: no repair goes by it"].concat()
+        }
+        Contact::Connection { junction, id } => {
+            [b"junction ", &labels::junction(t, *junction)[..], line.as_bytes(), b"connection ", &labels::name(id.as_bytes()), value.as_bytes()].concat()
+        }
+    }
+}
+
 fn note(check: &Check, i: usize) -> Vec<u8> {
     let (line, what) = &check.map.notes[i];
     format!("line {line}: {what}").into_bytes()
@@ -141,7 +159,7 @@ fn note(check: &Check, i: usize) -> Vec<u8> {
 #[cfg(test)]
 mod tests {
     use super::*;
-    use crate::map::{Map, WrongLength};
+    use crate::map::{LooseContact, Map, WrongLength};
     use crate::{form, found};
 
     /// A map with n rows of each kind.
@@ -160,6 +178,8 @@ mod tests {
         for line in 1..=n as u32 {
             map.notes.push((line, "a road mark was left out".into()));
             map.wrong_lengths.push(WrongLength { road: b"w 0".to_vec(), line, length: 50.02, geometry: f64::from(line) });
+            let of = Contact::Connection { junction: 0, id: "c 1".into() };
+            map.loose_contacts.push(LooseContact { of, line, value: "End".into() });
         }
         map
     }
@@ -174,22 +194,25 @@ mod tests {
         for n in 0..30 {
             let (few, all) = (said(&torn(n), false), said(&torn(n), true));
             assert!(few.lines().count() <= SCREEN, "{few}");
-            assert_eq!(all.lines().count(), if n == 0 { 6 } else { 8 + 5 * n + 2 * n });
+            assert_eq!(all.lines().count(), if n == 0 { 6 } else { 9 + 6 * n + 2 * n });
             assert_eq!(few.lines().last(), all.lines().last());
         }
-        // five kinds of rows, so two rows of each are shown
-        assert_eq!(said(&torn(30), false).lines().count(), 23);
-        assert_eq!(said(&torn(30), false).matches("  .. and 28 more (--all shows them)\n").count(), 5);
-        // of three rows each, all would be 23 lines
-        assert!(!said(&torn(3), false).contains("more"));
+        // six kinds of rows, so one row of each is shown
+        assert_eq!(said(&torn(30), false).lines().count(), 21);
+        assert_eq!(said(&torn(30), false).matches("  .. and 29 more (--all shows them)\n").count(), 6);
+        // of two rows each, all are 21 lines
+        assert!(!said(&torn(2), false).contains("more"));
+        assert!(said(&torn(3), false).contains("more"));
     }
 
     #[test]
-    fn lengths_and_notes() {
+    fn lengths_contacts_and_notes() {
         let text = said(&torn(1), false);
         let end = "\nlengths: 1 road of another length than the geometry\n  road \"w 0\" (line 1): length 50.020 m, geometry 1.000 m\n\
+                   contacts: 1 contact point spelled loosely, neither \"start\" nor \"end\"\n\
+                   \x20 junction j (line 1): connection \"c 1\": contactPoint \"End\" reads as start\n\
                    notes: 1 note on the reading\n  line 1: a road mark was left out\n\
-                   found: 1 gap, 1 lost movement, 1 road end repaired, 1 wrong length, 1 note\n";
+                   found: 1 gap, 1 lost movement, 1 road end repaired, 1 wrong length, 1 loose contact point, 1 note\n";
         assert!(text.ends_with(end), "{text}");
     }
 

@@ -57,7 +57,7 @@ pub fn read(data: &[u8], choice: &Choice) -> Result<Map, Fault> {
     if choice.edges || choice.outlines {
         map.origin = tables::origin(&roads);
     }
-    tables::add_roads(&roads, &mut names, &mut map)?;
+    tables::add_roads(&roads, &lines, &mut names, &mut map)?;
     junctions::read(root, kept.as_ref(), &lines, &mut names, &mut map)?;
     tables::add_lanes(&roads, choice, &lines, &mut names, &mut map)?;
     map.tables.text = names.text;

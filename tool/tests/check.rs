@@ -1,6 +1,6 @@
 //! The summary: what it says, that it fits a screen, `--all` and `--json`.
 mod common;
-use common::{prints, run};
+use common::{examples, prints, run};
 
 #[test]
 fn nothing_found() {
@@ -146,7 +146,7 @@ fn json() {
             lost(lane(4, "v", -2), true),
             lost(lane(5, "v", -3), false)
         ),
-        "\"wrong_lengths\":{\"count\":0,\"rows\":[]},\"notes\":{\"count\":0,\"rows\":[]},".into(),
+        "\"wrong_lengths\":{\"count\":0,\"rows\":[]},\"loose_contacts\":{\"count\":0,\"rows\":[]},\"notes\":{\"count\":0,\"rows\":[]},".into(),
         "\"found\":[\"2 gaps\",\"2 lost movements\",\"1 road end repaired\"]}\n".into(),
     ];
     assert_eq!(text, parts.concat());
@@ -167,6 +167,87 @@ fn json_of_odd_names_and_of_many_rows() {
     assert_eq!(few.matches("\"bits\"").count(), 5);
     assert_eq!(all.matches("\"bits\"").count(), 80);
     assert_eq!(all.matches("\"onward\"").count(), 160);
+}
+
+/// Roads end to end, n of them, each with this contactPoint of its predecessor, the road before it, and of a junction's
+/// connection that leads into it.
+fn chain(n: usize, contact: &str) -> String {
+    let mut map = String::from("<OpenDRIVE>\n");
+    for i in 0..n {
+        let geometry = format!(r#"<planView><geometry s="0" x="{}" y="0" hdg="0" length="10"><line/></geometry></planView>"#, 10 * i);
+        let lane = r#"<laneSection s="0"><right><lane id="-1"><link><predecessor id="-1"/></link><width sOffset="0" a="3"/></lane></right></laneSection>"#;
+        let link = format!(r#"<link><predecessor elementType="road" elementId="r {}" {contact}/></link>"#, (i + n - 1) % n);
+        map += &format!("<road id=\"r {i}\" length=\"10\">{link}{geometry}<lanes>{lane}</lanes></road>\n");
+    }
+    map += "<junction id=\"j\">\n";
+    for i in 0..n {
+        map += &format!("<connection id=\"{i}\" incomingRoad=\"r {}\" connectingRoad=\"r {i}\" {contact}/>\n", (i + n - 1) % n);
+    }
+    map + "</junction>\n</OpenDRIVE>\n"
+}
+
+#[test]
+fn contact_points_spelled_loosely() {
+    let text = "map: 1 road, 1 section, 1 junction, 1 connection, 0 pairs, 1 lane\n\
+                repair: 0 road ends repaired, 0 connections added\n\
+                links: 0 links, 0 two-way links; 1 lane with none onward, 1 lane with none before\n\
+                gaps: 0 gaps in 0 links\n\
+                movements: none lost\n\
+                contacts: 2 contact points spelled loosely, neither \"start\" nor \"end\"\n\
+                \x20 road \"r 0\" (line 2): predecessor: contactPoint \"End\" reads as start, not given: no repair goes by it\n\
+                \x20 junction j (line 4): connection 0: contactPoint \"End\" reads as start\n\
+                found: 2 loose contact points\n";
+    prints("check", &chain(1, "contactPoint=\"End\""), 1, text);
+    for tight in ["", "contactPoint=\"start\"", "contactPoint=\"end\""] {
+        let text = run("check", &chain(1, tight)).text();
+        assert!(!text.contains("contact"), "{text}");
+    }
+    let ran = run("check", &chain(40, "contactPoint=\"End\""));
+    assert!(ran.text().contains("\n  .. and 75 more (--all shows them)\nfound: 80 loose contact points\n"), "{}", ran.text());
+    assert_eq!((ran.status, ran.text().matches("contactPoint").count()), (1, 5));
+    assert_eq!(run("check --all", &chain(40, "contactPoint=\"End\"")).text().matches("contactPoint \"End\" reads as start").count(), 80);
+    for (words, n) in [("check --json", 5), ("check --json --all", 80)] {
+        let text = run(words, &chain(40, "contactPoint=\"End\"")).text();
+        assert_json(&text);
+        assert!(text.contains("\"loose_contacts\":{\"count\":80,\"rows\":[{\"road\":\"r 0\",\"link\":\"predecessor\","), "{text}");
+        assert!(text.ends_with(",\"notes\":{\"count\":0,\"rows\":[]},\"found\":[\"80 loose contact points\"]}\n"), "{text}");
+        assert_eq!(text.matches("\"value\":\"End\"").count(), n);
+    }
+}
+
+/// Whatever its value, a loose contact point takes a line, and JSON stays JSON.
+#[test]
+fn contact_points_of_any_value() {
+    let long = "y".repeat(100_000);
+    let cut = format!("\"{}\"..", "y".repeat(60));
+    let values = [
+        ("", "\"\"", ""),
+        ("end ", "\"end \"", "end "),
+        ("&quot;end&quot;", "\"\\\"end\\\"\"", "\\\"end\\\""),
+        ("a&#10;b&#13;&#9;c", "\"a\\nb\\r\\tc\"", "a\\u000ab\\u000d\\u0009c"),
+        ("&#155;2J&#x2028;\\", "\"\\u{9b}2J\\u{2028}\\\\\"", "\u{9b}2J\u{2028}\\\\"),
+        (&long, &cut, &long),
+    ];
+    for (written, shown, value) in values {
+        let map = chain(1, &format!("contactPoint=\"{written}\""));
+        let text = run("check", &map).text();
+        assert_eq!((text.lines().count(), text.matches(&format!(": contactPoint {shown} reads as start")).count()), (9, 2), "{text}");
+        let text = run("check --json", &map).text();
+        assert_json(&text);
+        assert_eq!(text.matches(&format!("\"value\":\"{value}\"}}")).count(), 2, "{text}");
+    }
+}
+
+/// Every command but `check` prints the same as where there is no contactPoint, and something else with the right ones.
+#[test]
+fn a_loose_contact_point_is_as_none() {
+    let map = std::fs::read_to_string(examples().join("loose-contact.xodr")).expect("a file");
+    let maps = [map.clone(), map.replace("contactPoint=\"End\"", "").replace("contactPoint=\"Start\"", ""), map.replace("\"End\"", "\"end\"")];
+    for words in ["links", "gaps", "repair", "dot", "draw", "form", "reverse - --all"] {
+        let [loose, none, end] = [0, 1, 2].map(|i| run(words, &maps[i]));
+        assert_eq!((loose.status, loose.text(), &loose.err[..]), (none.status, none.text(), ""), "{words}");
+        assert!(end.status < 2 && loose.out != end.out, "{words}");
+    }
 }
 
 /// Is it one JSON value, and no more?

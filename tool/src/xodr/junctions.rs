@@ -1,12 +1,13 @@
 //! Junctions with their connections and lane links: their attributes, read by the library in pieces that it takes.
 use super::document::{children, shown, Element, LineStarts};
 use super::links::refused;
-use crate::map::{Fault, Map, Names};
+use crate::map::{Contact, Fault, LooseContact, Map, Names};
 use std::collections::HashSet;
 use vorzhyket::sizes::{CONNECTION, JUNCTION, MOST_ROWS, MOST_TEXT, PAIR, RAW_CONNECTION, RAW_JUNCTION, RAW_LANE_LINK, WARNING};
 use vorzhyket::{read_junctions, JunctionOutputs, RawJunctions};
 
-/// Reads the junctions into the map's tables, lines and notes; only those of these names, where names are given.
+/// Reads the junctions into the map's tables, lines, contact points spelled loosely and notes; only those of these names,
+/// where names are given.
 pub fn read<'a>(root: Element<'a>, kept: Option<&HashSet<&str>>, lines: &'a LineStarts, names: &mut Names, map: &mut Map) -> Result<(), Fault> {
     let mut piece = Piece::default();
     for junction in children(root, "junction") {
@@ -126,14 +127,21 @@ impl<'a> Piece<'a> {
         let n = read_junctions(raw, outputs).map_err(|refusal| refused("read_junctions", refusal))?;
         warnings.truncate(n.warnings * WARNING);
         piece.note(&warnings, lines, map);
-        let dropped = warnings.chunks(WARNING).filter(|w| w[0] == 2).map(|w| w[3] as usize).collect();
-        let read = Answer { piece: &piece, junctions: &junctions[..n.junctions * JUNCTION], connections: &connections, pairs: &pairs, dropped };
+        let rows = |kind: u32, word: usize| warnings.chunks(WARNING).filter(move |w| w[0] == kind).map(move |w| w[word] as usize).collect();
+        let read = Answer {
+            piece: &piece,
+            junctions: &junctions[..n.junctions * JUNCTION],
+            connections: &connections,
+            pairs: &pairs,
+            dropped: rows(2, 3),
+            loose: rows(4, 2),
+        };
         read.add_to(map, names, lines)
     }
 
-    /// What the library dropped, as notes.
+    /// What the library dropped, as notes. A connection that goes on was noted with the piece before.
     fn note(&self, warnings: &[u32], lines: &LineStarts, map: &mut Map) {
-        for w in warnings.chunks(WARNING) {
+        for w in warnings.chunks(WARNING).filter(|w| w[0] != 4) {
             let (junction, row) = (self.junctions.elements[w[1] as usize], w[2] as usize);
             let connection = self.connections.elements[row];
             let id = |e: Element| shown(e.attribute("id").unwrap_or(""));
@@ -141,10 +149,9 @@ impl<'a> Piece<'a> {
             if w[0] == 2 {
                 let what = format!("{place}: a lane link has no two lane numbers and is left out");
                 map.notes.push((lines.line(self.links.elements[w[3] as usize]), what));
-            } else if junction.attribute("id").is_none() {
-                map.notes.push((lines.line(connection), format!("{place} is of a junction without an id and is left out")));
             } else if row > 0 || !self.connection_goes_on {
-                map.notes.push((lines.line(connection), format!("{place} names no two roads and is left out")));
+                let why = if junction.attribute("id").is_none() { "is of a junction without an id" } else { "names no two roads" };
+                map.notes.push((lines.line(connection), format!("{place} {why} and is left out")));
             }
         }
     }
@@ -171,8 +178,9 @@ struct Answer<'p> {
     junctions: &'p [u32],
     connections: &'p [u32],
     pairs: &'p [u32],
-    /// The rows of the lane links that it dropped.
+    /// The rows of the lane links that it dropped, and of the connections whose contact points are spelled loosely.
     dropped: HashSet<usize>,
+    loose: HashSet<usize>,
 }
 
 impl Answer<'_> {
@@ -196,6 +204,9 @@ impl Answer<'_> {
                     map.tables.connections.extend([incoming[0], incoming[1], connecting[0], connecting[1], connection[4], first, 0]);
                     map.lines.connections.push(lines.line(self.piece.connections.elements[raw]));
                     add_to_last(&mut map.tables.junctions);
+                    if self.loose.contains(&raw) {
+                        map.loose_contacts.push(contact(self.piece.connections.elements[raw], map.lines.junctions.len() - 1, lines));
+                    }
                 }
                 self.add_pairs(raw, part(self.pairs, PAIR, &connection[5..7]), map, lines);
                 raw += 1;
@@ -219,6 +230,12 @@ impl Answer<'_> {
     fn name(&self, words: &[u32]) -> &[u8] {
         vorzhyket::name(&self.piece.names.text, words[0], words[1])
     }
+}
+
+/// The contact point of a connection of the junction in that row of the map.
+fn contact(connection: Element, junction: usize, lines: &LineStarts) -> LooseContact {
+    let of = |name| connection.attribute(name).unwrap_or_default().to_string();
+    LooseContact { of: Contact::Connection { junction, id: of("id") }, line: lines.line(connection), value: of("contactPoint") }
 }
 
 /// The rows of a part: first row and count.

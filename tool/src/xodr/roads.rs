@@ -4,6 +4,9 @@ use super::lanes::{sections, Section, Setting};
 use super::profile::{Profile, Seam};
 use super::reference_line::{Geometry, ReferenceLine};
 
+/// The elements of a <link>, of a road or of a lane.
+pub const ENDS: [&str; 2] = ["predecessor", "successor"];
+
 /// One <road> that can be read.
 #[derive(Debug)]
 pub struct Road<'a> {
@@ -71,7 +74,7 @@ impl<'a> Road<'a> {
     /// Its <predecessor> and its <successor>.
     pub fn ends(&self) -> [Option<Element<'a>>; 2] {
         let link = child(self.element, "link");
-        ["predecessor", "successor"].map(|end| link.and_then(|link| child(link, end)))
+        ENDS.map(|end| link.and_then(|link| child(link, end)))
     }
 }
 

@@ -25,9 +25,10 @@ pub fn origin(roads: &[Road]) -> [f64; 2] {
     [0, 1].map(|i| middle(least[i], most[i]))
 }
 
-/// Adds a row for each road, with its sections; and the roads whose length is not that of their geometry.
-pub fn add_roads(roads: &[Road], names: &mut Names, map: &mut Map) -> Result<(), Fault> {
-    let targets = targets(roads, names)?;
+/// Adds a row for each road, with its sections; its contact points that are neither "start" nor "end"; and the roads whose
+/// length is not that of their geometry.
+pub fn add_roads(roads: &[Road], lines: &LineStarts, names: &mut Names, map: &mut Map) -> Result<(), Fault> {
+    let targets = targets(roads, lines, names, &mut map.loose_contacts)?;
     for (road, targets) in roads.iter().zip(targets.chunks(2 * TARGET)) {
         let first = map.tables.sections.len() as u32;
         map.tables.roads.extend(names.place(road.name.as_bytes()));

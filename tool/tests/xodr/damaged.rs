@@ -113,6 +113,7 @@ fn read_damaged(whole: &[u8], count: usize, seed: u64) -> [usize; 2] {
                 assert_eq!([t.connections.len(), t.pairs.len(), t.lanes.len()], [l.connections.len() * CONNECTION, l.pairs.len() * PAIR, l.lanes.len() * LANE]);
                 assert_eq!(t.edges.len(), if choice.edges { l.lanes.len() * EDGE } else { 0 });
                 assert_eq!(map.outlines.len(), if choice.outlines { l.lanes.len() } else { 0 });
+                assert!(map.loose_contacts.iter().all(|c| c.line > 0 && !matches!(&c.value[..], "start" | "end")));
                 assert!(l.roads.iter().chain(&l.lanes).all(|&line| line > 0) && !l.roads.is_empty());
             }
             Err(fault) => {
@@ -132,7 +133,7 @@ fn damaged_networks_are_read_or_refused() {
 
 #[test]
 fn damaged_roads_of_every_kind_are_read_or_refused() {
-    for (i, name) in ["across", "area", "directions", "junctions", "left-out", "shapes", "surface", "utm"].iter().enumerate() {
+    for (i, name) in ["across", "area", "contacts", "directions", "junctions", "left-out", "shapes", "surface", "utm"].iter().enumerate() {
         let [read, refused] = read_damaged(&file(&format!("tests/data/{name}.xodr")), 500, 1 + i as u64);
         assert!(read > 50 && refused > 50, "{name}: {read} read, {refused} refused");
     }

@@ -184,7 +184,7 @@ fn networks_of_sumo() {
         let lines = &map.lines;
         let rows = [&lines.roads, &lines.junctions, &lines.connections, &lines.pairs, &lines.lanes].map(Vec::len);
         assert_eq!(rows, counts, "{name}");
-        assert!(map.notes.is_empty() && map.wrong_lengths.is_empty() && map.origin == [0.0; 2]);
+        assert!(map.notes.is_empty() && map.wrong_lengths.is_empty() && map.loose_contacts.is_empty() && map.origin == [0.0; 2]);
         assert_eq!((map.outlines.len(), map.tables.edges.len()), (counts[4], 12 * counts[4]));
     }
 }

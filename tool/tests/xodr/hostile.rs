@@ -127,12 +127,18 @@ fn names_longer_than_any_text_are_a_fault() {
     let link = format!(r#"<link><successor elementId="{}"/></link>"#, "x".repeat(1_048_577));
     let text = document(&road("10", LINE, SECTION).replace("<planView>", &format!("{link}<planView>")));
     assert_eq!(read(&text).unwrap_err().what, "read_targets: refused, 1: an input's length is no whole number of rows or above its limit");
+    let two = |contacts: [&str; 2]| {
+        let [a, b] = contacts.map(|c| format!(r#"elementId="1" contactPoint="{}""#, c.repeat(600_000)));
+        document(&road("10", LINE, SECTION).replace("<planView>", &format!("<link><predecessor {a}/><successor {b}/></link><planView>")))
+    };
+    assert_eq!(read(&two(["x", "y"])).unwrap_err().what, "read_targets: refused, 1: an input's length is no whole number of rows or above its limit");
+    assert_eq!(read(&two(["x", "x"])).map(|map| map.loose_contacts.len()), Ok(2));
     let start = Instant::now();
-    let connections = many(10_000, |i| format!(r#"<connection incomingRoad="{i}" connectingRoad="{}"/>"#, "y".repeat(100)));
+    let connections = many(10_000, |i| format!(r#"<connection incomingRoad="{i}" connectingRoad="{}" contactPoint="End"/>"#, "y".repeat(100)));
     let junction = |n: usize| format!(r#"<junction id="{}">{connections}</junction>"#, "x".repeat(n));
     let text = document(&(road("10", LINE, SECTION) + "\n" + &junction(1_048_000)));
     assert_eq!(read(&text).map(|_| ()), Err(Fault { line: Some(2), what: "a junction has names longer than the library takes".to_string() }));
-    assert!(read(&document(&(road("10", LINE, SECTION) + &junction(500_000)))).is_ok());
+    assert_eq!(read(&document(&(road("10", LINE, SECTION) + &junction(500_000)))).map(|map| map.loose_contacts.len()), Ok(10_000));
     assert!(start.elapsed() < SOON);
 }
 

@@ -1,5 +1,6 @@
 //! The OpenDRIVE reader: small roads, files of each kind, damaged files, and files made to be slow.
 mod cases;
+mod contacts;
 mod damaged;
 mod files;
 mod hostile;
