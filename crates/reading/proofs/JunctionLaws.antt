@@ -1,5 +1,5 @@
 -- A junction read: dropped with a warning for each connection, or kept with those that it keeps.
-use Prim.Native.Nat.{ℕ, zero, suc, _+_, _*_}
+use Prim.Native.Nat.{ℕ, _+_, _*_}
 use mathlib.Core.Path.{_≡_, refl, sym, ap, ap₂, _∙_, subst}
 use mathlib.Core.List.{List, [], _∷_, append-nil, map}
 use mathlib.Core.Bool.{true, false, cond}

@@ -1,7 +1,5 @@
 -- `warn_if` puts a row where there is something to warn of, and else nothing.
 use borrow.Author.Needs.{needs}
-use mathlib.Core.Path.{sym}
-use native.Mathlib.Omega.{arith}
 use Rattle.reading.specs.Laid.{output}
 use Rattle.reading.proofs.RunLaws.{run-none, run-one}
 use Rattle.reading.proofs.links.warn_if.Statement.{statement}

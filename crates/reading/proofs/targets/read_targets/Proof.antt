@@ -5,11 +5,9 @@ use lib.Dec.{leb}
 use lib.ListN.{length}
 use mathlib.Core.Path.{_≡_, sym, ap, _∙_}
 use mathlib.Core.Bool.{Bool, true, _&&_}
-use native.Mathlib.Omega.{arith}
 use Prim.Native.Nat.{_*_, _/_, _≤_}
 use Rattle.model.specs.Calls.{called, writtenOr9}
 use Rattle.model.specs.ReadingCalls.{TargetOutputs, readTargetsCall, targetContent, targetRules, targetWriting}
-use Rattle.words.proofs.KeyLaws.{rows-in}
 use Rattle.words.proofs.Scans.{left-on}
 use Rattle.tables.specs.Verdicts.{admits}
 use Rattle.tables.proofs.Called.{call-admitted, call-refused}
