@@ -57,6 +57,13 @@ pub mod RowTests
 pub mod Looked
 pub mod TablesRead
 pub mod Joined
+-- Maps renamed and reordered.
+pub mod AnyOrder
+pub mod RepairRenamed
+pub mod SuccessionRenamed
+pub mod WarningsRenamed
+pub mod GapsRenamed
+pub mod RenamedTables
 -- The bench cards, and the main theorems.
 pub mod Cards
 pub mod Theorems

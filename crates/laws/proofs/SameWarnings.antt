@@ -6,9 +6,9 @@ use Prim.Native.Nat.{ℕ, zero, suc}
 use native.Mathlib.Omega.{arith}
 use lib.Dec.{eqb, leb}
 use lib.ListN.{length}
-use Rattle.model.specs.Calls.{repairContent, rowNamed, warningRow}
+use Rattle.model.specs.Calls.{repairContent, rowNamed, warningRow, warningWidth}
 use Rattle.model.specs.Claim.{reversedWarning}
-use Rattle.model.specs.Lists.{_⊕_, gather}
+use Rattle.model.specs.Lists.{_⊕_}
 use Rattle.model.specs.Records.{EdgedLane, Map, Road, Span}
 use Rattle.model.specs.Repair.{Warning, warnings}
 use Rattle.model.specs.Reversal.{marked, reverseEdged, reverseMap, reverseRoad, reverseWarning}
@@ -105,6 +105,17 @@ module _ (text : List ℕ) (m : Map) (xs : List EdgedLane) (h : Sound text m xs)
       ∙ sym (map-map (reversedWarning set) (warnRow text (m .roads)) ws)
       ∙ ap (map (reversedWarning set)) (sym (warnings-of text m xs h))
 
+-- the rows that repair writes are those of its warnings
+pub warning-rows : (t : Tables) →
+    table warningWidth (repairContent t .warnings) ≡ map (warningRow t) (warnings (same t) (mapOf t))
+unfolding repairContent
+warning-rows t =
+    table-even warningWidth (warningRow t) (warnings (same t) (mapOf t)) (omega arith)
+    (each width (warnings (same t) (mapOf t)))
+  where
+    width : (w : Warning) → length (warningRow t w) ≡ warningWidth
+    width w = unfold warningRow in refl
+
 -- an empty set leaves every warning row
 zero-at : (rs : List Road) (k : ℕ) → word (map (λ r. 0) rs) k ≡ 0
 zero-at [] k = refl
@@ -114,26 +125,16 @@ zero-at (r ∷ rs) (suc k) = zero-at rs k
 pub warned-empty : (t : Tables) (rs : List Road)
     → table 4 (repairContent t .warnings)
     ≡ map (reversedWarning (map (λ r. 0) rs)) (table 4 (repairContent t .warnings))
-unfolding repairContent
 warned-empty t rs =
-    rows-are ∙ sym (map-id (λ w. w) (map (warningRow t) ws) (each (λ w. refl) (map (warningRow t) ws)))
+    warning-rows t ∙ sym (map-id (λ w. w) (map (warningRow t) ws) (each (λ w. refl) (map (warningRow t) ws)))
     ∙ map-map (λ w. w) (warningRow t) ws
     ∙ map-ext (λ w. warningRow t w) (λ w. reversedWarning (map (λ (r : Road). 0) rs) (warningRow t w)) ws
     (each one ws)
     ∙ sym (map-map (reversedWarning (map (λ (r : Road). 0) rs)) (warningRow t) ws)
-    ∙ ap (map (reversedWarning (map (λ (r : Road). 0) rs))) (sym rows-are)
+    ∙ ap (map (reversedWarning (map (λ (r : Road). 0) rs))) (sym (warning-rows t))
   where
     ws : List Warning
     ws = warnings (same t) (mapOf t)
-
-    width : (w : Warning) → length (warningRow t w) ≡ 4
-    width w = unfold warningRow in refl
-
-    rows-are : table 4 (gather (warningRow t) (warnings (same t) (mapOf t)))
-        ≡ map (warningRow t) (warnings (same t) (mapOf t))
-    rows-are =
-        table-even 4 (warningRow t) (warnings (same t) (mapOf t)) (omega arith)
-        (each width (warnings (same t) (mapOf t)))
 
     one : (w : Warning) → warningRow t w ≡ reversedWarning (map (λ (r : Road). 0) rs) (warningRow t w)
     one w = unfold warningRow reversedWarning in λ i. 3 ∷ w .junctionRow ∷ rowNamed (same t) (roadsOf t) (w .road)

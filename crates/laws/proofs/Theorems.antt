@@ -24,6 +24,7 @@ use Rattle.model.specs.Lookup.{listLookup}
 use Rattle.model.specs.Reading.{RawTables, contactOf, endText, readTarget, reads}
 use Rattle.model.specs.ReadingCalls.{junctionContent, targetContent}
 use Rattle.model.specs.Records.{EdgedLane, Lane, Map, Road, Span, Target}
+use Rattle.model.specs.Renamed.{Renamed, RenamedClaim, Renaming}
 use Rattle.model.specs.Repair.{backEnd}
 use Rattle.model.specs.Rows.{table}
 use Rattle.model.specs.Rules.{edgesFit, firstBroken, identitiesOnce, idsOnce, marksFit, same}
@@ -39,6 +40,7 @@ use Rattle.laws.proofs.Offsets.{through}
 use Rattle.laws.proofs.OverTables.{gaps-over, gapsOf, marks-each, plain-names, predecessors-over}
 use Rattle.laws.proofs.OverTables.{repaired-means, reversed-means, successors-over, warnings-over}
 use Rattle.laws.proofs.Packed.{mutual-lists}
+use Rattle.laws.proofs.RenamedTables.{renamed-claim}
 use Rattle.laws.proofs.TablesRead.{repairCall-reads, successionCall-reads}
 use Rattle.laws.proofs.Valid.{Each}
 use Rattle.laws.proofs.WordsReversed.{fine, fine-words, modelOf}
@@ -196,6 +198,16 @@ pub loose-names-no-end : (text r : List ℕ) (t : Target) → readTarget text r 
     → contactOf text (nameIn r 5) .loose ≡ true → (alike : Span → Span → Bool) (n : Span) →
     backEnd alike n t ≡ none
 loose-names-no-end text r t read loose alike n = no-end text r t read loose alike n
+
+-- ---- maps renamed and reordered
+-- THE COPY FINDS THE SAME, of all renamings that keep different names different, one of roads and one of junctions, and
+-- all orders of road rows with their sections and of lane rows with their edges, if both maps are admitted. The model's
+-- specs/Renamed.antt says it part by part: the lists of every identity and the gap rows, on the map as it is and on
+-- the map repaired, what repair writes and its warnings.
+pub every-renaming : (ofRoads ofJunctions : Renaming) (t t′ : Tables) → Renamed ofRoads ofJunctions t t′
+    → firstBroken (tableRules t) ≡ none → firstBroken (tableRules t′) ≡ none → RenamedClaim ofRoads ofJunctions t t′
+every-renaming ofRoads ofJunctions t t′ copied admitted copy-admitted =
+    renamed-claim ofRoads ofJunctions t t′ copied (fine t admitted) (fine t′ copy-admitted)
 
 -- ---- DEMAND 3
 -- THE CLAIM HOLDS of every sequence of reversal calls on every tables, refused ones included, with outputs of

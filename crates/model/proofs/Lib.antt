@@ -10,4 +10,5 @@ pub mod GapCorners
 pub mod ReversalCorners
 pub mod RefusalCorners
 pub mod CallCorners
+pub mod RenamedCorners
 pub mod Corners

@@ -1,7 +1,7 @@
 -- What a call means, in the order of document 01: the tables and the map that their words mean; repair;
 -- succession and list lookup; the gap check; reversal; how each call refuses; each call's whole outcome; attribute
--- reading, its warnings joined with repair's, and the length check; sequences of reversals; and the claim about
--- every sequence.
+-- reading, its warnings joined with repair's, and the length check; sequences of reversals; the claim about every
+-- sequence; and the claim about maps renamed and reordered.
 pub mod Lists
 pub mod Records
 pub mod Text
@@ -20,3 +20,5 @@ pub mod Joined
 pub mod Length
 pub mod Sequence
 pub mod Claim
+pub mod Orders
+pub mod Renamed
