@@ -1,6 +1,7 @@
 //! The original Rust and this library side by side: tables, calls, rules, random maps.
 #![allow(dead_code)] // of the original, only what is compared is called
 include!(concat!(env!("OUT_DIR"), "/original.rs"));
+pub mod both;
 pub mod calls;
 pub mod damage;
 pub mod form;
@@ -12,6 +13,7 @@ pub mod ours;
 pub mod places;
 pub mod raw;
 pub mod readings;
+pub mod renamed;
 pub mod reversal;
 pub mod rules;
 mod shim;

@@ -1,9 +1,9 @@
-//! Runs the original and this library on random maps and compares repaired tables, warnings, lists and gap rows; then
-//! faulty tables; then sequences of reversals; then attribute reading; then lookups of lists and names, roots and
-//! distances.
-use compare::original::Lists;
+//! Runs the original and this library on random maps, and on copies renamed and reordered, and compares repaired tables,
+//! warnings, lists and gap rows; then faulty tables; then sequences of reversals; then attribute reading; then lookups of
+//! lists and names, roots and distances.
+use compare::both::{self, Found};
 use compare::tables::{Dice, Tables, CONNECTION, LANE};
-use compare::{damage, lookups, maps, measures, original, ours, places, readings, turned};
+use compare::{damage, lookups, maps, measures, places, readings, renamed, turned};
 
 /// How much the maps gave to compare.
 #[derive(Default)]
@@ -16,12 +16,24 @@ struct Seen {
     places: places::Count,
 }
 
+impl Seen {
+    fn add(&mut self, t: &Tables, found: &Found) {
+        self.warnings += found.repaired.warnings.len();
+        self.added += Tables::rows(&found.tables.connections, CONNECTION) - Tables::rows(&t.connections, CONNECTION);
+        self.successors += found.lists.successors.iter().map(Vec::len).sum::<usize>();
+        self.two_way += t.lanes.chunks(LANE).zip(&found.lists.successors).filter(|(l, s)| l[5] == 2 && !s.is_empty()).count();
+        self.gaps += found.gaps.len();
+        found.wide.iter().for_each(|w| self.places.add(w));
+    }
+}
+
 /// All that was counted.
 #[derive(Default)]
 struct Counts {
     seen: Seen,
     tally: damage::Tally,
     turned: turned::Count,
+    renamed: renamed::Count,
     readings: readings::Count,
     lookups: lookups::Count,
     measures: measures::Count,
@@ -38,31 +50,11 @@ impl Counts {
         println!("  damaged tables:");
         self.tally.print();
         self.turned.print();
+        self.renamed.print();
         self.readings.print();
         self.lookups.print();
         self.measures.print();
     }
-}
-
-/// One admitted map through both: the repaired tables, and the lists that both found.
-fn beside(t: &Tables, seen: &mut Seen) -> Result<(Tables, Lists), String> {
-    let theirs = original::repair(t);
-    let (m, found) = ours::repair(t);
-    if theirs != found {
-        return Err(format!("repair\n theirs {theirs:?}\n ours   {found:?}"));
-    }
-    let (a, b) = (original::lists_and_gaps(t), ours::lists_and_gaps(&m));
-    if a.0 != b.0 {
-        return Err(format!("lists\n theirs {:?}\n ours   {:?}", a.0, b.0));
-    }
-    places::beside(&a.1, &b.1)?;
-    seen.warnings += found.warnings.len();
-    seen.added += Tables::rows(&m.connections, CONNECTION) - Tables::rows(&t.connections, CONNECTION);
-    seen.successors += b.0.successors.iter().map(Vec::len).sum::<usize>();
-    seen.two_way += t.lanes.chunks(LANE).zip(&b.0.successors).filter(|(l, s)| l[5] == 2 && !s.is_empty()).count();
-    seen.gaps += b.1.len();
-    a.1.iter().for_each(|w| seen.places.add(w));
-    Ok((m, a.0))
 }
 
 fn main() {
@@ -71,6 +63,7 @@ fn main() {
     let seed: u64 = args.next().and_then(|a| a.parse().ok()).unwrap_or(1);
     // the other dice are for what came later, so that a seed's maps stay the same
     let (mut dice, mut others, mut slopes, mut attributes) = (Dice::new(seed), Dice::new(!seed), Dice::new(seed.swap_bytes()), Dice::new(!seed.swap_bytes()));
+    let mut orders = Dice::new(seed.reverse_bits());
     let (mut counts, mut wrong) = (Counts::default(), 0);
     let mut say = |k: &str, r: Result<(), String>| {
         if let Err(e) = r {
@@ -86,9 +79,17 @@ fn main() {
         let mut t = maps::random(&mut dice);
         maps::on_a_grid(&mut t, &mut others);
         maps::on_a_slope(&mut t, &mut slopes);
-        say(&format!("map {k}"), beside(&t, &mut counts.seen).and_then(|(m, lists)| lookups::run(&m, &lists, &mut others, &mut counts.lookups)));
+        let found = both::find(&t);
+        match &found {
+            Ok(found) => {
+                counts.seen.add(&t, found);
+                say(&format!("map {k}"), lookups::run(&found.tables, &found.lists, &mut others, &mut counts.lookups));
+                say(&format!("map {k} renamed"), renamed::run(&t, found, &mut orders, &mut counts.renamed));
+            }
+            Err(e) => say(&format!("map {k}"), Err(e.clone())),
+        }
         say(&format!("map {k} damaged"), damage::run(&t, &mut dice, &mut counts.tally));
-        say(&format!("map {k} reversed"), turned::run(&t, &mut dice, &mut counts.turned));
+        say(&format!("map {k} reversed"), turned::run(&t, &found, &mut dice, &mut counts.turned));
         say(&format!("raw tables {k}"), readings::run(&mut attributes, &mut counts.tally, &mut counts.readings));
         say(&format!("measures {k}"), measures::run(&mut others, &mut counts.measures));
     }

@@ -225,10 +225,7 @@ pub fn random(dice: &mut Dice) -> Tables {
     let (junctions, narrow) = (dice.one_in(2), !dice.one_in(3));
     let mut m = Maker { dice, places, kinds, junctions, narrow };
     let mut order: Vec<usize> = (0..kinds).collect();
-    for i in (1..order.len()).rev() {
-        let j = m.dice.below(i + 1);
-        order.swap(i, j);
-    }
+    m.dice.shuffle(&mut order);
     let roads = if m.dice.one_in(4) { m.dice.below(kinds + 1) } else { kinds };
     for &i in order.iter().take(roads) {
         m.road(&mut t, i);

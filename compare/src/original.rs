@@ -190,17 +190,34 @@ pub struct Linked {
     metas: Vec<LaneMeta>,
 }
 
-/// Repair, then `resolve`.
-pub fn linked(t: &Tables) -> Linked {
-    let (roads, conns, _) = run(t);
+impl Linked {
+    fn lists(&self) -> Lists {
+        let ids = |l: &[LaneId]| l.iter().map(|i| i.0 as u32).collect::<Vec<_>>();
+        Lists { successors: self.lanes.iter().map(|l| ids(&l.successors)).collect(), predecessors: self.lanes.iter().map(|l| ids(&l.predecessors)).collect() }
+    }
+}
+
+/// `resolve` on the tables' lanes, over those roads and junctions.
+fn resolved(t: &Tables, roads: HashMap<String, RoadInfo>, junctions: HashMap<String, Vec<JunctionConn>>) -> Linked {
     let (mut lanes, metas) = lanes(t);
-    let mut topo = Topology { roads, junctions: conns, ..Topology::default() };
+    let mut topo = Topology { roads, junctions, ..Topology::default() };
     for m in &metas {
         topo.registry.insert((m.road.clone(), m.section, m.od_id), m.id);
     }
     topo.metas = metas;
     resolve(&mut lanes, &topo);
     Linked { lanes, metas: topo.metas }
+}
+
+/// Repair, then `resolve`.
+pub fn linked(t: &Tables) -> Linked {
+    let (roads, conns, _) = run(t);
+    resolved(t, roads, conns)
+}
+
+/// `resolve` with no repair before it: the lists of every lane.
+pub fn lists_unrepaired(t: &Tables) -> Lists {
+    resolved(t, roads(t), junction_rows(t).into_iter().map(|(id, _, row)| (id, row)).collect()).lists()
 }
 
 /// How many gap warnings `link_gaps` gives.
@@ -247,9 +264,9 @@ pub fn first_least(pairs: &[Near]) -> [u32; 3] {
 
 /// Repair, then `resolve`, then `link_gaps`: the lists of every lane, and the links with a gap.
 pub fn lists_and_gaps(t: &Tables) -> (Lists, Vec<Wide>) {
-    let Linked { lanes, metas } = linked(t);
-    let ids = |l: &[LaneId]| l.iter().map(|i| i.0 as u32).collect::<Vec<_>>();
-    let lists = Lists { successors: lanes.iter().map(|l| ids(&l.successors)).collect(), predecessors: lanes.iter().map(|l| ids(&l.predecessors)).collect() };
+    let found = linked(t);
+    let lists = found.lists();
+    let Linked { lanes, metas } = found;
     let row = |road: &str, section: usize, lane: i32| metas.iter().position(|m| m.road == road && m.section == section && m.od_id == lane).unwrap() as u32;
     let gaps = link_gaps(&lanes, &metas)
         .into_iter()
@@ -272,8 +289,8 @@ pub struct Read {
     metas: Vec<LaneMeta>,
 }
 
-/// The tables' map in the original's form.
-pub fn read(t: &Tables) -> Read {
+/// The junction rows in the original's form: name, kind, connections.
+fn junction_rows(t: &Tables) -> Vec<(String, u32, Vec<JunctionConn>)> {
     let number = |w: u32| w as i32;
     let connection = |c: &[u32]| JunctionConn {
         incoming_road: t.stand_in(c[0], c[1]),
@@ -281,8 +298,7 @@ pub fn read(t: &Tables) -> Read {
         contact: if c[4] == 1 { Contact::End } else { Contact::Start },
         lane_links: t.pairs[2 * c[5] as usize..2 * (c[5] + c[6]) as usize].chunks(2).map(|p| (number(p[0]), number(p[1]))).collect(),
     };
-    let junctions = t
-        .junctions
+    t.junctions
         .chunks(JUNCTION)
         .map(|j| {
             (
@@ -291,9 +307,13 @@ pub fn read(t: &Tables) -> Read {
                 t.connections[j[3] as usize * CONNECTION..(j[3] + j[4]) as usize * CONNECTION].chunks(CONNECTION).map(connection).collect(),
             )
         })
-        .collect();
+        .collect()
+}
+
+/// The tables' map in the original's form.
+pub fn read(t: &Tables) -> Read {
     let (lanes, metas) = lanes(t);
-    Read { roads: roads(t), junctions, lanes, metas }
+    Read { roads: roads(t), junctions: junction_rows(t), lanes, metas }
 }
 
 /// The seconds of repair (without reading), `resolve` and `link_gaps`, and how many gap warnings there were.

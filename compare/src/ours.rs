@@ -38,13 +38,28 @@ pub fn repair(t: &Tables) -> (Tables, Repaired) {
     (m, found)
 }
 
-/// Succession and the gap check by this library, on repaired tables.
-pub fn lists_and_gaps(m: &Tables) -> (Lists, Vec<GapRow>) {
+/// Succession by this library: offsets and identities, successors first.
+fn succession(m: &Tables) -> [Vec<u32>; 4] {
     let n = Tables::rows(&m.lanes, LANE);
     let ids = 2 * m.lanes.len() + 2 * m.pairs.len() + 5;
-    let [so, si, po, pi]: [Vec<u32>; 4] = calls::succession(m, [n + 2, ids, n + 3, ids]).contents(&calls::LIST_WIDTHS).try_into().unwrap();
-    let cut = |o: &[u32], i: &[u32]| (0..n).map(|l| i[o[l] as usize..o[l + 1] as usize].to_vec()).collect::<Vec<_>>();
-    let lists = Lists { successors: cut(&so, &si), predecessors: cut(&po, &pi) };
-    let gaps = calls::gaps(m, &so, &si, GAP * si.len() + 3).contents(&[GAP]).remove(0);
-    (lists, gaps.chunks(GAP).map(|r| r.try_into().unwrap()).collect())
+    calls::succession(m, [n + 2, ids, n + 3, ids]).contents(&calls::LIST_WIDTHS).try_into().unwrap()
+}
+
+/// The lists, lane by lane.
+fn cut([so, si, po, pi]: &[Vec<u32>; 4]) -> Lists {
+    let cut = |o: &[u32], i: &[u32]| o.windows(2).map(|w| i[w[0] as usize..w[1] as usize].to_vec()).collect::<Vec<_>>();
+    Lists { successors: cut(so, si), predecessors: cut(po, pi) }
+}
+
+/// Succession by this library, on the tables as they are.
+pub fn lists(m: &Tables) -> Lists {
+    cut(&succession(m))
+}
+
+/// Succession and the gap check by this library, on repaired tables.
+pub fn lists_and_gaps(m: &Tables) -> (Lists, Vec<GapRow>) {
+    let packed = succession(m);
+    let [so, si, ..] = &packed;
+    let gaps = calls::gaps(m, so, si, GAP * si.len() + 3).contents(&[GAP]).remove(0);
+    (cut(&packed), gaps.chunks(GAP).map(|r| r.try_into().unwrap()).collect())
 }

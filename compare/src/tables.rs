@@ -29,14 +29,20 @@ impl Tables {
     pub fn bytes(&self, start: u32, size: u32) -> &[u8] {
         &self.text[start as usize..start as usize + size as usize]
     }
-    /// A name's stand-in, one for each different name: its bytes in hexadecimal.
+    /// The stand-in of the name at that place.
     pub fn stand_in(&self, start: u32, size: u32) -> String {
-        let mut s = String::from("n");
-        for b in self.bytes(start, size) {
-            s.push_str(&format!("{b:02x}"));
-        }
-        s
+        stand_in(self.bytes(start, size))
     }
+}
+
+/// A name's stand-in, one for each different name: its bytes in hexadecimal.
+pub fn stand_in(name: &[u8]) -> String {
+    let digit = |half: u8| char::from(b"0123456789abcdef"[usize::from(half)]);
+    let mut s = String::from("n");
+    for b in name {
+        s.extend([digit(b >> 4), digit(b & 15)]);
+    }
+    s
 }
 
 /// A small generator of numbers, the same for the same seed.
@@ -61,5 +67,11 @@ impl Dice {
     }
     pub fn pick<T: Copy>(&mut self, from: &[T]) -> T {
         from[self.below(from.len())]
+    }
+    /// Puts these into another order.
+    pub fn shuffle<T>(&mut self, these: &mut [T]) {
+        for i in (1..these.len()).rev() {
+            these.swap(i, self.below(i + 1));
+        }
     }
 }

@@ -1,9 +1,8 @@
 //! Sequences of reversals: the tables after them, and the lists and gap rows that the original finds on them, and this library
 //! as well. All of these stay; of several least pairs of ends another may be the original's first.
+use crate::both::{self, Found};
 use crate::calls::{self, REVERSAL_WIDTHS};
-use crate::original::{self, GapRow, Wide};
-use crate::ours;
-use crate::places;
+use crate::original::Wide;
 use crate::reversal;
 use crate::rules;
 use crate::tables::{Dice, Tables, LANE, ROAD};
@@ -64,8 +63,8 @@ fn same(a: &Tables, b: &Tables) -> bool {
     bits(a) == bits(b) && Tables { edges: Vec::new(), ..a.clone() } == Tables { edges: Vec::new(), ..b.clone() }
 }
 
-/// A sequence of reversals of an admitted map, refused ones among them.
-pub fn run(map: &Tables, dice: &mut Dice, count: &mut Count) -> Result<(), String> {
+/// A sequence of reversals of an admitted map, refused ones among them; and what both found on the map.
+pub fn run(map: &Tables, found: &Result<Found, String>, dice: &mut Dice, count: &mut Count) -> Result<(), String> {
     let roads = Tables::rows(&map.roads, ROAD);
     let mut now = map.clone();
     let mut set = vec![0u32; roads];
@@ -118,40 +117,36 @@ pub fn run(map: &Tables, dice: &mut Dice, count: &mut Count) -> Result<(), Strin
     if set.iter().all(|&s| s == 0) && !same(map, &now) {
         return Err("an empty set changed the tables".into());
     }
-    let (first, last) = (original::lists_and_gaps(map), original::lists_and_gaps(&now));
-    if first.0 != last.0 {
-        return Err("the original finds other lists after the reversals".into());
+    let (first, last) = (found.as_ref().map_err(String::clone)?, both::find(&now)?);
+    if first.lists != last.lists {
+        return Err("both find other lists after the reversals".into());
     }
-    let (before, after) = (ours::lists_and_gaps(&ours::repair(map).0), ours::lists_and_gaps(&ours::repair(&now).0));
-    if after.0 != last.0 {
-        return Err("the two find other lists after the reversals".into());
-    }
-    gap_rows([&before.1, &after.1], [&first.1, &last.1])?;
-    places::beside(&last.1, &after.1)?;
-    first.1.iter().zip(&last.1).for_each(|(a, b)| count.add(map, a, b));
-    warnings(map, &now, &set)
+    gap_rows(first, &last)?;
+    first.wide.iter().zip(&last.wide).for_each(|(a, b)| count.add(map, a, b));
+    warnings(map, [first, &last], &set)
 }
 
 /// The gap rows after reversals are those before, in all words: this library's, and those that the rule picks among the
 /// original's pairs of ends.
-fn gap_rows([before, after]: [&[GapRow]; 2], [first, last]: [&[Wide]; 2]) -> Result<(), String> {
-    if before != after {
-        return Err(format!("this library finds other gaps after the reversals\n before {before:?}\n after  {after:?}"));
+fn gap_rows(first: &Found, last: &Found) -> Result<(), String> {
+    if first.gaps != last.gaps {
+        return Err(format!("this library finds other gaps after the reversals\n before {:?}\n after  {:?}", first.gaps, last.gaps));
     }
     let rows = |wide: &[Wide]| wide.iter().map(Wide::smallest).collect::<Vec<_>>();
-    if rows(first) != rows(last) {
-        return Err(format!("the original finds other gaps after the reversals\n before {:?}\n after  {:?}", rows(first), rows(last)));
+    let [before, after] = [rows(&first.wide), rows(&last.wide)];
+    if before != after {
+        return Err(format!("the original finds other gaps after the reversals\n before {before:?}\n after  {after:?}"));
     }
     Ok(())
 }
 
-/// The original's warnings differ only in the end of a marked road.
-fn warnings(map: &Tables, now: &Tables, set: &[u32]) -> Result<(), String> {
+/// Warnings differ only in the end of a marked road.
+fn warnings(map: &Tables, [first, last]: [&Found; 2], set: &[u32]) -> Result<(), String> {
     let marked = |name: &str| map.roads.chunks(ROAD).zip(set).any(|(r, &s)| s == 1 && map.stand_in(r[0], r[1]) == name);
-    let turned: Vec<_> = original::repair(map).warnings.into_iter().map(|(j, r, e)| if marked(&r) { (j, r, 1 - e) } else { (j, r, e) }).collect();
-    if turned == original::repair(now).warnings {
+    let turned: Vec<_> = first.repaired.warnings.iter().cloned().map(|(j, r, e)| if marked(&r) { (j, r, 1 - e) } else { (j, r, e) }).collect();
+    if turned == last.repaired.warnings {
         Ok(())
     } else {
-        Err("the original's warnings differ in more than the end of a marked road".into())
+        Err("warnings differ in more than the end of a marked road".into())
     }
 }
