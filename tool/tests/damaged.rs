@@ -1,35 +1,22 @@
 //! Maps in plain text and OpenDRIVE that are cut, doubled, swapped and overwritten: every run ends with status 0, 1 or 2,
 //! at 2 with a message and nothing on standard output, and never with a panic.
 mod common;
-use common::{lanes, small_maps};
+use common::{lanes, small_maps, Dice};
 
 const FILES: usize = 10_000;
 const THREADS: usize = 2;
 const COMMANDS: [&[&[u8]]; 9] =
     [&[b"check"], &[b"links"], &[b"gaps"], &[b"repair"], &[b"dot"], &[b"draw"], &[b"form"], &[b"reverse", b"--all"], &[b"check", b"--json", b"--all"]];
 
-/// A small generator of numbers, the same for the same seed.
-struct Dice(u64);
-
-impl Dice {
-    /// Below n, or 0.
-    fn below(&mut self, n: usize) -> usize {
-        self.0 ^= self.0 << 13;
-        self.0 ^= self.0 >> 7;
-        self.0 ^= self.0 << 17;
-        (self.0 >> 11) as usize % n.max(1)
-    }
-
-    /// A stretch of some bytes.
-    fn stretch(&mut self, length: usize) -> (usize, usize) {
-        let from = self.below(length);
-        (from, (from + 1 + self.below(40)).min(length))
-    }
+/// A stretch of some bytes.
+fn stretch(length: usize, dice: &mut Dice) -> (usize, usize) {
+    let from = dice.below(length);
+    (from, (from + 1 + dice.below(40)).min(length))
 }
 
 /// One more damage.
 fn damage(map: &mut Vec<u8>, dice: &mut Dice) {
-    let (from, to) = dice.stretch(map.len());
+    let (from, to) = stretch(map.len(), dice);
     let at = dice.below(map.len());
     match dice.below(7) {
         0 => map.truncate(at),

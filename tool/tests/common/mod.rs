@@ -51,28 +51,53 @@ pub fn prints(words: &str, map: &str, status: i32, text: &str) {
     assert_eq!((ran.status, ran.text(), ran.err), (status, text.to_string(), String::new()), "lanes {words}\n{map}");
 }
 
+/// A small generator of numbers, the same for the same seed.
+pub struct Dice(pub u64);
+
+impl Dice {
+    /// Below n, or 0.
+    pub fn below(&mut self, n: usize) -> usize {
+        self.0 ^= self.0 << 13;
+        self.0 ^= self.0 >> 7;
+        self.0 ^= self.0 << 17;
+        (self.0 >> 11) as usize % n.max(1)
+    }
+
+    /// Brings things into another order, of one cycle: of two or more none stays in its place.
+    pub fn shuffle<T>(&mut self, things: &mut [T]) {
+        for k in (1..things.len()).rev() {
+            things.swap(k, self.below(k));
+        }
+    }
+}
+
 /// The examples' folder.
 pub fn examples() -> PathBuf {
     PathBuf::from(env!("CARGO_MANIFEST_DIR")).join("../examples")
 }
 
-/// The files of a folder with that ending, by name.
-fn files(folder: PathBuf, ending: &str) -> Vec<(String, Vec<u8>)> {
+/// The files of a folder with that ending, by name: that many at least.
+fn files(folder: PathBuf, ending: &str, least: usize) -> Vec<(String, Vec<u8>)> {
     let files = std::fs::read_dir(folder).expect("a folder").map(|f| f.expect("a file").path());
     let files = files.filter(|p| p.extension().is_some_and(|e| e == ending));
     let mut files: Vec<_> = files.map(|p| (p.display().to_string(), std::fs::read(&p).expect("a file"))).collect();
     files.sort();
-    assert!(files.len() >= 5);
+    assert!(files.len() >= least);
     files
 }
 
 /// The maps in plain text among the examples, by name.
 pub fn example_maps() -> Vec<(String, Vec<u8>)> {
-    files(examples(), "map")
+    files(examples(), "map", 5)
+}
+
+/// The networks of SUMO among the examples, by name.
+pub fn real_maps() -> Vec<(String, Vec<u8>)> {
+    files(examples().join("real"), "xodr", 2)
 }
 
 /// Small maps of both forms.
 pub fn small_maps() -> Vec<Vec<u8>> {
-    let open_drive = files(PathBuf::from(env!("CARGO_MANIFEST_DIR")).join("tests/data"), "xodr");
+    let open_drive = files(PathBuf::from(env!("CARGO_MANIFEST_DIR")).join("tests/data"), "xodr", 5);
     example_maps().into_iter().chain(open_drive).map(|(_, map)| map).collect()
 }
