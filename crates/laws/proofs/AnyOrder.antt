@@ -1,22 +1,22 @@
 -- Lists whose elements stand to one another in pairs, in the same order or in any: what keeps them so, and what takes
 -- no heed of the order.
 use mathlib.Core.Path.{_≡_, refl, sym, _∙_, ap, ap₂}
-use mathlib.Core.Bool.{Bool, true, false, not, _||_, cond, true≢false}
+use mathlib.Core.Bool.{Bool, true, false, not, _||_, cond}
 use mathlib.Core.Option.{Option, none, some}
 use mathlib.Core.List.{List, [], _∷_, _++_, map, map-append, append-assoc, nil≢cons}
 use Prim.Native.Nat.{ℕ, zero, suc, _<_}
 use native.Mathlib.Nat.{le-of-suc-le-suc, not-suc-le-zero}
 use lib.Dec.{eqb}
 use lib.ListN.{getD, length}
-use borrow.Author.Tests.{eq-eqb, eqb-true, not-true}
+use borrow.Author.Tests.{eq-eqb, eqb-true}
 use Rattle.model.specs.Lists.{amend, bindO, distinct, final, first, gather, insert, isSome, keep, listO, orElse, some?}
 use Rattle.model.specs.Lists.{sort}
 use Rattle.model.specs.Orders.{BothOrNone, neither, both, InAnyOrder, emptied, among, InOrder, ended, paired}
 use Rattle.model.specs.Orders.{SameCollection}
 use Rattle.laws.proofs.Basics.{keep-append}
 use Rattle.laws.proofs.ByBytes.{keep-first}
-use Rattle.laws.proofs.ListTests.{and-left, and-right}
-use Rattle.laws.proofs.RowTests.{some-found}
+use Rattle.laws.proofs.ListTests.{and-right}
+use Rattle.laws.proofs.RowTests.{distinct-later}
 use Rattle.laws.proofs.Sorting.{sort-middle}
 use Rattle.laws.proofs.WordsReversed.{gather-append}
 
@@ -296,16 +296,10 @@ module _ {A : Type 0} (key : A → ℕ) where
   first-row [] i z row once = absurd (not-suc-le-zero row)
   first-row (x ∷ xs) zero z row once = rw (eq-eqb (key x) (key x) refl)
   first-row (x ∷ xs) (suc i) z row once =
-      let p : A → Bool = λ y. eqb (key x) (key y) in
-      let later = distinct (λ a b. eqb (key a) (key b)) xs in
-      let none-like = not-true (some? p xs) (and-left (not (some? p xs)) later once) in
+      let alike : A → A → Bool = λ a b. eqb (key a) (key b) in
       ap (λ b. cond b (some x) (first (λ y. eqb (key y) (key (getD xs i z))) xs))
-      (other none-like (some-found p xs i z (le-of-suc-le-suc row)))
-      ∙ first-row xs i z (le-of-suc-le-suc row) (and-right (not (some? p xs)) later once)
-    where
-      other : {b c : Bool} → c ≡ false → (b ≡ true → c ≡ true) → b ≡ false
-      other {b = false} none-like found = refl
-      other {b = true} none-like found = absurd (true≢false (sym (found refl) ∙ none-like))
+      (distinct-later alike x xs i z once (le-of-suc-le-suc row))
+      ∙ first-row xs i z (le-of-suc-le-suc row) (and-right (not (some? (alike x) xs)) (distinct alike xs) once)
 
 module _ {A B : Type 0} {R : A → B → Type 0} (key : A → ℕ) (key′ : B → ℕ)
     (kept : (x : A) (y : B) → R x y → key′ y ≡ key x) {xs : List A} {ys : List B} (h : InAnyOrder R xs ys)

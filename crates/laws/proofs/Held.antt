@@ -7,7 +7,7 @@ use mathlib.Core.List.{List, [], _∷_, map, map-map}
 use Prim.Native.Nat.{ℕ}
 use lib.Dec.{eqb}
 use lib.ListN.{length, length-map}
-use Rattle.model.specs.Lists.{ascends, distinct, every, first, gather, member}
+use Rattle.model.specs.Lists.{ascends, every, first, gather, member}
 use Rattle.model.specs.Records.{Connection, EdgedLane, Junction, Map, Road, Span}
 use Rattle.model.specs.Repair.{repair, roadOf, warnings}
 use Rattle.model.specs.Reversal.{marked, reverseEdged, reverseJunction, reverseLane, reverseMap, reverseRoad}
@@ -18,8 +18,8 @@ use Rattle.laws.proofs.Basics.{gather-map, length-gather, map-ext, map-
 use Rattle.laws.proofs.Compose.{compose, compose-lane, idle, idle-lane}
 use Rattle.laws.proofs.ForEach.{each, each-map, each-of}
 use Rattle.laws.proofs.JunctionsReversed.{repair-junctions}
-use Rattle.laws.proofs.ListTests.{distinct-map, each-every, either-right, every-ext, every-map}
-use Rattle.laws.proofs.RepairKeeps.{came-whole}
+use Rattle.laws.proofs.ListTests.{each-every, either-right, every-ext, every-map}
+use Rattle.laws.proofs.RepairKeeps.{came-once, came-whole}
 use Rattle.laws.proofs.RepairReversed.{bareRoad, repair-roads}
 use Rattle.laws.proofs.RulesReversed.{Good, connections-length, good-valid, pairs-length, reversible}
 use Rattle.laws.proofs.SameGaps.{predecessorLists-reversed, successorLists-reversed}
@@ -109,10 +109,7 @@ repairSizes same m =
 -- repair leaves the rules on a map alone
 pub good-repair : (same : Span → Span → Bool) (m : Map) → Good same m → Good same (repair same m)
 good-repair same m g = record {
-  names-once = sym (distinct-map (λ (r : Road). r .name) (λ a b. same a b) (repair same m .roads))
-      ∙ ap (distinct (λ a b. same a b)) (came-whole same m .names-kept)
-      ∙ distinct-map (λ (r : Road). r .name) (λ a b. same a b) (m .roads)
-      ∙ g .names-once;
+  names-once = came-once (came-whole same m) (g .names-once);
   ascending = sym (every-map (λ (r : Road). r .sections) ascends (repair same m .roads))
       ∙ ap (every ascends) (came-whole same m .listed-kept)
       ∙ every-map (λ (r : Road). r .sections) ascends (m .roads)

@@ -62,14 +62,15 @@ map-at f (x ∷ xs) zero d e h = refl
 map-at f (x ∷ xs) (suc i) d e h = map-at f xs i d e (le-of-suc-le-suc h)
 
 module _ (t : Tables) where
-  lanes-count : length (lanesOf t) ≡ length (t .lanes) / 10
+  pub lanes-count : length (lanesOf t) ≡ length (t .lanes) / 10
   unfolding lanesIn
   lanes-count = length-map (table 10 (t .lanes)) laneIn ∙ length-table 10 (t .lanes)
 
-  abbrev lane : ℕ → Lane
+  -- the lane of a row
+  abbrev pub lane : ℕ → Lane
   lane i = laneIn (getD (table 10 (t .lanes)) i [])
 
-  lane-at : (i : ℕ) → i < length (t .lanes) / 10 → getD (lanesOf t) i (laneIn []) ≡ lane i
+  pub lane-at : (i : ℕ) → i < length (t .lanes) / 10 → getD (lanesOf t) i (laneIn []) ≡ lane i
   unfolding lanesIn
   lane-at i h =
       map-at laneIn (table 10 (t .lanes)) i [] (laneIn []) (omega (arith, length-table 10 (t .lanes)))
@@ -82,7 +83,7 @@ module _ (t : Tables) where
   list-at : (f : Lane → List ℕ) (i : ℕ) → i < length (t .lanes) / 10 → getD (map f (lanesOf t)) i [] ≡ f (lane i)
   list-at f i h = map-at f (lanesOf t) i (laneIn []) [] (omega (arith, lanes-count)) ∙ ap f (lane-at i h)
 
-  successors-at : (i : ℕ) → i < length (t .lanes) / 10
+  pub successors-at : (i : ℕ) → i < length (t .lanes) / 10
       → listAt (listContent t .successorOffsets) (listContent t .successorIds) i
       ≡ successors (same t) (mapOf t) (lane i)
   unfolding listContent
@@ -90,7 +91,7 @@ module _ (t : Tables) where
       ap (λ (ls : List (List ℕ)). getD ls i []) (unpack (successorLists (same t) (mapOf t)))
       ∙ (unfold successorLists mapOf in list-at (successors (same t) (mapOf t)) i h)
 
-  predecessors-at : (i : ℕ) → i < length (t .lanes) / 10
+  pub predecessors-at : (i : ℕ) → i < length (t .lanes) / 10
       → listAt (listContent t .predecessorOffsets) (listContent t .predecessorIds) i
       ≡ predecessors (same t) (mapOf t) (lane i)
   unfolding listContent

@@ -2,14 +2,13 @@
 use mathlib.Core.Path.{_≡_, refl, sym, _∙_, ap, subst}
 use mathlib.Core.Bool.{Bool, true}
 use mathlib.Core.List.{List, [], map, map-map}
-use Prim.Native.Nat.{ℕ, _/_, _<_}
+use Prim.Native.Nat.{ℕ}
 use lib.Dec.{eqb}
-use lib.ListN.{List·getD-map, getD, length, length-map}
-use Rattle.model.specs.Calls.{listContent, repairContent, rowNamed}
+use lib.ListN.{List·getD-map, getD}
+use Rattle.model.specs.Calls.{repairContent, rowNamed}
 use Rattle.model.specs.Calls.{warningRow, warningWidth}
-use Rattle.model.specs.Claim.{identityAt, repairedTables}
+use Rattle.model.specs.Claim.{repairedTables}
 use Rattle.model.specs.Lists.{distinct}
-use Rattle.model.specs.Lookup.{listsIn, offsetsFrom, packed}
 use Rattle.model.specs.Orders.{InAnyOrder, InOrder}
 use Rattle.model.specs.Records.{EdgedLane, Lane, Road, Span}
 use Rattle.model.specs.Renamed.{EdgedRenamed, JunctionName, LaneRenamed, NewName, OneIdentity, Renamed, RenamedClaim}
@@ -17,7 +16,7 @@ use Rattle.model.specs.Renamed.{Renaming, RoadName, SameByIdentity, WarningRena
 use Rattle.model.specs.Repair.{Warning, warnings}
 use Rattle.model.specs.Rows.{table}
 use Rattle.model.specs.Rules.{idsOnce, namesOnce, same}
-use Rattle.model.specs.Succession.{predecessorLists, predecessors, successorLists, successors}
+use Rattle.model.specs.Succession.{successors}
 use Rattle.model.specs.Tables.{Tables, bit, edgedLanesOf, laneIn, laneWidth, lanesIn, lanesOf, mapOf, roadIn, roadWidth}
 use Rattle.model.specs.Tables.{roadsIn, roadsOf, spanIn}
 use Rattle.model.specs.Text.{bytesOf, equalBytes, sameIn}
@@ -26,19 +25,19 @@ use Rattle.laws.proofs.AnyOrder.{KeysOnce, any-map, any-row, order-map}
 use Rattle.laws.proofs.Basics.{bool-ext}
 use Rattle.laws.proofs.ByBytes.{alike-in, bytes-equal, equal-bytes}
 use Rattle.laws.proofs.GapsRenamed.{gaps-any, gaps-are, identityOf}
-use Rattle.laws.proofs.Lay.{length-table}
 use Rattle.laws.proofs.ListTests.{distinct-map}
 use Rattle.laws.proofs.OverTables.{repaired-means}
-use Rattle.laws.proofs.Packed.{map-at, unpack}
-use Rattle.laws.proofs.RepairRenamed.{MapRenamed, Names, namesOf, repair-renamed}
+use Rattle.laws.proofs.Packed.{lane, lane-at, lanes-count, predecessors-at, successors-at}
+use Rattle.laws.proofs.RepairKeeps.{namesOf}
+use Rattle.laws.proofs.RepairRenamed.{MapRenamed, Names, repair-renamed}
 use Rattle.laws.proofs.SameWarnings.{warning-rows}
 use Rattle.laws.proofs.SuccessionRenamed.{predecessors-renamed, successors-renamed}
 use Rattle.laws.proofs.WarningsRenamed.{Warned, knows, row-name, warnings-renamed}
 use Rattle.laws.proofs.WordsReversed.{Fine, fine, fine-sound, modelOf}
 
 -- ---- new names are the same just where the old ones are
-bytes-kept : (f : Renaming) (a b x y : List ℕ) → f .becomes a x → f .becomes b y → equalBytes x y ≡ equalBytes a b
-bytes-kept f a b x y p q =
+bytes-as-old : (f : Renaming) (a b x y : List ℕ) → f .becomes a x → f .becomes b y → equalBytes x y ≡ equalBytes a b
+bytes-as-old f a b x y p q =
     bool-ext (equalBytes x y) (equalBytes a b)
     (λ e. equal (f .kept-different a b y (subst (f .becomes a) (equal-bytes x y e) p) q))
     (λ e. equal (f .one-new-name b x y (subst (λ n. f .becomes n x) (equal-bytes a b e) p) q))
@@ -46,36 +45,19 @@ bytes-kept f a b x y p q =
     equal : {x y : List ℕ} → x ≡ y → equalBytes x y ≡ true
     equal {x} e = ap (equalBytes x) (sym e) ∙ bytes-equal x
 
-pub names-kept : (f : Renaming) (text text′ : List ℕ) (a a′ b b′ : Span) → NewName f text text′ a a′
+pub names-as-old : (f : Renaming) (text text′ : List ℕ) (a a′ b b′ : Span) → NewName f text text′ a a′
     → NewName f text text′ b b′ → sameIn text′ a′ b′ ≡ sameIn text a b
 unfolding NewName sameIn
-names-kept f text text′ a a′ b b′ p q =
-    bytes-kept f (bytesOf text a) (bytesOf text b) (bytesOf text′ a′) (bytesOf text′ b′) p q
+names-as-old f text text′ a a′ b b′ p q =
+    bytes-as-old f (bytesOf text a) (bytesOf text b) (bytesOf text′ a′) (bytesOf text′ b′) p q
 
--- ---- a lane row's lane, identity and lists
+-- ---- the lanes' identities
 abbrev laneIdentity : Lane → ℕ
 laneIdentity l = l .identity
-
-abbrev laneAt : Tables → ℕ → Lane
-laneAt t i = getD (lanesOf t) i (laneIn [])
-
-row-in : (t : Tables) (i : ℕ) → i < length (t .lanes) / laneWidth → i < length (lanesOf t)
-unfolding lanesIn
-row-in t i row = rw (length-map (table laneWidth (t .lanes)) laneIn, length-table laneWidth (t .lanes)) row
 
 identities-are : (t : Tables) → identitiesOf t ≡ map laneIdentity (lanesOf t)
 unfolding lanesIn laneIn
 identities-are t = sym (map-map laneIdentity laneIn (table laneWidth (t .lanes)))
-
-row-identity : (t : Tables) (i : ℕ) → laneAt t i .identity ≡ identityAt (t .lanes) i
-unfolding lanesIn laneIn
-row-identity t i = ap laneIdentity (List·getD-map laneIn (table laneWidth (t .lanes)) i [])
-
-row-list : (t : Tables) (i : ℕ) → i < length (t .lanes) / laneWidth → (f : Lane → List ℕ) →
-    getD (listsIn (offsetsFrom 0 (map f (lanesOf t))) (packed (map f (lanesOf t)))) i [] ≡ f (laneAt t i)
-row-list t i row f =
-    ap (λ (l : List (List ℕ)). getD l i []) (unpack (map f (lanesOf t)))
-    ∙ map-at f (lanesOf t) i (laneIn []) [] (row-in t i row)
 
 edged-once : (t : Tables) → map (λ x. x .lane) (edgedLanesOf t) ≡ lanesOf t → KeysOnce laneIdentity (lanesOf t) →
     KeysOnce identityOf (edgedLanesOf t)
@@ -93,8 +75,8 @@ module _ (ofRoads ofJunctions : Renaming) (t t′ : Tables) where
     alike = alike-in (t .text);
     roadName = RoadName ofRoads ofJunctions t t′;
     junctionName = JunctionName ofRoads ofJunctions t t′;
-    road-kept = names-kept ofRoads (t .text) (t′ .text);
-    junction-kept = names-kept ofJunctions (t .text) (t′ .text);
+    road-kept = names-as-old ofRoads (t .text) (t′ .text);
+    junction-kept = names-as-old ofJunctions (t .text) (t′ .text);
   }
 
   module _ (h : MapRenamed N (mapOf t) (mapOf t′))
@@ -102,26 +84,27 @@ module _ (ofRoads ofJunctions : Renaming) (t t′ : Tables) where
       (match : map (λ x. x .lane) (edgedLanesOf t) ≡ lanesOf t)
       (match′ : map (λ x. x .lane) (edgedLanesOf t′) ≡ lanesOf t′)
       (once : KeysOnce laneIdentity (lanesOf t)) (once′ : KeysOnce laneIdentity (lanesOf t′)) where
-    lane-copy : (i j : ℕ) → OneIdentity t t′ i j → LaneRenamed (N .roadName) (laneAt t i) (laneAt t′ j)
-    unfolding mapOf
+    lane-copy : (i j : ℕ) → OneIdentity t t′ i j → LaneRenamed (N .roadName) (lane t i) (lane t′ j)
+    unfolding mapOf laneIn
     lane-copy i j o =
-        any-row laneIdentity laneIdentity (λ l l′ w. w .identity) (h .lanes) once once′ i j (laneIn []) (laneIn [])
-        (row-in t i (o .row)) (row-in t′ j (o .row′))
-        (row-identity t′ j ∙ o .identity ∙ sym (row-identity t i))
+        let there = lane-at t i (o .row) in
+        let there′ = lane-at t′ j (o .row′) in
+        rw (there, there′) at
+        (any-row laneIdentity laneIdentity (λ l l′ w. w .identity) (h .lanes) once once′ i j (laneIn []) (laneIn [])
+        (rw (lanes-count t) (o .row)) (rw (lanes-count t′) (o .row′))
+        (ap laneIdentity there′ ∙ o .identity ∙ sym (ap laneIdentity there)))
 
     pub same-found : SameByIdentity t t′
-    unfolding listContent mapOf successorLists predecessorLists
+    unfolding mapOf
     same-found = record {
       identities = rw (identities-are t, identities-are t′)
           (any-map laneIdentity laneIdentity (λ l l′ w. sym (w .identity)) (h .lanes));
       onward = λ i j o.
-          row-list t′ j (o .row′) (successors (same t′) (mapOf t′))
-          ∙ successors-renamed N h (laneAt t i) (laneAt t′ j) (lane-copy i j o)
-          ∙ sym (row-list t i (o .row) (successors (same t) (mapOf t)));
+          successors-at t′ j (o .row′) ∙ successors-renamed N h (lane t i) (lane t′ j) (lane-copy i j o)
+          ∙ sym (successors-at t i (o .row));
       before = λ i j o.
-          row-list t′ j (o .row′) (predecessors (same t′) (mapOf t′))
-          ∙ predecessors-renamed N h (laneAt t i) (laneAt t′ j) (lane-copy i j o)
-          ∙ sym (row-list t i (o .row) (predecessors (same t) (mapOf t)));
+          predecessors-at t′ j (o .row′) ∙ predecessors-renamed N h (lane t i) (lane t′ j) (lane-copy i j o)
+          ∙ sym (predecessors-at t i (o .row));
       gaps = rw (gaps-are t match, gaps-are t′ match′)
           (gaps-any (N .roadName) edged (edged-once t match once)
           (λ x. successors (same t) (mapOf t) (x .lane)) (λ x. successors (same t′) (mapOf t′) (x .lane))

@@ -3,7 +3,7 @@ use mathlib.Core.Path.{_≡_, refl, sym, _∙_, ap, ap₂, subst}
 use mathlib.Core.Bool.{Bool, true, false, not, _&&_, _||_, cond}
 use mathlib.Core.Option.{Option, none, some}
 use mathlib.Core.List.{List, [], _∷_, map}
-use Rattle.model.specs.Lists.{amend, bindO, distinct, first, keep, listO, pick, some?}
+use Rattle.model.specs.Lists.{bindO, first, keep, listO, pick, some?}
 use Rattle.model.specs.Orders.{BothOrNone, neither, both, InAnyOrder, InOrder, ended, paired}
 use Rattle.model.specs.Records.{Connection, Junction, JunctionKind, Map, Road, Span, Target, common, direct, virtual}
 use Rattle.model.specs.Records.{targetAt}
@@ -15,70 +15,9 @@ use Rattle.model.specs.Repair.{missingLinks, namesJunction, putTarget, repair, 
 use Rattle.model.specs.Repair.{roadOf, roadsAfter, roadsOver, runsBack, startRoads, swapped, vacantEnd, withoutAlong}
 use Rattle.laws.proofs.AnyOrder.{AtMostOne, any-amend, any-first, any-map, both-bind, both-both, both-some}
 use Rattle.laws.proofs.AnyOrder.{distinct-one, order-append, order-first, order-gather, order-keep, order-some}
-use Rattle.laws.proofs.ListTests.{distinct-map}
-use Rattle.laws.proofs.RepairEach.{withoutAlong-kept}
+use Rattle.laws.proofs.RepairEach.{cleared}
+use Rattle.laws.proofs.RepairKeeps.{NamesOnce, came-link, came-once, came-start}
 use Rattle.laws.proofs.Valid.{Alike}
-
--- ---- repair keeps the roads' names
--- no road name twice
-abbrev pub NamesOnce : (Span → Span → Bool) → List Road → Type 0
-NamesOnce same rs = distinct (λ (a b : Road). same (a .name) (b .name)) rs ≡ true
-
-abbrev pub namesOf : List Road → List Span
-namesOf rs = map (λ r. r .name) rs
-
-pub once-by-names : (same : Span → Span → Bool) (rs rs′ : List Road) → namesOf rs′ ≡ namesOf rs → NamesOnce same rs →
-    NamesOnce same rs′
-once-by-names same rs rs′ names once =
-    sym (distinct-map (λ (r : Road). r .name) same rs′) ∙ ap (distinct same) names
-    ∙ distinct-map (λ (r : Road). r .name) same rs ∙ once
-
-names-amend : (p : Road → Bool) (f : Road → Road) → ((r : Road) → f r .name ≡ r .name) → (rs : List Road) →
-    namesOf (amend p f rs) ≡ namesOf rs
-names-amend p f kept [] = refl
-names-amend p f kept (r ∷ rs) = go (p r) (names-amend p f kept rs)
-  where
-    go : (b : Bool) → namesOf (amend p f rs) ≡ namesOf rs →
-        namesOf (cond b (f r ∷ rs) (r ∷ amend p f rs)) ≡ r .name ∷ namesOf rs
-    go true later = rw (kept r)
-    go false later = rw later
-
-names-map : (f : Road → Road) → ((r : Road) → f r .name ≡ r .name) → (rs : List Road) → namesOf (map f rs) ≡ namesOf rs
-names-map f kept [] = refl
-names-map f kept (r ∷ rs) = rw (kept r, names-map f kept rs)
-
-module _ (same : Span → Span → Bool) where
-  put-name : (j : Span) (e : Bool) (r : Road) → putTarget e (linked j e) r .name ≡ r .name
-  unfolding putTarget
-  put-name j e r = refl
-
-  along-name : (js : List Junction) (r : Road) → withoutAlong same js r .name ≡ r .name
-  along-name js r = withoutAlong-kept same (λ (x : Road). x .name ≡ r .name) js r refl refl
-
-  pub link-names : (j : Span) (c : Connection) (rs : List Road) → namesOf (missingLink same j c rs) ≡ namesOf rs
-  unfolding missingLink
-  link-names j c rs = go (missingEnd same rs j c)
-    where
-      go : (o : Option Bool) → namesOf (linkAtEnd same rs j c o) ≡ namesOf rs
-      go none = refl
-      go (some e) = names-amend (λ r. same (r .name) (c .incoming)) (putTarget e (linked j e)) (put-name j e) rs
-
-  pub roads-names : (j : Junction) (rs : List Road) → namesOf (repairRoads same j rs) ≡ namesOf rs
-  unfolding repairRoads
-  roads-names j rs = go (j .kind)
-    where
-      links-names : (cs : List Connection) (rs : List Road) → namesOf (missingLinks same (j .name) cs rs) ≡ namesOf rs
-      links-names [] rs = refl
-      links-names (c ∷ cs) rs = links-names cs (missingLink same (j .name) c rs) ∙ link-names (j .name) c rs
-
-      go : (k : JunctionKind) → namesOf (roadsAfter same k (j .name) (j .connections) rs) ≡ namesOf rs
-      go common = links-names (j .connections) rs
-      go direct = refl
-      go virtual = refl
-
-  pub start-names : (m : Map) → namesOf (startRoads same m) ≡ namesOf (m .roads)
-  unfolding startRoads
-  start-names m = names-map (withoutAlong same (m .junctions)) (along-name (m .junctions)) (m .roads)
 
 -- ---- a map and its copy
 -- How names are compared in the two, and which is whose new name: new ones are the same just where the old ones are.
@@ -175,16 +114,7 @@ module _ (N : Names) where
   unfolding withoutAlong
   without-along {js} h r r′ k = rw (in-virtual h r r′ k) (go (inVirtual (N .same) js r))
     where
-      less : Road → Road
-      less r = record {
-        name = r .name;
-        junction = r .junction;
-        predecessor = dropAlong (r .predecessor);
-        successor = dropAlong (r .successor);
-        sections = r .sections;
-      }
-
-      go : (b : Bool) → Roads (cond b (less r) r) (cond b (less r′) r′)
+      go : (b : Bool) → Roads (cond b (cleared r) r) (cond b (cleared r′) r′)
       go true = record {
         name = k .name;
         junction = k .junction;
@@ -281,7 +211,7 @@ module _ (N : Names) where
     unfolding missingLink
     missing-link {rs} {rs′} h c c′ l = record {
       any = rw (missing-end h c c′ l) (go (missingEnd (N .same) rs j c));
-      once = once-by-names (N .same) rs (missingLink (N .same) j c rs) (link-names (N .same) j c rs) (h .once);
+      once = came-once (came-link (N .same) j c rs) (h .once);
     }
       where
         go : (o : Option Bool) → InAnyOrder Roads (linkAtEnd (N .same) rs j c o) (linkAtEnd (N .same′) rs′ j′ c′ o)
@@ -382,7 +312,7 @@ module _ (N : Names) where
     start-renamed = record {
       any = any-map (withoutAlong (N .same) (m .junctions)) (withoutAlong (N .same′) (m′ .junctions))
           (without-along (h .junctions)) (h .roads .any);
-      once = once-by-names (N .same) (m .roads) (startRoads (N .same) m) (start-names (N .same) m) (h .roads .once);
+      once = came-once (came-start (N .same) m) (h .roads .once);
     }
 
     pub repair-renamed : MapRenamed (repair (N .same) m) (repair (N .same′) m′)

@@ -78,7 +78,19 @@ module _ {A : Type 0} (p : A → Bool) where
   some-found (x ∷ xs) zero d h e = ap (λ b. b || some? p xs) e
   some-found (x ∷ xs) (suc r) d h e = ap (λ b. p x || b) (some-found xs r d (le-of-suc-le-suc h) e) ∙ or-true (p x)
 
--- no two alike: the row that comes is like none of those before it (for a test that is the same both ways)
+-- no two alike: the first is like none of those after it
+pub distinct-later : {A : Type 0} (q : A → A → Bool) (x : A) (xs : List A) (r : ℕ) (d : A) → distinct q (x ∷ xs) ≡ true
+    → r < length xs → q x (getD xs r d) ≡ false
+distinct-later q x xs r d once h = go (q x (getD xs r d)) refl
+  where
+    none-like : some? (q x) xs ≡ false
+    none-like = not-true (some? (q x) xs) (and-left (not (some? (q x) xs)) (distinct q xs) once)
+
+    go : (b : Bool) → q x (getD xs r d) ≡ b → b ≡ false
+    go true e = sym (some-found (q x) xs r d h e) ∙ none-like
+    go false e = refl
+
+-- the row that comes is like none of those before it (for a test that is the same both ways)
 module _ {A : Type 0} (q : A → A → Bool) (swap : (a b : A) → q a b ≡ q b a) where
   pub distinct-snoc : (xs : List A) (y : A) → distinct q (xs ++ (y ∷ [])) ≡ distinct q xs && not (some? (q y) xs)
   distinct-snoc [] y = refl
@@ -242,8 +254,5 @@ module _ (alike : Span → Span → Bool) where
       other false q = q
       other true q =
           absurd (mathlib.Core.Bool.true≢false
-          (sym (some-found (λ (b : Road). alike (x .name) (b .name)) rs r d (le-of-suc-le-suc l)
-          (A .same-trans (x .name) n (getD rs r d .name) q (A .same-sym (getD rs r d .name) n e)))
-          ∙ not-true (some? (λ (b : Road). alike (x .name) (b .name)) rs)
-          (and-left (not (some? (λ (b : Road). alike (x .name) (b .name)) rs))
-          (distinct (λ (a b : Road). alike (a .name) (b .name)) rs) h)))
+          (sym (A .same-trans (x .name) n (getD rs r d .name) q (A .same-sym (getD rs r d .name) n e))
+          ∙ distinct-later (λ (a b : Road). alike (a .name) (b .name)) x rs r d h (le-of-suc-le-suc l)))

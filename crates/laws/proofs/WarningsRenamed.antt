@@ -13,9 +13,9 @@ use Rattle.model.specs.Repair.{Warning, missingEnd, missingLink, repairRoads, r
 use Rattle.model.specs.Repair.{warnOne, warnOver, warnings}
 use Rattle.laws.proofs.AnyOrder.{order-append}
 use Rattle.laws.proofs.Basics.{no-some}
-use Rattle.laws.proofs.RepairRenamed.{Junctions, Links, MapRenamed, Names, RoadsRenamed, link-names, missing-end}
-use Rattle.laws.proofs.RepairRenamed.{missing-link, namesOf, repair-roads, roads-names, start-names}
-use Rattle.laws.proofs.RepairRenamed.{start-renamed}
+use Rattle.laws.proofs.RepairKeeps.{came-junction, came-link, came-start, namesOf}
+use Rattle.laws.proofs.RepairRenamed.{Junctions, Links, MapRenamed, Names, RoadsRenamed, missing-end}
+use Rattle.laws.proofs.RepairRenamed.{missing-link, repair-roads, start-renamed}
 
 -- ---- the row of a road by its name
 module _ (same : Span → Span → Bool) where
@@ -61,12 +61,13 @@ module _ (N : Names) (names names′ : List Span) where
     pub known : knows (N .same) names (w .road) ≡ true
     pub known′ : knows (N .same′) names′ (w′ .road) ≡ true
 
-  record Roads (rs rs′ : List Road) : Type 0 where
+  -- the roads so far
+  record SoFar (rs rs′ : List Road) : Type 0 where
     renamed : RoadsRenamed N rs rs′
     named : namesOf rs ≡ names
     named′ : namesOf rs′ ≡ names′
 
-  warn-one : (i : ℕ) (j j′ : Span) → N .junctionName j j′ → {rs rs′ : List Road} → Roads rs rs′
+  warn-one : (i : ℕ) (j j′ : Span) → N .junctionName j j′ → {rs rs′ : List Road} → SoFar rs rs′
       → (c c′ : Connection) → Links N c c′ →
       InOrder Warned (warnOne (N .same) i j c rs) (warnOne (N .same′) i j′ c′ rs′)
   unfolding warnOne
@@ -89,21 +90,21 @@ module _ (N : Names) (names names′ : List Span) where
         known′ = rw (h .named′) at (known-end (N .same′) rs′ j′ c′ e found′);
       }) ended
 
-  warn-all : (i : ℕ) (j j′ : Span) → N .junctionName j j′ → {rs rs′ : List Road} → Roads rs rs′
+  warn-all : (i : ℕ) (j j′ : Span) → N .junctionName j j′ → {rs rs′ : List Road} → SoFar rs rs′
       → {cs cs′ : List Connection} → InOrder (Links N) cs cs′ →
       InOrder Warned (warnAll (N .same) i j cs rs) (warnAll (N .same′) i j′ cs′ rs′)
   warn-all i j j′ k h ended = ended
   warn-all i j j′ k {rs} {rs′} h (paired {x = c} {y = c′} l rest) =
       order-append (warn-one i j j′ k h c c′ l) (warn-all i j j′ k next rest)
     where
-      next : Roads (missingLink (N .same) j c rs) (missingLink (N .same′) j′ c′ rs′)
+      next : SoFar (missingLink (N .same) j c rs) (missingLink (N .same′) j′ c′ rs′)
       next = record {
         renamed = missing-link N j j′ k (h .renamed) c c′ l;
-        named = link-names (N .same) j c rs ∙ h .named;
-        named′ = link-names (N .same′) j′ c′ rs′ ∙ h .named′;
+        named = came-link (N .same) j c rs .names-kept ∙ h .named;
+        named′ = came-link (N .same′) j′ c′ rs′ .names-kept ∙ h .named′;
       }
 
-  warn-junction : (i : ℕ) (j j′ : Junction) → Junctions N j j′ → {rs rs′ : List Road} → Roads rs rs′ →
+  warn-junction : (i : ℕ) (j j′ : Junction) → Junctions N j j′ → {rs rs′ : List Road} → SoFar rs rs′ →
       InOrder Warned (warnAfter (N .same) i (j .kind) (j .name) (j .connections) rs)
       (warnAfter (N .same′) i (j′ .kind) (j′ .name) (j′ .connections) rs′)
   warn-junction i j j′ k {rs} {rs′} h = rw (k .kind) (go (j .kind))
@@ -115,17 +116,17 @@ module _ (N : Names) (names names′ : List Span) where
       go direct = ended
       go virtual = ended
 
-  warn-over : (i : ℕ) {js js′ : List Junction} → InOrder (Junctions N) js js′ → {rs rs′ : List Road} → Roads rs rs′ →
+  warn-over : (i : ℕ) {js js′ : List Junction} → InOrder (Junctions N) js js′ → {rs rs′ : List Road} → SoFar rs rs′ →
       InOrder Warned (warnOver (N .same) i js rs) (warnOver (N .same′) i js′ rs′)
   warn-over i ended h = ended
   warn-over i (paired {x = j} {y = j′} k rest) {rs} {rs′} h =
       order-append (warn-junction i j j′ k h) (warn-over (suc i) rest next)
     where
-      next : Roads (repairRoads (N .same) j rs) (repairRoads (N .same′) j′ rs′)
+      next : SoFar (repairRoads (N .same) j rs) (repairRoads (N .same′) j′ rs′)
       next = record {
         renamed = repair-roads N (h .renamed) j j′ k;
-        named = roads-names (N .same) j rs ∙ h .named;
-        named′ = roads-names (N .same′) j′ rs′ ∙ h .named′;
+        named = came-junction (N .same) j rs .names-kept ∙ h .named;
+        named′ = came-junction (N .same′) j′ rs′ .names-kept ∙ h .named′;
       }
 
 -- THE WARNINGS
@@ -134,6 +135,6 @@ pub warnings-renamed : (N : Names) (m m′ : Map) → MapRenamed N m m′ →
 unfolding warnings
 warnings-renamed N m m′ h = warn-over N (namesOf (m .roads)) (namesOf (m′ .roads)) 0 (h .junctions) (record {
   renamed = start-renamed N h;
-  named = start-names (N .same) m;
-  named′ = start-names (N .same′) m′;
+  named = came-start (N .same) m .names-kept;
+  named′ = came-start (N .same′) m′ .names-kept;
 })
