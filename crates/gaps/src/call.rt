@@ -17,7 +17,7 @@ use words::index;
 use words::tests::both;
 
 // The rows written, or why the call was refused.
-#[derive(Drop)]
+#[derive(Clone, Copy)]
 pub enum Gaps {
     Written(usize),
     Refused(Verdict),

@@ -1,4 +1,6 @@
 // The gap check: the lane links whose ends do not meet.
+#![tactic(auto)]
+
 pub mod call;
 pub mod links;
 pub mod lists;

@@ -45,7 +45,7 @@ pub fn there_at(ws: &[u32], at: usize) -> u32
 }
 
 // What a contactPoint says: whether the contact is the end, whether it is given, whether it is spelled loosely.
-#[derive(Drop)]
+#[derive(Clone, Copy)]
 pub struct ContactPoint {
     pub contact: bool,
     pub given: bool,

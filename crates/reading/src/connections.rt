@@ -13,7 +13,7 @@ use words::tests::bit;
 use words::{names, rows};
 
 // How many connections, pairs and warnings there are.
-#[derive(Drop)]
+#[derive(Clone, Copy)]
 pub struct Reach {
     pub connections: usize,
     pub pairs: usize,

@@ -23,7 +23,7 @@ use words::rows;
 use words::tests::both;
 
 // How many rows each output has.
-#[derive(Drop)]
+#[derive(Clone, Copy)]
 pub struct Rows {
     pub junctions: usize,
     pub connections: usize,
@@ -32,7 +32,7 @@ pub struct Rows {
 }
 
 // What the reading of junctions answers: the rows written, or why it was refused.
-#[derive(Drop)]
+#[derive(Clone, Copy)]
 pub enum ReadJunctions {
     Written(Rows),
     Refused(Verdict),

@@ -15,7 +15,7 @@ use words::rows;
 use words::tests::both;
 
 // What the reading of lanes answers: the rows written, or why it was refused.
-#[derive(Drop)]
+#[derive(Clone, Copy)]
 pub enum ReadLanes {
     Written(usize),
     Refused(Verdict),

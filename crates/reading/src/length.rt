@@ -5,7 +5,7 @@ ghost use Rattle.model.specs.Length.{far_off, length_call};
 ghost use Rattle.reading.specs.Answers.{checked_of};
 
 // What the check answers: nothing to report, the sum that is off, or starts and lengths that differ in count.
-#[derive(Drop)]
+#[derive(Clone, Copy)]
 pub enum Length {
     Fine,
     Off(f64),

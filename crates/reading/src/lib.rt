@@ -1,5 +1,7 @@
 // Attribute reading: lane numbers, targets, lanes and junctions from attributes as a file has them; and the length
 // check.
+#![tactic(auto)]
+
 pub mod attributes;
 pub mod connections;
 pub mod junctions;

@@ -11,7 +11,7 @@ use words::rows;
 use words::tests::{both, is};
 
 // How many pairs and warnings there are.
-#[derive(Drop)]
+#[derive(Clone, Copy)]
 pub struct Links {
     pub pairs: usize,
     pub warnings: usize,

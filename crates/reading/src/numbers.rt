@@ -8,7 +8,7 @@ use words::numbers::negate;
 use words::tests::both;
 
 // A link as written: flag and number; without flag the number is 0.
-#[derive(Drop)]
+#[derive(Clone, Copy)]
 pub struct Link {
     pub flag: u32,
     pub number: u32,

@@ -22,7 +22,7 @@ use words::tests::{bit, both, is, most};
 const NO_ROW: u32 = 4294967295;
 
 // What the reading of targets answers: the targets and the warnings written, or why it was refused.
-#[derive(Drop)]
+#[derive(Clone, Copy)]
 pub enum ReadTargets {
     Written(usize, usize),
     Refused(Verdict),

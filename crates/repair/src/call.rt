@@ -15,7 +15,7 @@ use words::tests::both;
 use words::{index, rows};
 
 // How many rows each output has.
-#[derive(Drop)]
+#[derive(Clone, Copy)]
 pub struct Rows {
     pub roads: usize,
     pub junctions: usize,
@@ -25,7 +25,7 @@ pub struct Rows {
 }
 
 // What repair answers. Document 01's number and values of each case are in specs/Answers.
-#[derive(Drop)]
+#[derive(Clone, Copy)]
 pub enum Repaired {
     Written(Rows),
     Refused(Verdict),

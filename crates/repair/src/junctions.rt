@@ -11,7 +11,7 @@ use crate::targets::{at, index_at};
 use words::rows;
 
 // How many connections, pairs and warnings there are.
-#[derive(Drop)]
+#[derive(Clone, Copy)]
 pub struct Counts {
     pub connections: usize,
     pub pairs: usize,

@@ -10,7 +10,7 @@ use crate::targets::{at, index_at, one};
 use words::rows;
 
 // How many connections and pairs are laid.
-#[derive(Drop)]
+#[derive(Clone, Copy)]
 pub struct Reach {
     pub connections: usize,
     pub pairs: usize,

@@ -1,4 +1,6 @@
 // Repair: the links to a junction that its incoming roads leave out, and a direct junction's connections the other way.
+#![tactic(auto)]
+
 pub mod along;
 pub mod call;
 pub mod junctions;

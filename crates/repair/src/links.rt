@@ -32,10 +32,10 @@ fn back_end(text: &[u8], words: [u32; 7], connections: &[u32], c: usize) -> usiz
 
 // That end, if it is vacant in a road.
 fn vacant_end(roads: &[u32], junctions: &[u32], ends: &[u32], road: RoadId, e: usize) -> usize
-    ghost { List ℕ → Road }
-    requires* road_value { λ R. ⌜ (λ sections. road_now sections roads.now junctions.now ends.now road.0) ≡ R ⌝ }
-    requires* fact { λ _. ⌜ (road.0 < 16384) × (e ≤ 2) ⌝ }
-    ensures* { λ R q. ⌜ (q ≤ 2) × ((sections : List ℕ) → end_opt q ≡ bind_o (end_opt e) (vacant_end (R sections))) ⌝ }
+    ghost row: { List ℕ → Road }
+    requires row_is { (λ sections. road_now sections roads.now junctions.now ends.now road.0) ≡ row }
+    requires in_bounds { (road.0 < 16384) × (e ≤ 2) }
+    ensures { (result ≤ 2) × ((sections : List ℕ) → end_opt result ≡ bind_o (end_opt e) (vacant_end (row sections))) }
 {
     if e == 0 {
         return 0;

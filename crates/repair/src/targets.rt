@@ -116,11 +116,11 @@ pub fn meets(
     road: RoadId,
     k: usize,
 ) -> bool
-    ghost { List ℕ → Road }
-    requires* road_value { λ R. ⌜ (λ sections. road_now sections roads.now junctions.now ends.now road.0) ≡ R ⌝ }
-    requires* fact { λ _. ⌜ (road.0 < 16384) × (k < 16384) ⌝ }
-    ensures* { λ R q. ⌜ ((sections : List ℕ) →
-        q ≡ meets (same_in text.now) (name_at 5 0 junctions.now k) (R sections)) ⌝ }
+    ghost row: { List ℕ → Road }
+    requires row_is { (λ sections. road_now sections roads.now junctions.now ends.now road.0) ≡ row }
+    requires in_bounds { (road.0 < 16384) × (k < 16384) }
+    ensures { ((sections : List ℕ) →
+        result ≡ meets (same_in text.now) (name_at 5 0 junctions.now k) (row sections)) }
 {
     let r = road.0;
     let a = target(roads, junctions, ends, RoadId(r), 0);
@@ -140,12 +140,12 @@ pub fn meeting_end(
     road: RoadId,
     k: usize,
 ) -> usize
-    ghost { List ℕ → Road }
-    requires* road_value { λ R. ⌜ (λ sections. road_now sections roads.now junctions.now ends.now road.0) ≡ R ⌝ }
-    requires* fact { λ _. ⌜ (road.0 < 16384) × (k < 16384) ⌝ }
-    ensures* q_bound { λ _ q. ⌜ q ≤ 2 ⌝ }
-    ensures* fact_2 { λ R q. ⌜ ((sections : List ℕ) →
-        end_opt q ≡ meeting_end (same_in text.now) (name_at 5 0 junctions.now k) (R sections)) ⌝ }
+    ghost row: { List ℕ → Road }
+    requires row_is { (λ sections. road_now sections roads.now junctions.now ends.now road.0) ≡ row }
+    requires in_bounds { (road.0 < 16384) × (k < 16384) }
+    ensures at_most { result ≤ 2 }
+    ensures end { ((sections : List ℕ) →
+        end_opt result ≡ meeting_end (same_in text.now) (name_at 5 0 junctions.now k) (row sections)) }
 {
     let r = road.0;
     let b = target(roads, junctions, ends, RoadId(r), 1);

@@ -1,4 +1,6 @@
 // Recorded answers of the original, run through the proved calls: how many come out as recorded.
+#![tactic(auto)]
+
 mod calls;
 mod compare;
 mod convert;

@@ -11,7 +11,7 @@ use tables::verdict::{Verdict, admitted, reversal_verdict};
 use words::tests::both;
 
 // How many rows were written to each output.
-#[derive(Drop)]
+#[derive(Clone, Copy)]
 pub struct Counts {
     pub roads: usize,
     pub sections: usize,
@@ -22,14 +22,14 @@ pub struct Counts {
 }
 
 // The rows written, or why the call was refused.
-#[derive(Drop)]
+#[derive(Clone, Copy)]
 pub enum Reversed {
     Written(Counts),
     Refused(Verdict),
 }
 
 // How many words each table, or each output, has.
-#[derive(Drop)]
+#[derive(Clone, Copy)]
 struct Lengths {
     roads: usize,
     sections: usize,

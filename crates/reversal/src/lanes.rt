@@ -31,7 +31,7 @@ fn turned_way(mark: bool, way: u32) -> u32
 
 // A lane's row: its identity, its road's name, its section, number and direction, and its links at the end and at the
 // start of its road, each a flag and a lane number.
-#[derive(Drop)]
+#[derive(Clone, Copy)]
 struct Row {
     id: u32,
     start: u32,

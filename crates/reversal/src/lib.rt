@@ -1,4 +1,6 @@
 // Reversal of the reference lines of the marked roads.
+#![tactic(auto)]
+
 pub mod call;
 pub mod lanes;
 pub mod links;

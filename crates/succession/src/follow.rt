@@ -32,17 +32,17 @@ fn cross(
     run: &mut [u32],
     n: usize,
 ) -> usize
-    ghost { Rows }
-    requires* ends_value { λ R. ⌜ rows_of roads.now sections.now junctions.now connections.now pairs.now
-        lanes.now owner.now sides.now ends.now ≡ R ⌝ }
-    requires* fact { λ _. ⌜ Sound roads.now sections.now junctions.now connections.now pairs.now lanes.now
-        owner.now sides.now ends.now heads.now next.now ⌝ }
-    requires* fact_2 { λ _. ⌜ Meeting junctions.now connections.now sides.now mheads.now mnext.now ⌝ }
-    requires* fact_3 { λ _. ⌜ (l < length lanes.now / 10) × (at + 4 < length roads.now) × (link + 1 < length lanes.now)
+    ghost read: { Rows }
+    requires read_is { rows_of roads.now sections.now junctions.now connections.now pairs.now
+        lanes.now owner.now sides.now ends.now ≡ read }
+    requires sound { Sound roads.now sections.now junctions.now connections.now pairs.now lanes.now
+        owner.now sides.now ends.now heads.now next.now }
+    requires chained { Meeting junctions.now connections.now sides.now mheads.now mnext.now }
+    requires in_bounds { (l < length lanes.now / 10) × (at + 4 < length roads.now) × (link + 1 < length lanes.now)
         × (eqb (get_or roads.now (at + 1) 0) 1 ≡ true → to ≤ length junctions.now / 5)
-        × (eqb (get_or roads.now (at + 1) 0) 1 ≡ false → to ≤ length roads.now / 20) ⌝ }
-    requires* fact_4 { λ R. ⌜ Room n (cross_by_row R l at to link) run.old ⌝ }
-    ensures* { λ R q. ⌜ Took both n (cross_by_row R l at to link) run.old run.new q ⌝ }
+        × (eqb (get_or roads.now (at + 1) 0) 1 ≡ false → to ≤ length roads.now / 20) }
+    requires room { Room n (cross_by_row read l at to link) run.old }
+    ensures { Took both n (cross_by_row read l at to link) run.old run.new result }
 {
     if roads[at] != 1 {
         return n;
@@ -111,18 +111,18 @@ fn leave(
     run: &mut [u32],
     n: usize,
 ) -> usize
-    ghost { Rows }
-    requires* ends_value { λ R. ⌜ rows_of roads.now sections.now junctions.now connections.now pairs.now
-        lanes.now owner.now sides.now ends.now ≡ R ⌝ }
-    requires* fact { λ _. ⌜ Sound roads.now sections.now junctions.now connections.now pairs.now lanes.now
-        owner.now sides.now ends.now heads.now next.now ⌝ }
-    requires* fact_2 { λ _. ⌜ Meeting junctions.now connections.now sides.now mheads.now mnext.now ⌝ }
-    requires* fact_3 { λ _. ⌜ (l < length lanes.now / 10) × (r.0 < length roads.now / 20) × (link + 1 < length lanes.now) ⌝ }
-    requires* fact_4 { λ R. ⌜ Room n (cross_by_row R l (pick forward (r.0 * 20 + 4) (r.0 * 20 + 11))
-        (pick forward (get_or R.ends (r.0 * 2) 0) (get_or R.ends (r.0 * 2 + 1) 0)) link) run.old ⌝ }
-    ensures* { λ R q. ⌜ Took both n (cross_by_row R l (pick forward (r.0 * 20 + 4) (r.0 * 20 + 11))
-        (pick forward (get_or R.ends (r.0 * 2) 0) (get_or R.ends (r.0 * 2 + 1) 0)) link)
-        run.old run.new q ⌝ }
+    ghost read: { Rows }
+    requires read_is { rows_of roads.now sections.now junctions.now connections.now pairs.now
+        lanes.now owner.now sides.now ends.now ≡ read }
+    requires sound { Sound roads.now sections.now junctions.now connections.now pairs.now lanes.now
+        owner.now sides.now ends.now heads.now next.now }
+    requires chained { Meeting junctions.now connections.now sides.now mheads.now mnext.now }
+    requires in_bounds { (l < length lanes.now / 10) × (r.0 < length roads.now / 20) × (link + 1 < length lanes.now) }
+    requires room { Room n (cross_by_row read l (pick forward (r.0 * 20 + 4) (r.0 * 20 + 11))
+        (pick forward (get_or read.ends (r.0 * 2) 0) (get_or read.ends (r.0 * 2 + 1) 0)) link) run.old }
+    ensures { Took both n (cross_by_row read l (pick forward (r.0 * 20 + 4) (r.0 * 20 + 11))
+        (pick forward (get_or read.ends (r.0 * 2) 0) (get_or read.ends (r.0 * 2 + 1) 0)) link)
+        run.old run.new result }
 {
     let row = r.0 as usize;
     if forward {
@@ -194,15 +194,15 @@ fn exits(
     run: &mut [u32],
     n: usize,
 ) -> usize
-    ghost { Rows }
-    requires* ends_value { λ R. ⌜ rows_of roads.now sections.now junctions.now connections.now pairs.now
-        lanes.now owner.now sides.now ends.now ≡ R ⌝ }
-    requires* fact { λ _. ⌜ Sound roads.now sections.now junctions.now connections.now pairs.now lanes.now
-        owner.now sides.now ends.now heads.now next.now ⌝ }
-    requires* fact_2 { λ _. ⌜ Meeting junctions.now connections.now sides.now mheads.now mnext.now ⌝ }
-    requires* l_in_bounds { λ _. ⌜ l < length lanes.now / 10 ⌝ }
-    requires* fact_3 { λ R. ⌜ Room n (exits_by_row R l forward) run.old ⌝ }
-    ensures* { λ R q. ⌜ Took both n (exits_by_row R l forward) run.old run.new q ⌝ }
+    ghost read: { Rows }
+    requires read_is { rows_of roads.now sections.now junctions.now connections.now pairs.now
+        lanes.now owner.now sides.now ends.now ≡ read }
+    requires sound { Sound roads.now sections.now junctions.now connections.now pairs.now lanes.now
+        owner.now sides.now ends.now heads.now next.now }
+    requires chained { Meeting junctions.now connections.now sides.now mheads.now mnext.now }
+    requires l_in_bounds { l < length lanes.now / 10 }
+    requires room { Room n (exits_by_row read l forward) run.old }
+    ensures { Took both n (exits_by_row read l forward) run.old run.new result }
 {
     let r = RoadId(owner[l] - 1);
     let link = step::link_at(l, forward);
@@ -263,14 +263,14 @@ pub fn successors_of(
     l: usize,
     run: &mut [u32],
 ) -> usize
-    ghost { Rows }
-    requires* ends_value { λ R. ⌜ rows_of roads.now sections.now junctions.now connections.now pairs.now
-        lanes.now owner.now sides.now ends.now ≡ R ⌝ }
-    requires* fact { λ _. ⌜ Sound roads.now sections.now junctions.now connections.now pairs.now lanes.now
-        owner.now sides.now ends.now heads.now next.now ⌝ }
-    requires* fact_2 { λ _. ⌜ Meeting junctions.now connections.now sides.now mheads.now mnext.now ⌝ }
-    requires* fact_3 { λ R. ⌜ (l < length lanes.now / 10) × (length (exits_by_row R l true) + length (exits_by_row R l false) ≤ length run.old) ⌝ }
-    ensures* { λ R q. ⌜ Resolved R l run.old run.new q ⌝ }
+    ghost read: { Rows }
+    requires read_is { rows_of roads.now sections.now junctions.now connections.now pairs.now
+        lanes.now owner.now sides.now ends.now ≡ read }
+    requires sound { Sound roads.now sections.now junctions.now connections.now pairs.now lanes.now
+        owner.now sides.now ends.now heads.now next.now }
+    requires chained { Meeting junctions.now connections.now sides.now mheads.now mnext.now }
+    requires in_bounds { (l < length lanes.now / 10) × (length (exits_by_row read l true) + length (exits_by_row read l false) ≤ length run.old) }
+    ensures { Resolved read l run.old run.new result }
 {
     let direction = lanes[l * 10 + 5];
     if direction == 0 {

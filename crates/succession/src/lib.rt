@@ -1,4 +1,6 @@
 // Succession: the lanes onward of each lane, and the lanes before.
+#![tactic(auto)]
+
 pub mod answer;
 pub mod back;
 pub mod call;

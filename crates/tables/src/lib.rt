@@ -1,4 +1,6 @@
 // The first refusal that applies to a call, and what the calls look up.
+#![tactic(auto)]
+
 pub mod check;
 pub mod lookup;
 pub mod verdict;

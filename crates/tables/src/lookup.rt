@@ -7,15 +7,15 @@ ghost use Rattle.tables.specs.Found.{row_found, first_row};
 use words::index;
 
 // A road, by its row.
-#[derive(Drop)]
+#[derive(Clone, Copy)]
 pub struct RoadId(pub u32);
 
 // A lane, by its identity.
-#[derive(Drop)]
+#[derive(Clone, Copy)]
 pub struct LaneId(pub u32);
 
 // A row of a table, or none.
-#[derive(Drop)]
+#[derive(Clone, Copy)]
 pub enum RowFound {
     Row(u32),
     Nothing,

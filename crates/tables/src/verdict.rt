@@ -14,7 +14,7 @@ use words::index;
 use words::tests::both;
 
 // Admitted, or the first reason for a refusal. Document 01's number of each is in specs/Verdicts.
-#[derive(Drop)]
+#[derive(Clone, Copy)]
 pub enum Verdict {
     Admitted,
     BadSize,

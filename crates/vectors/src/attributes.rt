@@ -208,7 +208,7 @@ fn raw_links() -> [u32; 28] {
 }
 
 // The four outputs of the reading of junctions.
-#[derive(Drop)]
+#[derive(Clone, Copy)]
 struct Outputs {
     junctions: [u32; 11],
     connections: [u32; 15],

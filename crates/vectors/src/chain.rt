@@ -19,7 +19,7 @@ pub const TEXT: [u8; 22] = *b"wcej-1endstartEndStart";
 // Each road has one section.
 pub const SECTIONS: [u32; 3] = [0, 0, 0];
 
-#[derive(Drop)]
+#[derive(Clone, Copy)]
 pub struct Map {
     pub roads: [u32; 60],
     pub junctions: [u32; 5],
@@ -30,7 +30,7 @@ pub struct Map {
 }
 
 // The lanes onward of each lane, and the lanes before: offsets and identities.
-#[derive(Drop)]
+#[derive(Clone, Copy)]
 pub struct Lists {
     pub onward: [u32; 4],
     pub onward_ids: [u32; 3],

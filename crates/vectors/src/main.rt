@@ -1,4 +1,6 @@
 // Worked cases of every call, in print: `stdout` has what they must be.
+#![tactic(auto)]
+
 mod attributes;
 mod cards;
 mod chain;

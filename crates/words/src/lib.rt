@@ -1,4 +1,6 @@
 // The lowest code: rows and words of tables, names in a text, lane numbers, and rows found by a key.
+#![tactic(auto)]
+
 pub mod index;
 pub mod names;
 pub mod numbers;
