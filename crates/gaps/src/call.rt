@@ -36,10 +36,9 @@ fn first_verdict(
     offsets: &[u32],
     ids: &[u32],
 ) -> Verdict
-    ghost t: { Tables }
-    requires { all_tables text.now roads.now sections.now junctions.now connections.now
-        pairs.now lanes.now edges.now ≡ t }
-    ensures { refusal_of result ≡ first_broken (take 9 (gap_rules t offsets.now ids.now)) }
+    ensures { let t : Tables = all_tables text.now roads.now sections.now junctions.now connections.now
+        pairs.now lanes.now edges.now in
+        refusal_of result ≡ first_broken (take 9 (gap_rules t offsets.now ids.now)) }
 {
     let mut heads = [0u32; 16384];
     let mut next = [0u32; 16384];
@@ -94,11 +93,10 @@ fn gap_verdict(
     heads: &mut [u32],
     next: &mut [u32],
 ) -> Verdict
-    ghost t: { Tables }
-    requires edges_value { all_tables text.now roads.now sections.now junctions.now connections.now
-        pairs.now lanes.now edges.now ≡ t }
     requires empty { Empty heads.old next.old }
-    ensures result_value { refusal_of result ≡ first_broken (gap_rules t offsets.now ids.now) }
+    ensures result_value { let t : Tables = all_tables text.now roads.now sections.now junctions.now connections.now
+        pairs.now lanes.now edges.now in
+        refusal_of result ≡ first_broken (gap_rules t offsets.now ids.now) }
     ensures lent { refusal_of result ≡ none → Lent lanes.now edges.now heads.new
         next.new ids.now }
 {
@@ -134,11 +132,10 @@ fn write_rows(
     ids: &[u32],
     out: &mut [u32],
 ) -> Gaps
-    ghost rows: { List ℕ }
-    requires lanes_value { rows_below lanes.now edges.now offsets.now ids.now (length lanes.now / 10) ≡ rows }
     requires lent { Lent lanes.now edges.now heads.now next.now ids.now }
     requires ids_value { lists_right lanes.now offsets.now ids.now ≡ true }
-    ensures { outcome (answer_of result) out.new
+    ensures { let rows : List ℕ = rows_below lanes.now edges.now offsets.now ids.now (length lanes.now / 10) in
+        outcome (answer_of result) out.new
         ≡ written_or9 (table_writing gap_width) rows out.old }
 {
     if GAP_ROW * ids.len() <= out.len() {

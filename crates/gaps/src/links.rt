@@ -90,14 +90,14 @@ fn link_row(
     at: usize,
     write: bool,
 ) -> usize
-    ghost row: { List ℕ }
-    requires id_value { link_row lanes.now edges.now lane id.0 ≡ row }
     requires by_id { ById lanes.now heads.now next.now }
     requires edges_len { length edges.now ≡ 12 * (length lanes.now / 10) }
     requires lane_in_bounds { (lane < length lanes.now / 10) × (at < 1048576) }
     requires nonzero { 0 < last_of (length lanes.now / 10) (is_id lanes.now id.0) }
-    requires room { Room write at row out.old }
-    ensures { Put write at row out.old out.new result }
+    requires room { let row : List ℕ = link_row lanes.now edges.now lane id.0 in
+        Room write at row out.old }
+    ensures { let row : List ℕ = link_row lanes.now edges.now lane id.0 in
+        Put write at row out.old out.new result }
 {
     match lookup::lane_row(lanes, heads, next, id) {
         RowFound::Row(r) => {
@@ -122,14 +122,14 @@ fn lane_rows(
     at: usize,
     write: bool,
 ) -> usize
-    ghost rows: { List ℕ }
-    requires count_value { lane_rows lanes.now edges.now ids.now lane first count ≡ rows }
     requires lent { Lent lanes.now edges.now heads.now next.now ids.now }
     requires ids_value { every (borne (lanes_in lanes.now)) ids.now ≡ true }
     requires lane_in_bounds { (lane < length lanes.now / 10) × (first + count ≤ length ids.now)
         × (at ≤ gap_width * first) }
-    requires room { Room write at rows out.old }
-    ensures { Put write at rows out.old out.new result }
+    requires room { let rows : List ℕ = lane_rows lanes.now edges.now ids.now lane first count in
+        Room write at rows out.old }
+    ensures { let rows : List ℕ = lane_rows lanes.now edges.now ids.now lane first count in
+        Put write at rows out.old out.new result }
 {
     let mut place = at;
     let mut k = 0;
@@ -152,12 +152,12 @@ pub fn all_rows(
     out: &mut [u32],
     write: bool,
 ) -> usize
-    ghost rows: { List ℕ }
-    requires lanes_value { rows_below lanes.now edges.now offsets.now ids.now (length lanes.now / 10) ≡ rows }
     requires lent { Lent lanes.now edges.now heads.now next.now ids.now }
     requires ids_value { lists_right lanes.now offsets.now ids.now ≡ true }
-    requires room { Room write 0 rows out.old }
-    ensures { Put write 0 rows out.old out.new result }
+    requires room { let rows : List ℕ = rows_below lanes.now edges.now offsets.now ids.now (length lanes.now / 10) in
+        Room write 0 rows out.old }
+    ensures { let rows : List ℕ = rows_below lanes.now edges.now offsets.now ids.now (length lanes.now / 10) in
+        Put write 0 rows out.old out.new result }
 {
     let n = lanes.len() / 10;
     let mut place = 0;

@@ -59,12 +59,12 @@ fn passed_over(
     c: usize,
     kind: u32,
 ) -> bool
-    ghost t: { RawTables }
-    requires connections_value { raw_tables text.now junctions.now connections.now [] ≡ t }
     requires j_in_bounds { (j < length junctions.now / 8) × (c < length connections.now / 14) × (j < 16384)
         × (c < 16384) }
-    requires kind_value { kind ≡ kind_word (kind_at t j) }
-    ensures { result ≡ passed_over t j c }
+    requires kind_value { let t : RawTables = raw_tables text.now junctions.now connections.now [] in
+        kind ≡ kind_word (kind_at t j) }
+    ensures { let t : RawTables = raw_tables text.now junctions.now connections.now [] in
+        result ≡ passed_over t j c }
 {
     if kind != 2 {
         return false;
@@ -137,14 +137,17 @@ fn read_connection(
     wo: &mut [u32],
     w: usize,
 ) -> Reach
-    ghost g: { RawTables × ConnectionOuts }
-    requires w_value { (
+    requires at { let g : RawTables × ConnectionOuts = (
       raw_tables text.now junctions.now connections.now links.now,
       connection_outs co.old n po.old p wo.old w,
-    ) ≡ g }
-    requires at { At g.0 j kind }
+    ) in
+        At g.0 j kind }
     requires c_in_bounds { (c < length connections.now / 14) × Low connections.now c n p w }
-    ensures { ConnectionsRead (kept_connections g.0 j c) (connection_warnings g.0 j c) g.1
+    ensures { let g : RawTables × ConnectionOuts = (
+      raw_tables text.now junctions.now connections.now links.now,
+      connection_outs co.old n po.old p wo.old w,
+    ) in
+        ConnectionsRead (kept_connections g.0 j c) (connection_warnings g.0 j c) g.1
         (connection_outs co.new result.connections po.new result.pairs wo.new result.warnings)
         × Low connections.now (c + 1) result.connections result.pairs result.warnings }
 {
@@ -196,14 +199,17 @@ pub fn read_connections(
     wo: &mut [u32],
     w: usize,
 ) -> Reach
-    ghost g: { RawTables × ConnectionOuts }
-    requires w_value { (
+    requires at { let g : RawTables × ConnectionOuts = (
       raw_tables text.now junctions.now connections.now links.now,
       connection_outs co.old n po.old p wo.old w,
-    ) ≡ g }
-    requires at { At g.0 j kind }
+    ) in
+        At g.0 j kind }
     requires count_in_bounds { (first + count ≤ length connections.now / 14) × Low connections.now first n p w }
-    ensures { ConnectionsRead (gather (kept_connections g.0 j) (part_rows first count))
+    ensures { let g : RawTables × ConnectionOuts = (
+      raw_tables text.now junctions.now connections.now links.now,
+      connection_outs co.old n po.old p wo.old w,
+    ) in
+        ConnectionsRead (gather (kept_connections g.0 j) (part_rows first count))
         (gather (connection_warnings g.0 j) (part_rows first count)) g.1
         (connection_outs co.new result.connections po.new result.pairs wo.new result.warnings)
         × Low connections.now (first + count) result.connections result.pairs result.warnings }

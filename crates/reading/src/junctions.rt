@@ -67,14 +67,13 @@ fn read_junction(
     wo: &mut [u32],
     w: usize,
 ) -> Rows
-    ghost g: { RawTables × JunctionOuts }
-    requires w_value { (
-      raw_tables text.now junctions.now connections.now links.now,
-      junction_outs jo.old m co.old n po.old p wo.old w,
-    ) ≡ g }
     requires ready { Ready junctions.now connections.now links.now }
     requires j_in_bounds { (j < length junctions.now / 8) × Before junctions.now connections.now j m n p w }
-    ensures { JunctionsRead (to_list (read_junction g.0 j)) (junction_warnings g.0 j) g.1
+    ensures { let g : RawTables × JunctionOuts = (
+      raw_tables text.now junctions.now connections.now links.now,
+      junction_outs jo.old m co.old n po.old p wo.old w,
+    ) in
+        JunctionsRead (to_list (read_junction g.0 j)) (junction_warnings g.0 j) g.1
         (junction_outs jo.new result.junctions co.new result.connections po.new result.pairs
         wo.new result.warnings)
         × Before junctions.now connections.now (j + 1) result.junctions result.connections result.pairs
@@ -134,13 +133,12 @@ fn read_all(
     po: &mut [u32],
     wo: &mut [u32],
 ) -> Rows
-    ghost g: { RawTables × JunctionOuts }
-    requires wo_value { (
+    requires ready { Ready junctions.now connections.now links.now }
+    ensures { let g : RawTables × JunctionOuts = (
       raw_tables text.now junctions.now connections.now links.now,
       junction_outs jo.old 0 co.old 0 po.old 0 wo.old 0,
-    ) ≡ g }
-    requires ready { Ready junctions.now connections.now links.now }
-    ensures { JunctionsRead (read_junctions g.0) (read_warnings g.0) g.1
+    ) in
+        JunctionsRead (read_junctions g.0) (read_warnings g.0) g.1
         (junction_outs jo.new result.junctions co.new result.connections po.new result.pairs
         wo.new result.warnings)
         × (result.junctions ≤ 16384)
@@ -178,9 +176,8 @@ fn read_all(
 
 // All refusals but 9.
 fn junctions_verdict(text: &[u8], junctions: &[u32], connections: &[u32], links: &[u32]) -> Verdict
-    ghost t: { RawTables }
-    requires { raw_tables text.now junctions.now connections.now links.now ≡ t }
-    ensures { refusal_of result ≡ first_broken (raw_junction_rules t) }
+    ensures { let t : RawTables = raw_tables text.now junctions.now connections.now links.now in
+        refusal_of result ≡ first_broken (raw_junction_rules t) }
 {
     let a = both(
         raw_sized(text, 8, junctions.len()),

@@ -52,10 +52,9 @@ fn read_link(
     wo: &mut [u32],
     w: usize,
 ) -> Links
-    ghost old: { LinkOuts }
-    requires w_value { link_outs po.old p wo.old w ≡ old }
     requires l_in_bounds { (l < length links.now / 4) × (l < 16384) × (p ≤ 16384) × (w ≤ 32768) }
-    ensures { LinksRead (pairs_at text.now links.now l)
+    ensures { let old : LinkOuts = link_outs po.old p wo.old w in
+        LinksRead (pairs_at text.now links.now l)
         (drops_at text.now links.now j c l) old
         (link_outs po.new result.pairs wo.new result.warnings)
         × (result.pairs ≤ p + 1) × (result.warnings ≤ w + 1) }
@@ -89,11 +88,10 @@ pub fn read_links(
     wo: &mut [u32],
     w: usize,
 ) -> Links
-    ghost old: { LinkOuts }
-    requires w_value { link_outs po.old p wo.old w ≡ old }
     requires count_in_bounds { (first + count ≤ length links.now / 4) × (first + count ≤ 16384) × (p + count ≤ 16384)
         × (w + count ≤ 32768) }
-    ensures { LinksRead (gather (pairs_at text.now links.now) (part_rows first count))
+    ensures { let old : LinkOuts = link_outs po.old p wo.old w in
+        LinksRead (gather (pairs_at text.now links.now) (part_rows first count))
         (gather (drops_at text.now links.now j c) (part_rows first count)) old
         (link_outs po.new result.pairs wo.new result.warnings)
         × (result.pairs ≤ p + count) × (result.warnings ≤ w + count) }

@@ -79,10 +79,9 @@ fn write(
     pairs_out: &mut [u32],
     warnings_out: &mut [u32],
 ) -> Repaired
-    ghost content: { RepairOutputs }
-    requires w_value { content_now roads.now junctions.now ends.now js.now cs.now ps.now warn.now n p w ≡ content }
     requires write_due { WriteDue roads.now junctions.now js.now cs.now ps.now warn.now n p w }
-    ensures { outcome (answer_of result)
+    ensures { let content : RepairOutputs = content_now roads.now junctions.now ends.now js.now cs.now ps.now warn.now n p w in
+        outcome (answer_of result)
         (outputs roads_out.new junctions_out.new
         connections_out.new pairs_out.new warnings_out.new)
         ≡ written_or9 repair_writing content
@@ -136,10 +135,9 @@ fn mend(
     pairs_out: &mut [u32],
     warnings_out: &mut [u32],
 ) -> Repaired
-    ghost t: { List ℕ → Tables }
-    requires pairs_value { (λ sections. map_tables text.now roads.now sections junctions.now connections.now pairs.now) ≡ t }
     requires mend_due { MendDue text.now roads.now junctions.now connections.now pairs.now heads.now next.now ends.old }
-    ensures { (sections : List ℕ) → Begun (t sections) ends.old → outcome (answer_of result)
+    ensures { let t : List ℕ → Tables = (λ sections. map_tables text.now roads.now sections junctions.now connections.now pairs.now) in
+        (sections : List ℕ) → Begun (t sections) ends.old → outcome (answer_of result)
         (outputs roads_out.new junctions_out.new
         connections_out.new pairs_out.new warnings_out.new)
         ≡ written_or9 repair_writing (repair_content (t sections))

@@ -46,16 +46,15 @@ fn lay_junction(
     cs: &mut [u32],
     ps: &mut [u32],
 ) -> Reach
-    ghost g: { (List ℕ → Tables) × Pile }
-    requires ps_value { (
-      (λ sections. map_tables text.now roads.now sections junctions.now connections.now pairs.now),
-      pile n p cs.old ps.old,
-    ) ≡ g }
     requires ruled { Ruled text.now roads.now junctions.now connections.now pairs.now heads.now next.now
         cheads.now cnext.now }
     requires lay_due { LayDue junctions.now connections.now cs.old ps.old k n p }
     ensures twice { Twice junctions.now connections.now (k + 1) result.connections result.pairs }
-    ensures by_index { (sections : List ℕ) → Laid (repaired_at (g.0 sections) ends.now k).connections
+    ensures by_index { let g : (List ℕ → Tables) × Pile = (
+      (λ sections. map_tables text.now roads.now sections junctions.now connections.now pairs.now),
+      pile n p cs.old ps.old,
+    ) in
+        (sections : List ℕ) → Laid (repaired_at (g.0 sections) ends.now k).connections
         g.1 (pile result.connections result.pairs cs.new ps.new) }
 {
     let kind = index_at(junctions, k * 5 + 2);
@@ -119,17 +118,16 @@ fn repair_junction(
     cs: &mut [u32],
     ps: &mut [u32],
 ) -> Counts
-    ghost g: { (List ℕ → Tables) × State }
-    requires warn_value { (
-      (λ sections. map_tables text.now roads.now sections junctions.now connections.now pairs.now),
-      state ends.old js.old (pile n p cs.old ps.old) w warn.old,
-    ) ≡ g }
     requires ruled { Ruled text.now roads.now junctions.now connections.now pairs.now heads.now next.now
         cheads.now cnext.now }
     requires step_due { StepDue junctions.now connections.now ends.old js.old cs.old ps.old warn.old k n p w }
     ensures twice { Twice junctions.now connections.now (k + 1) result.connections result.pairs }
     ensures warnings_bound { result.warnings ≤ connections_before junctions.now (k + 1) }
-    ensures by_index { (sections : List ℕ) → Stepped (g.0 sections) k g.1
+    ensures by_index { let g : (List ℕ → Tables) × State = (
+      (λ sections. map_tables text.now roads.now sections junctions.now connections.now pairs.now),
+      state ends.old js.old (pile n p cs.old ps.old) w warn.old,
+    ) in
+        (sections : List ℕ) → Stepped (g.0 sections) k g.1
         (state ends.new js.new (pile result.connections result.pairs cs.new ps.new)
         result.warnings warn.new) }
 {
@@ -194,13 +192,12 @@ pub fn junctions(
     cs: &mut [u32],
     ps: &mut [u32],
 ) -> Counts
-    ghost t: { List ℕ → Tables }
-    requires pairs_value { (λ sections. map_tables text.now roads.now sections table.now connections.now pairs.now) ≡ t }
     requires ruled { Ruled text.now roads.now table.now connections.now pairs.now heads.now next.now
         cheads.now cnext.now }
     requires ends_len { (length ends.old ≡ 32768) × Arrays js.old cs.old ps.old warn.old }
     ensures within { Within result.connections result.pairs result.warnings }
-    ensures by_index { (sections : List ℕ) → Over (t sections) (length table.now / 5)
+    ensures by_index { let t : List ℕ → Tables = (λ sections. map_tables text.now roads.now sections table.now connections.now pairs.now) in
+        (sections : List ℕ) → Over (t sections) (length table.now / 5)
         ends.old cs.old ps.old
         (state ends.new js.new (pile result.connections result.pairs cs.new ps.new)
         result.warnings warn.new) }

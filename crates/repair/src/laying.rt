@@ -72,11 +72,10 @@ fn put_connection(
     cs: &mut [u32],
     ps: &mut [u32],
 ) -> usize
-    ghost before: { Pile }
-    requires ps_value { pile n p cs.old ps.old ≡ before }
     requires small { Small pairs.now connections.now × RoomFor connections.now c b n p × Long cs.old ps.old }
     ensures value { result ≡ p + pair_count connections.now c }
-    ensures laid { Laid (turned_connection b (connection_at pairs.now connections.now c) ∷ [])
+    ensures laid { let before : Pile = pile n p cs.old ps.old in
+        Laid (turned_connection b (connection_at pairs.now connections.now c) ∷ [])
         before (pile (n + 1) result cs.new ps.new) }
 {
     let row = connection_row(connections, c, b, p);
@@ -98,11 +97,10 @@ pub fn put_own(
     cs: &mut [u32],
     ps: &mut [u32],
 ) -> usize
-    ghost before: { Pile }
-    requires ps_value { pile n p cs.old ps.old ≡ before }
     requires small { Small pairs.now connections.now × RoomForAll connections.now first m n p × Long cs.old ps.old }
     ensures first_value { result + pairs_before connections.now first ≡ p + pairs_before connections.now (first + m) }
-    ensures laid { Laid (run (connection_at pairs.now connections.now) first m)
+    ensures laid { let before : Pile = pile n p cs.old ps.old in
+        Laid (run (connection_at pairs.now connections.now) first m)
         before (pile (n + m) result cs.new ps.new) }
 {
     let mut at = p;
@@ -125,11 +123,10 @@ pub fn put_back(
     cs: &mut [u32],
     ps: &mut [u32],
 ) -> Reach
-    ghost before: { Pile }
-    requires ps_value { pile n p cs.old ps.old ≡ before }
     requires small { Small pairs.now connections.now × RoomFor connections.now c b n p × Long cs.old ps.old }
     ensures connections_bound { (result.connections ≤ n + 1) × (result.pairs ≤ p + pair_count connections.now c) }
-    ensures laid { Laid (back_list b (connection_at pairs.now connections.now c))
+    ensures laid { let before : Pile = pile n p cs.old ps.old in
+        Laid (back_list b (connection_at pairs.now connections.now c))
         before (pile result.connections result.pairs cs.new ps.new) }
 {
     if b == 0 {

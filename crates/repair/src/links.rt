@@ -32,10 +32,9 @@ fn back_end(text: &[u8], words: [u32; 7], connections: &[u32], c: usize) -> usiz
 
 // That end, if it is vacant in a road.
 fn vacant_end(roads: &[u32], junctions: &[u32], ends: &[u32], road: RoadId, e: usize) -> usize
-    ghost row: { List ℕ → Road }
-    requires row_is { (λ sections. road_now sections roads.now junctions.now ends.now road.0) ≡ row }
     requires in_bounds { (road.0 < 16384) × (e ≤ 2) }
-    ensures { (result ≤ 2) × ((sections : List ℕ) → end_opt result ≡ bind_o (end_opt e) (vacant_end (row sections))) }
+    ensures { let row : List ℕ → Road = (λ sections. road_now sections roads.now junctions.now ends.now road.0) in
+        (result ≤ 2) × ((sections : List ℕ) → end_opt result ≡ bind_o (end_opt e) (vacant_end (row sections))) }
 {
     if e == 0 {
         return 0;
@@ -60,11 +59,10 @@ fn missing_end(
     k: usize,
     c: usize,
 ) -> usize
-    ghost t: { List ℕ → List ℕ → Tables }
-    requires pairs_value { (λ sections pairs. map_tables text.now roads.now sections junctions.now connections.now pairs) ≡ t }
     requires road_bound { (road.0 < 16384) × (k < 16384) × (c < 8192) × Known text.now roads.now heads.now next.now }
     ensures upper_bound { result ≤ 2 }
-    ensures by_index { (sections pairs : List ℕ) → end_opt result ≡ shown_at (t sections pairs) ends.now k c road.0 }
+    ensures by_index { let t : List ℕ → List ℕ → Tables = (λ sections pairs. map_tables text.now roads.now sections junctions.now connections.now pairs) in
+        (sections pairs : List ℕ) → end_opt result ≡ shown_at (t sections pairs) ends.now k c road.0 }
 {
     let r = road.0;
     if meets(text, roads, junctions, ends, RoadId(r), k) {
@@ -95,11 +93,10 @@ fn missing_link(
     c: usize,
     w: usize,
 ) -> usize
-    ghost t: { List ℕ → List ℕ → Tables }
-    requires pairs_value { (λ sections pairs. map_tables text.now roads.now sections junctions.now connections.now pairs) ≡ t }
     requires link_due { LinkDue text.now roads.now heads.now next.now ends.old warn.old k c w }
     ensures upper_bound { result ≤ w + 1 }
-    ensures by_index { (sections pairs : List ℕ) → Linked (t sections pairs) k (row_connection (t sections pairs) c ∷ [])
+    ensures by_index { let t : List ℕ → List ℕ → Tables = (λ sections pairs. map_tables text.now roads.now sections junctions.now connections.now pairs) in
+        (sections pairs : List ℕ) → Linked (t sections pairs) k (row_connection (t sections pairs) c ∷ [])
         ends.old ends.new w result warn.old warn.new }
 {
     let f = road_of(text, roads, heads, next, connections, c * 7 + 0);
@@ -145,11 +142,10 @@ pub fn missing_links(
     m: usize,
     w: usize,
 ) -> usize
-    ghost t: { List ℕ → List ℕ → Tables }
-    requires pairs_value { (λ sections pairs. map_tables text.now roads.now sections junctions.now connections.now pairs) ≡ t }
     requires links_due { LinksDue text.now roads.now heads.now next.now ends.old warn.old k first m w }
     ensures upper_bound { result ≤ w + m }
-    ensures by_index { (sections pairs : List ℕ) → Linked (t sections pairs) k (run (row_connection (t sections pairs)) first m)
+    ensures by_index { let t : List ℕ → List ℕ → Tables = (λ sections pairs. map_tables text.now roads.now sections junctions.now connections.now pairs) in
+        (sections pairs : List ℕ) → Linked (t sections pairs) k (run (row_connection (t sections pairs)) first m)
         ends.old ends.new w result warn.old warn.new }
 {
     let mut at = w;

@@ -74,11 +74,10 @@ fn back_contact(
     m: usize,
     c: usize,
 ) -> usize
-    ghost t: { List ℕ → List ℕ → Tables }
-    requires pairs_value { (λ sections pairs. map_tables text.now roads.now sections junctions.now connections.now pairs) ≡ t }
     requires contact_due { ContactDue text.now roads.now connections.now heads.now next.now cheads.now cnext.now k first m c }
     ensures upper_bound { result ≤ 2 }
-    ensures by_index { (sections pairs : List ℕ) → back_list result (row_connection (t sections pairs) c)
+    ensures by_index { let t : List ℕ → List ℕ → Tables = (λ sections pairs. map_tables text.now roads.now sections junctions.now connections.now pairs) in
+        (sections pairs : List ℕ) → back_list result (row_connection (t sections pairs) c)
         ≡ back_from (t sections pairs) ends.now k first m (row_connection (t sections pairs) c) }
 {
     if runs_back(text, connections, cheads, cnext, first, first + m, c) {
@@ -112,16 +111,15 @@ pub fn reversed(
     cs: &mut [u32],
     ps: &mut [u32],
 ) -> Reach
-    ghost g: { (List ℕ → Tables) × Pile }
-    requires ps_value { (
-      (λ sections. map_tables text.now roads.now sections junctions.now connections.now pairs.now),
-      pile n p cs.old ps.old,
-    ) ≡ g }
     requires back_due { BackDue text.now roads.now connections.now pairs.now heads.now next.now cheads.now cnext.now
         cs.old ps.old k first m n p }
     ensures connections_bound { result.connections ≤ n + m }
     ensures first_bound { result.pairs + pairs_before connections.now first ≤ p + pairs_before connections.now (first + m) }
-    ensures by_index { (sections : List ℕ) → Laid (reversed_at (g.0 sections) ends.now k first m)
+    ensures by_index { let g : (List ℕ → Tables) × Pile = (
+      (λ sections. map_tables text.now roads.now sections junctions.now connections.now pairs.now),
+      pile n p cs.old ps.old,
+    ) in
+        (sections : List ℕ) → Laid (reversed_at (g.0 sections) ends.now k first m)
         g.1 (pile result.connections result.pairs cs.new ps.new) }
 {
     let mut x = n;

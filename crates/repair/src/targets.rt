@@ -116,10 +116,9 @@ pub fn meets(
     road: RoadId,
     k: usize,
 ) -> bool
-    ghost row: { List ℕ → Road }
-    requires row_is { (λ sections. road_now sections roads.now junctions.now ends.now road.0) ≡ row }
     requires in_bounds { (road.0 < 16384) × (k < 16384) }
-    ensures { ((sections : List ℕ) →
+    ensures { let row : List ℕ → Road = (λ sections. road_now sections roads.now junctions.now ends.now road.0) in
+        ((sections : List ℕ) →
         result ≡ meets (same_in text.now) (name_at 5 0 junctions.now k) (row sections)) }
 {
     let r = road.0;
@@ -140,11 +139,10 @@ pub fn meeting_end(
     road: RoadId,
     k: usize,
 ) -> usize
-    ghost row: { List ℕ → Road }
-    requires row_is { (λ sections. road_now sections roads.now junctions.now ends.now road.0) ≡ row }
     requires in_bounds { (road.0 < 16384) × (k < 16384) }
     ensures at_most { result ≤ 2 }
-    ensures end { ((sections : List ℕ) →
+    ensures end { let row : List ℕ → Road = (λ sections. road_now sections roads.now junctions.now ends.now road.0) in
+        ((sections : List ℕ) →
         end_opt result ≡ meeting_end (same_in text.now) (name_at 5 0 junctions.now k) (row sections)) }
 {
     let r = road.0;

@@ -25,10 +25,9 @@ pub fn map_sized(
     pairs: &[u32],
     most: usize,
 ) -> bool
-    ghost t: { Tables }
-    requires pairs_value { map_tables text.now roads.now sections.now junctions.now connections.now pairs.now ≡ t }
     requires most_bound { most ≤ 16384 }
-    ensures { result ≡ map_sized most t }
+    ensures { let t : Tables = map_tables text.now roads.now sections.now junctions.now connections.now pairs.now in
+        result ≡ map_sized most t }
 {
     let short = text.len() <= 1048576;
     let a = both(short, fits(roads.len(), 20, 16384));

@@ -67,12 +67,12 @@ fn find_own(
     offsets: &mut [u32],
     own: &mut [u32],
 )
-    ghost t: { Tables }
-    requires lanes_value { lane_tables text.now roads.now sections.now junctions.now connections.now pairs.now lanes.now ≡ t }
-    requires t_value { first_broken (succession_rules t) ≡ none }
+    requires t_value { let t : Tables = lane_tables text.now roads.now sections.now junctions.now connections.now pairs.now lanes.now in
+        first_broken (succession_rules t) ≡ none }
     requires linked { Linked text.now roads.now lanes.now heads.old next.old owner.now kheads.now knext.now }
     requires lent { Lent heads.old next.old owner.now kheads.now knext.now offsets.old own.old }
-    ensures { Filled (length t.lanes / 10) (own_list t)
+    ensures { let t : Tables = lane_tables text.now roads.now sections.now junctions.now connections.now pairs.now lanes.now in
+        Filled (length t.lanes / 10) (own_list t)
         offsets.old own.old offsets.new own.new }
 {
     let mut sides = [0u32; 32768];
@@ -119,11 +119,11 @@ fn resolve_own(
     offsets: &mut [u32],
     own: &mut [u32],
 ) -> Verdict
-    ghost t: { Tables }
-    requires lanes_value { lane_tables text.now roads.now sections.now junctions.now connections.now pairs.now lanes.now ≡ t }
     requires offsets_len { (length offsets.old ≡ 16385) × (length own.old ≡ 65536) }
-    ensures result_value { refusal_of result ≡ first_broken (succession_rules t) }
-    ensures filled { refusal_of result ≡ none → Filled (length t.lanes / 10) (own_list t)
+    ensures result_value { let t : Tables = lane_tables text.now roads.now sections.now junctions.now connections.now pairs.now lanes.now in
+        refusal_of result ≡ first_broken (succession_rules t) }
+    ensures filled { let t : Tables = lane_tables text.now roads.now sections.now junctions.now connections.now pairs.now lanes.now in
+        refusal_of result ≡ none → Filled (length t.lanes / 10) (own_list t)
         offsets.old own.old offsets.new own.new }
 {
     let mut heads = [0u32; 16384];
@@ -182,13 +182,13 @@ fn put_lists(
     predecessor_offsets: &mut [u32],
     predecessor_ids: &mut [u32],
 ) -> Succession
-    ghost onward: { ℕ → List ℕ }
-    requires fids_value { finished_at lanes.now starts.now ids.now fstarts.now fids.now ≡ onward }
     requires by_id { ById lanes.now heads.now next.now }
     requires all_rise { AllRise (length lanes.now / 10) starts.now ids.now }
     requires fids_bound { total (length lanes.now / 10) (both_long starts.now ids.now fstarts.now fids.now) ≤ 131072 }
-    requires as_many { AsMany lanes.now onward }
-    ensures { outcome (answer_of result) (outputs successor_offsets.new successor_ids.new
+    requires as_many { let onward : ℕ → List ℕ = finished_at lanes.now starts.now ids.now fstarts.now fids.now in
+        AsMany lanes.now onward }
+    ensures { let onward : ℕ → List ℕ = finished_at lanes.now starts.now ids.now fstarts.now fids.now in
+        outcome (answer_of result) (outputs successor_offsets.new successor_ids.new
         predecessor_offsets.new predecessor_ids.new)
         ≡ written_or9 list_writing (content_of (length lanes.now / 10) onward (listers_of lanes.now onward))
         (outputs successor_offsets.old successor_ids.old
@@ -241,13 +241,13 @@ fn write_lists(
     predecessor_offsets: &mut [u32],
     predecessor_ids: &mut [u32],
 ) -> Succession
-    ghost onward: { ℕ → List ℕ }
-    requires ids_value { onward_at lanes.now starts.now ids.now ≡ onward }
     requires lanes_len_bound { (length lanes.now / 10 ≤ 16384) × (any (length lanes.now / 10) (id_before lanes.now) ≡ false) }
     requires all_rise { AllRise (length lanes.now / 10) starts.now ids.now }
     requires lanes_bound { start_of (list_part starts.now ids.now) (length lanes.now / 10) ≤ 65536 }
-    requires as_many { AsMany lanes.now onward }
-    ensures { outcome (answer_of result) (outputs successor_offsets.new successor_ids.new
+    requires as_many { let onward : ℕ → List ℕ = onward_at lanes.now starts.now ids.now in
+        AsMany lanes.now onward }
+    ensures { let onward : ℕ → List ℕ = onward_at lanes.now starts.now ids.now in
+        outcome (answer_of result) (outputs successor_offsets.new successor_ids.new
         predecessor_offsets.new predecessor_ids.new)
         ≡ written_or9 list_writing (content_of (length lanes.now / 10) onward (listers_of lanes.now onward))
         (outputs successor_offsets.old successor_ids.old

@@ -32,17 +32,18 @@ fn cross(
     run: &mut [u32],
     n: usize,
 ) -> usize
-    ghost read: { Rows }
-    requires read_is { rows_of roads.now sections.now junctions.now connections.now pairs.now
-        lanes.now owner.now sides.now ends.now ≡ read }
     requires sound { Sound roads.now sections.now junctions.now connections.now pairs.now lanes.now
         owner.now sides.now ends.now heads.now next.now }
     requires chained { Meeting junctions.now connections.now sides.now mheads.now mnext.now }
     requires in_bounds { (l < length lanes.now / 10) × (at + 4 < length roads.now) × (link + 1 < length lanes.now)
         × (eqb (get_or roads.now (at + 1) 0) 1 ≡ true → to ≤ length junctions.now / 5)
         × (eqb (get_or roads.now (at + 1) 0) 1 ≡ false → to ≤ length roads.now / 20) }
-    requires room { Room n (cross_by_row read l at to link) run.old }
-    ensures { Took both n (cross_by_row read l at to link) run.old run.new result }
+    requires room { let read : Rows = rows_of roads.now sections.now junctions.now connections.now pairs.now
+        lanes.now owner.now sides.now ends.now in
+        Room n (cross_by_row read l at to link) run.old }
+    ensures { let read : Rows = rows_of roads.now sections.now junctions.now connections.now pairs.now
+        lanes.now owner.now sides.now ends.now in
+        Took both n (cross_by_row read l at to link) run.old run.new result }
 {
     if roads[at] != 1 {
         return n;
@@ -111,16 +112,17 @@ fn leave(
     run: &mut [u32],
     n: usize,
 ) -> usize
-    ghost read: { Rows }
-    requires read_is { rows_of roads.now sections.now junctions.now connections.now pairs.now
-        lanes.now owner.now sides.now ends.now ≡ read }
     requires sound { Sound roads.now sections.now junctions.now connections.now pairs.now lanes.now
         owner.now sides.now ends.now heads.now next.now }
     requires chained { Meeting junctions.now connections.now sides.now mheads.now mnext.now }
     requires in_bounds { (l < length lanes.now / 10) × (r.0 < length roads.now / 20) × (link + 1 < length lanes.now) }
-    requires room { Room n (cross_by_row read l (pick forward (r.0 * 20 + 4) (r.0 * 20 + 11))
+    requires room { let read : Rows = rows_of roads.now sections.now junctions.now connections.now pairs.now
+        lanes.now owner.now sides.now ends.now in
+        Room n (cross_by_row read l (pick forward (r.0 * 20 + 4) (r.0 * 20 + 11))
         (pick forward (get_or read.ends (r.0 * 2) 0) (get_or read.ends (r.0 * 2 + 1) 0)) link) run.old }
-    ensures { Took both n (cross_by_row read l (pick forward (r.0 * 20 + 4) (r.0 * 20 + 11))
+    ensures { let read : Rows = rows_of roads.now sections.now junctions.now connections.now pairs.now
+        lanes.now owner.now sides.now ends.now in
+        Took both n (cross_by_row read l (pick forward (r.0 * 20 + 4) (r.0 * 20 + 11))
         (pick forward (get_or read.ends (r.0 * 2) 0) (get_or read.ends (r.0 * 2 + 1) 0)) link)
         run.old run.new result }
 {
@@ -194,15 +196,16 @@ fn exits(
     run: &mut [u32],
     n: usize,
 ) -> usize
-    ghost read: { Rows }
-    requires read_is { rows_of roads.now sections.now junctions.now connections.now pairs.now
-        lanes.now owner.now sides.now ends.now ≡ read }
     requires sound { Sound roads.now sections.now junctions.now connections.now pairs.now lanes.now
         owner.now sides.now ends.now heads.now next.now }
     requires chained { Meeting junctions.now connections.now sides.now mheads.now mnext.now }
     requires l_in_bounds { l < length lanes.now / 10 }
-    requires room { Room n (exits_by_row read l forward) run.old }
-    ensures { Took both n (exits_by_row read l forward) run.old run.new result }
+    requires room { let read : Rows = rows_of roads.now sections.now junctions.now connections.now pairs.now
+        lanes.now owner.now sides.now ends.now in
+        Room n (exits_by_row read l forward) run.old }
+    ensures { let read : Rows = rows_of roads.now sections.now junctions.now connections.now pairs.now
+        lanes.now owner.now sides.now ends.now in
+        Took both n (exits_by_row read l forward) run.old run.new result }
 {
     let r = RoadId(owner[l] - 1);
     let link = step::link_at(l, forward);
@@ -263,14 +266,15 @@ pub fn successors_of(
     l: usize,
     run: &mut [u32],
 ) -> usize
-    ghost read: { Rows }
-    requires read_is { rows_of roads.now sections.now junctions.now connections.now pairs.now
-        lanes.now owner.now sides.now ends.now ≡ read }
     requires sound { Sound roads.now sections.now junctions.now connections.now pairs.now lanes.now
         owner.now sides.now ends.now heads.now next.now }
     requires chained { Meeting junctions.now connections.now sides.now mheads.now mnext.now }
-    requires in_bounds { (l < length lanes.now / 10) × (length (exits_by_row read l true) + length (exits_by_row read l false) ≤ length run.old) }
-    ensures { Resolved read l run.old run.new result }
+    requires in_bounds { let read : Rows = rows_of roads.now sections.now junctions.now connections.now pairs.now
+        lanes.now owner.now sides.now ends.now in
+        (l < length lanes.now / 10) × (length (exits_by_row read l true) + length (exits_by_row read l false) ≤ length run.old) }
+    ensures { let read : Rows = rows_of roads.now sections.now junctions.now connections.now pairs.now
+        lanes.now owner.now sides.now ends.now in
+        Resolved read l run.old run.new result }
 {
     let direction = lanes[l * 10 + 5];
     if direction == 0 {

@@ -25,14 +25,15 @@ fn through_pairs(
     run: &mut [u32],
     start: usize,
 ) -> usize
-    ghost read: { Rows }
-    requires read_is { rows_of roads.now sections.now junctions.now connections.now pairs.now
-        lanes.now owner.now sides.now ends.now ≡ read }
     requires sound { Sound roads.now sections.now junctions.now connections.now pairs.now lanes.now
         owner.now sides.now ends.now heads.now next.now }
     requires c_in_bounds { c < length connections.now / 7 }
-    requires room { Room start (pairs_by_row read c k) run.old }
-    ensures { Took both start (pairs_by_row read c k) run.old run.new result }
+    requires room { let read : Rows = rows_of roads.now sections.now junctions.now connections.now pairs.now
+        lanes.now owner.now sides.now ends.now in
+        Room start (pairs_by_row read c k) run.old }
+    ensures { let read : Rows = rows_of roads.now sections.now junctions.now connections.now pairs.now
+        lanes.now owner.now sides.now ends.now in
+        Took both start (pairs_by_row read c k) run.old run.new result }
 {
     let road = rows::word(sides, c * 2 + 1);
     let contact = connections[c * 7 + 4];
@@ -71,14 +72,15 @@ fn through_connection(
     run: &mut [u32],
     n: usize,
 ) -> usize
-    ghost read: { Rows }
-    requires read_is { rows_of roads.now sections.now junctions.now connections.now pairs.now
-        lanes.now owner.now sides.now ends.now ≡ read }
     requires sound { Sound roads.now sections.now junctions.now connections.now pairs.now lanes.now
         owner.now sides.now ends.now heads.now next.now }
     requires in_bounds { (j < length junctions.now / 5) × (c < length connections.now / 7) }
-    requires room { Room n (meeting_at read j road k c) run.old }
-    ensures { Took both n (meeting_at read j road k c) run.old run.new result }
+    requires room { let read : Rows = rows_of roads.now sections.now junctions.now connections.now pairs.now
+        lanes.now owner.now sides.now ends.now in
+        Room n (meeting_at read j road k c) run.old }
+    ensures { let read : Rows = rows_of roads.now sections.now junctions.now connections.now pairs.now
+        lanes.now owner.now sides.now ends.now in
+        Took both n (meeting_at read j road k c) run.old run.new result }
 {
     if !meeting::comes_from(junctions, sides, j, road, c) {
         return n;
@@ -125,15 +127,16 @@ pub fn through_junction(
     run: &mut [u32],
     start: usize,
 ) -> usize
-    ghost read: { Rows }
-    requires read_is { rows_of roads.now sections.now junctions.now connections.now pairs.now
-        lanes.now owner.now sides.now ends.now ≡ read }
     requires sound { Sound roads.now sections.now junctions.now connections.now pairs.now lanes.now
         owner.now sides.now ends.now heads.now next.now }
     requires chained { Meeting junctions.now connections.now sides.now mheads.now mnext.now }
     requires in_bounds { (j < length junctions.now / 5) × (road < 4294967296) }
-    requires room { Room start (junction_by_row read j road k) run.old }
-    ensures { Took both start (junction_by_row read j road k) run.old run.new result }
+    requires room { let read : Rows = rows_of roads.now sections.now junctions.now connections.now pairs.now
+        lanes.now owner.now sides.now ends.now in
+        Room start (junction_by_row read j road k) run.old }
+    ensures { let read : Rows = rows_of roads.now sections.now junctions.now connections.now pairs.now
+        lanes.now owner.now sides.now ends.now in
+        Took both start (junction_by_row read j road k) run.old run.new result }
 {
     let count = connections.len() / 7;
     let mut n = start;

@@ -26,15 +26,16 @@ pub fn own_lists(
     offsets: &mut [u32],
     own: &mut [u32],
 )
-    ghost read: { Rows }
-    requires read_is { rows_of roads.now sections.now junctions.now connections.now pairs.now
-        lanes.now owner.now sides.now ends.now ≡ read }
     requires sound { Sound roads.now sections.now junctions.now connections.now pairs.now lanes.now
         owner.now sides.now ends.now heads.now next.now }
     requires chained { Meeting junctions.now connections.now sides.now mheads.now mnext.now }
-    requires room { (length lanes.now / 10 < length offsets.old) × (length own.old ≤ 131072)
+    requires room { let read : Rows = rows_of roads.now sections.now junctions.now connections.now pairs.now
+        lanes.now owner.now sides.now ends.now in
+        (length lanes.now / 10 < length offsets.old) × (length own.old ≤ 131072)
         × (total (length lanes.now / 10) (exit_count read) ≤ length own.old) }
-    ensures { Filled (length read.lanes / 10) (successors_by_row read)
+    ensures { let read : Rows = rows_of roads.now sections.now junctions.now connections.now pairs.now
+        lanes.now owner.now sides.now ends.now in
+        Filled (length read.lanes / 10) (successors_by_row read)
         offsets.old own.old offsets.new own.new }
 {
     let n = lanes.len() / 10;

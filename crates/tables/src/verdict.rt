@@ -69,12 +69,11 @@ pub fn map_verdict(
     heads: &mut [u32],
     next: &mut [u32],
 ) -> Verdict
-    ghost t: { Tables }
-    requires pairs_value { map_tables text.now roads.now sections.now junctions.now connections.now
-        pairs.now ≡ t }
     requires few { sizes ≡ true → Few roads.now sections.now connections.now pairs.now }
     requires empty { Empty heads.old next.old }
-    ensures result_value { refusal_of result ≡ first_broken (rules_to5 sizes words t) }
+    ensures result_value { let t : Tables = map_tables text.now roads.now sections.now junctions.now connections.now
+        pairs.now in
+        refusal_of result ≡ first_broken (rules_to5 sizes words t) }
     ensures chained { refusal_of result ≡ none → Chained (name_hash text.now 20 0 roads.now)
         (length roads.now / 20) heads.new next.new }
 {
@@ -108,11 +107,10 @@ pub fn repair_verdict(
     heads: &mut [u32],
     next: &mut [u32],
 ) -> Verdict
-    ghost t: { Tables }
-    requires pairs_value { map_tables text.now roads.now sections.now junctions.now connections.now
-        pairs.now ≡ t }
     requires empty { Empty heads.old next.old }
-    ensures result_value { refusal_of result ≡ first_broken (repair_rules t) }
+    ensures result_value { let t : Tables = map_tables text.now roads.now sections.now junctions.now connections.now
+        pairs.now in
+        refusal_of result ≡ first_broken (repair_rules t) }
     ensures chained { refusal_of result ≡ none → Chained (name_hash text.now 20 0 roads.now)
         (length roads.now / 20) heads.new next.new }
 {
@@ -150,15 +148,14 @@ pub fn lane_verdict(
     kheads: &mut [u32],
     knext: &mut [u32],
 ) -> Verdict
-    ghost t: { Tables }
-    requires lanes_value { lane_tables text.now roads.now sections.now junctions.now connections.now
-        pairs.now lanes.now ≡ t }
     requires few { (sizes ≡ true → Few roads.now sections.now connections.now pairs.now)
         × (sizes ≡ true → length lanes.now / 10 ≤ 16384) }
     requires empty { Empty heads.old next.old }
     requires owner_len { length owner.old ≡ 16384 }
     requires empty_2 { Empty kheads.old knext.old }
-    ensures result_value { refusal_of result ≡ first_broken (rules_to5 sizes words t ++ lane_rules t) }
+    ensures result_value { let t : Tables = lane_tables text.now roads.now sections.now junctions.now connections.now
+        pairs.now lanes.now in
+        refusal_of result ≡ first_broken (rules_to5 sizes words t ++ lane_rules t) }
     ensures linked { refusal_of result ≡ none → Linked text.now roads.now lanes.now
         heads.new next.new owner.new kheads.new knext.new }
 {
@@ -205,13 +202,12 @@ pub fn succession_verdict(
     kheads: &mut [u32],
     knext: &mut [u32],
 ) -> Verdict
-    ghost t: { Tables }
-    requires lanes_value { lane_tables text.now roads.now sections.now junctions.now connections.now
-        pairs.now lanes.now ≡ t }
     requires empty { Empty heads.old next.old }
     requires owner_len { length owner.old ≡ 16384 }
     requires empty_2 { Empty kheads.old knext.old }
-    ensures result_value { refusal_of result ≡ first_broken (succession_rules t) }
+    ensures result_value { let t : Tables = lane_tables text.now roads.now sections.now junctions.now connections.now
+        pairs.now lanes.now in
+        refusal_of result ≡ first_broken (succession_rules t) }
     ensures linked { refusal_of result ≡ none → Linked text.now roads.now lanes.now
         heads.new next.new owner.new kheads.new knext.new }
 {
@@ -259,15 +255,14 @@ pub fn table_verdict(
     kheads: &mut [u32],
     knext: &mut [u32],
 ) -> Verdict
-    ghost t: { Tables }
-    requires edges_value { all_tables text.now roads.now sections.now junctions.now connections.now
-        pairs.now lanes.now edges.now ≡ t }
     requires few { (sizes ≡ true → Few roads.now sections.now connections.now pairs.now)
         × (sizes ≡ true → length lanes.now / 10 ≤ 16384) }
     requires empty { Empty heads.old next.old }
     requires owner_len { length owner.old ≡ 16384 }
     requires empty_2 { Empty kheads.old knext.old }
-    ensures result_value { refusal_of result ≡ first_broken (rules_to5 sizes words t ++ lane_rules t
+    ensures result_value { let t : Tables = all_tables text.now roads.now sections.now junctions.now connections.now
+        pairs.now lanes.now edges.now in
+        refusal_of result ≡ first_broken (rules_to5 sizes words t ++ lane_rules t
         ++ (rule 10 (edges_fit t) ∷ [])) }
     ensures linked { refusal_of result ≡ none → Linked text.now roads.now lanes.now
         heads.new next.new owner.new kheads.new knext.new }
@@ -314,13 +309,12 @@ pub fn reversal_verdict(
     kheads: &mut [u32],
     knext: &mut [u32],
 ) -> Verdict
-    ghost t: { Tables }
-    requires edges_value { all_tables text.now roads.now sections.now junctions.now connections.now
-        pairs.now lanes.now edges.now ≡ t }
     requires empty { Empty heads.old next.old }
     requires owner_len { length owner.old ≡ 16384 }
     requires empty_2 { Empty kheads.old knext.old }
-    ensures result_value { refusal_of result ≡ first_broken (reversal_rules t marks.now) }
+    ensures result_value { let t : Tables = all_tables text.now roads.now sections.now junctions.now connections.now
+        pairs.now lanes.now edges.now in
+        refusal_of result ≡ first_broken (reversal_rules t marks.now) }
     ensures linked { refusal_of result ≡ none → Linked text.now roads.now lanes.now
         heads.new next.new owner.new kheads.new knext.new }
 {
