@@ -223,8 +223,10 @@ module _ (N : Names) where
 
     missing_links_lem : {rs rs' : List Road} → RoadsRenamed rs rs' → {cs cs' : List Connection} → InOrder Links cs cs' →
         RoadsRenamed (missing_links N.same j cs rs) (missing_links N.same' j' cs' rs')
-    missing_links_lem h ended = h
-    missing_links_lem h (paired {x = c} {y = c'} l rest) = missing_links_lem (missing_link_lem h c c' l) rest
+    missing_links_lem {rs = rs} {rs' = rs'} h ended = h
+    missing_links_lem {rs = rs} {rs' = rs'} h (paired {x = c} {y = c'} l rest) =
+        missing_links_lem {rs = missing_link N.same j c rs} {rs' = missing_link N.same' j' c' rs'}
+        (missing_link_lem h c c' l) rest
 
   pub repair_roads_lem : {rs rs' : List Road} → RoadsRenamed rs rs' → (j j' : Junction) → Junctions j j' →
       RoadsRenamed (repair_roads N.same j rs) (repair_roads N.same' j' rs')

@@ -152,7 +152,7 @@ gather_more {B = B} f xs r d h =
     ap (λ (k : ℕ). gather f (take k xs)) (add-one r)
     ∙ ap (gather f) (take-suc xs r d h)
     ∙ gather_append f (take r xs) (get_or xs r d ∷ [])
-    ∙ ap (λ (l : List B). gather f (take r xs) ++ l) (mathlib.Core.List.append_nil (f (get_or xs r d)))
+    ∙ ap (λ (l : List B). gather f (take r xs) ++ l) (mathlib.Core.List.append-nil (f (get_or xs r d)))
 
 rows_from_append : {X A : Type 0} (row : ℕ → X → List ℕ) (f : X → List A) (i : ℕ) (xs ys : List X)
     → rows_from row f i (xs ++ ys) ≡ rows_from row f i xs ++ rows_from row f (i + length (gather f xs)) ys
@@ -175,7 +175,7 @@ rows_from_more row f xs r d h =
     ∙ ap (rows_from row f 0) (take-suc xs r d h)
     ∙ rows_from_append row f 0 (take r xs) (get_or xs r d ∷ [])
     ∙ ap (λ (l : List ℕ). rows_from row f 0 (take r xs) ++ l)
-    (mathlib.Core.List.append_nil (row (0 + length (gather f (take r xs))) (get_or xs r d))
+    (mathlib.Core.List.append-nil (row (0 + length (gather f (take r xs))) (get_or xs r d))
     ∙ ap (λ (k : ℕ). row k (get_or xs r d)) (native.Mathlib.Nat.zero-add (length (gather f (take r xs)))))
 
 -- ---- searches by row numbers

@@ -95,7 +95,8 @@ module _ (N : Names) (names names' : List Span) where
       InOrder Warned (warn_all N.same i j cs rs) (warn_all N.same' i j' cs' rs')
   warn_all_lem i j j' k h ended = ended
   warn_all_lem i j j' k {rs} {rs'} h (paired {x = c} {y = c'} l rest) =
-      order_append (warn_one_lem i j j' k h c c' l) (warn_all_lem i j j' k next rest)
+      order_append (warn_one_lem i j j' k h c c' l) (warn_all_lem i j j' k
+      {rs = missing_link N.same j c rs} {rs' = missing_link N.same' j' c' rs'} next rest)
     where
       next : SoFar (missing_link N.same j c rs) (missing_link N.same' j' c' rs')
       next = record {
