@@ -36,8 +36,8 @@ module _ (start : tie.Start) where
   abbrev ids : List ℕ
   ids = start.args.ids.now
 
-  abbrev rules : List Rule
-  rules = gap_rules tables offsets ids
+  abbrev rule_list : List Rule
+  rule_list = gap_rules tables offsets ids
 
   abbrev content : List ℕ
   content = gap_content tables offsets ids
@@ -57,7 +57,7 @@ module _ (tried : tie.After-admitted) where
   verdict = judged.gap-verdict.result
 
   -- it is the first refusal but 9
-  first : refusal_of verdict ≡ first_broken (rules start)
+  first : refusal_of verdict ≡ first_broken (rule_list start)
   first = judged.gap-verdict.ensures.0
 
 -- ---- what its admission leaves
@@ -106,7 +106,7 @@ unfolding gap_call
 returns c =
     let tried : tie.After-admitted = search in
     let barred = sym tried.admitted.ensures ∙ not-true _ c.if1.true in
-    call_refused (table_writing gap_width) (rules (start tried)) (content (start tried)) _ (verdict tried) barred
+    call_refused (table_writing gap_width) (rule_list (start tried)) (content (start tried)) _ (verdict tried) barred
     (first tried)
 
 slice-aggregate-write-rows : tie.Need-slice-aggregate-write-rows
@@ -133,7 +133,7 @@ returns-2 c =
     let out = (begun past).args.out.now in
     written.write-rows.ensures
     ∙ ap (λ (rows : List ℕ). written_or9 (table_writing gap_width) rows out) (content_same past)
-    ∙ call_admitted (table_writing gap_width) (rules (begun past)) (content (begun past)) out (verdict tried) (free past)
+    ∙ call_admitted (table_writing gap_width) (rule_list (begun past)) (content (begun past)) out (verdict tried) (free past)
     (first tried)
 
 pub link_gaps_spec : {M : Type 1} → statement M

@@ -34,7 +34,7 @@ wide-row-requires c κs =
     (wide_number wide.decision.given.1 (numbers start), (numbers start).u, (numbers start).v)
 
 slice-aggregate-put : tie.Need-slice-aggregate-put
-slice-aggregate-put c = let made : tie.After-wide-row = search in sym (ap length made.Wide-Row.ensures)
+slice-aggregate-put c = let made : tie.After-wide-row = search in sym (ap length made.wide-row.ensures)
 
 put-requires : tie.Need-put-requires
 put-requires c κs =
@@ -43,7 +43,7 @@ put-requires c κs =
     let wide : tie.After-decision = search in
     let start : tie.Start = search in
     wide_room start.args.lane start.args.next start.args.at start.args.out.now
-    start.args.seen wide.decision.given.1 made.Wide-Row.ensures
+    start.args.seen wide.decision.given.1 made.wide-row.ensures
     (not-false _ past.if1.left) start.pre.1
 
 add-result-2 : tie.Need-overflow-add-result-2
@@ -66,7 +66,7 @@ returns-3 c =
     let wide : tie.After-decision = search in
     let start : tie.Start = search in
     wide_put start.args.lane start.args.next start.args.at start.args.out.now
-    start.args.seen wide.decision.given.1 made.Wide-Row.ensures
+    start.args.seen wide.decision.given.1 made.wide-row.ensures
     (not-false _ past.if1.left) put.put.ensures
 
 pub put_row_spec : {M : Type 1} → statement M

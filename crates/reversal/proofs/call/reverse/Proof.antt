@@ -36,8 +36,8 @@ module _ (judged : tie.After-reversal-verdict) where
   abbrev marks : List ℕ
   marks = start.args.marks.now
 
-  abbrev rules : List Rule
-  rules = reversal_rules tables marks
+  abbrev rule_list : List Rule
+  rule_list = reversal_rules tables marks
 
   abbrev content : ReversalOutputs
   content = reversal_content tables marks
@@ -50,7 +50,7 @@ module _ (judged : tie.After-reversal-verdict) where
   abbrev verdict : Verdict
   verdict = judged.reversal-verdict.result
 
-  first_rule : refusal_of verdict ≡ first_broken rules
+  first_rule : refusal_of verdict ≡ first_broken rule_list
   first_rule = judged.reversal-verdict.ensures.0
 
 -- ---- an admitted call
@@ -61,7 +61,7 @@ module _ (past : tie.Else1) where
   free : admits (verdict judged) ≡ true
   free = let asked : tie.After-admitted = search in sym asked.admitted.ensures ∙ not-false _ past.if1.left
 
-  no_rule : none ≡ first_broken (rules judged)
+  no_rule : none ≡ first_broken (rule_list judged)
   no_rule = sym (is_none (refusal_of (verdict judged)) free) ∙ first_rule judged
 
   -- is what is left
@@ -69,7 +69,7 @@ module _ (past : tie.Else1) where
       ≡ reversal_call (tables judged) (marks judged) (lent judged)
   unfolding reversal_call
   written_or_9 =
-      call_admitted reversal_writing (rules judged) (content judged) (lent judged) (verdict judged) free
+      call_admitted reversal_writing (rule_list judged) (content judged) (lent judged) (verdict judged) free
       (first_rule judged)
 
 -- ---- whether the outputs are long enough for what has to be written
@@ -112,7 +112,7 @@ returns c =
     let asked : tie.After-admitted = search in
     let met : tie.After-reversal-verdict = search in
     let barred = sym asked.admitted.ensures ∙ not-true _ c.if1.true in
-    call_refused reversal_writing (rules met) (content met) (lent met) (verdict met) barred (first_rule met)
+    call_refused reversal_writing (rule_list met) (content met) (lent met) (verdict met) barred (first_rule met)
 
 enough-requires : tie.Need-enough-requires
 enough-requires c κs = search rules

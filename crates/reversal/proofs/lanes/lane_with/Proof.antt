@@ -26,7 +26,7 @@ returns c =
     let way : tie.After-turned-way = search in
     let number : tie.After-signed-by = search in
     let row : tie.After-row-at = search in
-    lane_marked _ _ _ _ _ _ row.row_at.ensures number.Signed-by.ensures way.turned-way.ensures
+    lane_marked _ _ _ _ _ _ row.row_at.ensures number.signed-by.ensures way.turned-way.ensures
     ahead.signed-by2.ensures behind.signed-by3.ensures c.if1.true
 
 returns-2 : tie.Need-returns-2
@@ -36,7 +36,7 @@ returns-2 c =
     let way : tie.After-turned-way = search in
     let number : tie.After-signed-by = search in
     let row : tie.After-row-at = search in
-    lane_unmarked _ _ _ _ _ _ row.row_at.ensures number.Signed-by.ensures way.turned-way.ensures
+    lane_unmarked _ _ _ _ _ _ row.row_at.ensures number.signed-by.ensures way.turned-way.ensures
     ahead.signed-by2.ensures behind.signed-by3.ensures c.if1.false
 
 pub lane_with_spec : {M : Type 1} → statement M

@@ -1,4 +1,4 @@
--- `map_verdict` asks rules 1 to 5 in their order: at each return those before it pass, and its own is broken.
+-- `map_verdict` asks rule_list 1 to 5 in their order: at each return those before it pass, and its own is broken.
 use borrow.Author.Rules.{rules}
 use borrow.Author.Tests.{not-true, not-false}
 use lib.ListN.{length}
@@ -17,15 +17,15 @@ use Rattle.tables.proofs.Order.{broken_at, refused}
 use Rattle.tables.proofs.verdict.map_verdict.Statement.{statement}
 use Rattle.tables.proofs.verdict.map_verdict.Tie as tie
 
--- ---- the tables, and their rules
+-- ---- the tables, and their rule_list
 module _ (start : tie.Start) where
   abbrev tables : Tables
   tables =
       map_tables start.args.text.now start.args.roads.now start.args.sections.now
       start.args.junctions.now start.args.connections.now start.args.pairs.now
 
-  abbrev rules : List Rule
-  rules = rules_to5 start.args.sizes start.args.words tables
+  abbrev rule_list : List Rule
+  rule_list = rules_to5 start.args.sizes start.args.words tables
 
 -- ---- what each test leaves
 module _ (past : tie.Else1) where
@@ -57,11 +57,11 @@ returns : tie.Need-returns
 unfolding rules_to5
 returns c =
     let start : tie.Start = search in
-    (broken_at 0 (rules start) tt (not-true _ c.if1.true), refused 1)
+    (broken_at 0 (rule_list start) tt (not-true _ c.if1.true), refused 1)
 
 returns-2 : tie.Need-returns-2
 unfolding rules_to5
-returns-2 c = (broken_at 1 (rules (start (search))) (sized (search), tt) (not-true _ c.if2.true), refused 2)
+returns-2 c = (broken_at 1 (rule_list (start (search))) (sized (search), tt) (not-true _ c.if2.true), refused 2)
 
 link-names-requires : tie.Need-link-names-requires
 link-names-requires c κs =
@@ -78,7 +78,7 @@ returns-3 : tie.Need-returns-3
 unfolding rules_to5
 returns-3 c =
     let twice = once_is (search) ∙ ap not c.if3.true in
-    (broken_at 2 (rules (start (search))) (sized (search), (worded (search), tt)) twice, refused 3)
+    (broken_at 2 (rule_list (start (search))) (sized (search), (worded (search), tt)) twice, refused 3)
 
 sections-fit-requires : tie.Need-sections-fit-requires
 sections-fit-requires c κs = (few (search)).few_sections
@@ -94,7 +94,7 @@ unfolding rules_to5
 returns-4 c =
     let tested : tie.After-sections-fit = search in
     let unfit = sym tested.sections-fit.ensures ∙ not-true _ c.if4.true in
-    (broken_at 3 (rules (start (search))) (sized (search), (worded (search), (once (search), tt))) unfit, refused 4)
+    (broken_at 3 (rule_list (start (search))) (sized (search), (worded (search), (once (search), tt))) unfit, refused 4)
 
 connections-fit-requires : tie.Need-connections-fit-requires
 connections-fit-requires c κs = ((few (search)).few_connections, (few (search)).few_pairs)
@@ -110,7 +110,7 @@ unfolding rules_to5
 returns-5 c =
     let tested : tie.After-connections-fit = search in
     let unfit = sym tested.connections-fit.ensures ∙ not-true _ c.if5.true in (
-      broken_at 4 (rules (start (search)))
+      broken_at 4 (rule_list (start (search)))
           (sized (search), (worded (search), (once (search), (sections_fit_lem (search), tt)))) unfit,
       refused 5,
     )
@@ -127,7 +127,7 @@ returns-6 c =
     let tested : tie.After-connections-fit = search in
     let linked : tie.After-link-names = search in
     let connections-fit = sym tested.connections-fit.ensures ∙ not-false _ c.if5.false in (
-      sym (pass_all (rules (start (search)))
+      sym (pass_all (rule_list (start (search)))
           (sized (search), (worded (search), (once (search), (sections_fit_lem (search), (connections-fit, tt)))))),
       λ _. linked.link-names.ensures.1,
     )
