@@ -1,4 +1,4 @@
--- `map_verdict` asks rule_list 1 to 5 in their order: at each return those before it pass, and its own is broken.
+-- `map_verdict` asks rules 1 to 5 in their order: at each return those before it pass, and its own is broken.
 use borrow.Author.Rules.{rules}
 use borrow.Author.Tests.{not-true, not-false}
 use lib.ListN.{length}
@@ -17,7 +17,7 @@ use Rattle.tables.proofs.Order.{broken_at, refused}
 use Rattle.tables.proofs.verdict.map_verdict.Statement.{statement}
 use Rattle.tables.proofs.verdict.map_verdict.Tie as tie
 
--- ---- the tables, and their rule_list
+-- ---- the tables, and their rules
 module _ (start : tie.Start) where
   abbrev tables : Tables
   tables =
