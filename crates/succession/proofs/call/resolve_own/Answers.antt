@@ -1,0 +1,95 @@
+-- `resolve_own` answers the verdict of the checks, and where there is no refusal finds the own lists.
+use Rattle.words.proofs.Chains.{fresh}
+use Rattle.tables.specs.Verdicts.{refusal_of}
+use Rattle.tables.proofs.Order.{is_none, is_some_lem}
+use lib.ListN.{length-replicate}
+use borrow.Author.Tests.{not-true, not-false}
+use mathlib.Core.Option.{none}
+use mathlib.Core.Path.{◌≡◌, sym, ◌∙◌}
+use Prim.Native.Nat.{ℕ}
+use Rattle.succession.proofs.call.resolve_own.Tie as tie
+use Rattle.succession.proofs.call.resolve_own.Lts as lts
+use Rattle.succession.proofs.call.resolve_own.Reads as reads
+use Rattle.succession.proofs.call.resolve_own.Goals as goal
+
+abbrev After-admitted : Type 0
+After-admitted = lts.After-admitted tie.the-claims reads.Pre reads.Post tie.handed_clauses
+
+abbrev After-succession_verdict-v : Type 0
+After-succession_verdict-v = lts.After-succession_verdict tie.the-claims reads.Pre reads.Post tie.handed_clauses
+
+abbrev Else-not-admitted : Type 0
+Else-not-admitted = lts.Else1 tie.the-claims reads.Pre reads.Post tie.handed_clauses
+
+abbrev Start : Type 0
+Start = lts.Start tie.the-claims reads.Pre reads.Post tie.handed_clauses
+
+pub succession_verdict-v-requires : goal.succession_verdict-v-requires
+succession_verdict-v-requires c = record {
+      empty = fresh;
+      owner_len = ((length-replicate {A = ℕ} 16384 0, fresh)).0;
+      empty_2 = ((length-replicate {A = ℕ} 16384 0, fresh)).1;
+    }
+
+-- ---- refused
+pub returns-then-not-admitted : goal.returns-then-not-admitted
+returns-then-not-admitted c = let barred = sym c.admitted.ensures ∙ not-true _ c.if-not-admitted.true-raw in
+    record {
+      result_value = c.succession_verdict-v.ensures.result_value;
+      filled = λ unrefused. absurd (is_some_lem (refusal_of c.succession_verdict-v.result) barred unrefused);
+    }
+
+-- ---- no refusal: the checks left their links
+module _ (past : Else-not-admitted) where
+  abbrev judged : After-succession_verdict-v
+  judged = search
+
+  unrefused : refusal_of judged.succession_verdict-v.result ≡ none
+  unrefused =
+      let asked : After-admitted = search in
+      is_none (refusal_of judged.succession_verdict-v.result)
+      (sym asked.admitted.ensures ∙ not-false _ past.if-not-admitted.false-raw)
+
+module _ (judged : After-succession_verdict-v) where
+  abbrev start : Start
+  start = search
+
+pub find_own-requires : goal.find_own-requires
+find_own-requires c = let past : Else-not-admitted = search in
+    let verdict = (judged past).succession-verdict in
+    let kept = verdict.kept.1.1.1.1.1.1.1 in
+    let new = length-replicate {A = ℕ} 16384 0 in
+    let outs = (start (judged past)).requires.offsets_len in
+    record {
+      t_value = sym verdict.ensures.0 ∙ unrefused past;
+      linked = ((
+        verdict.ensures.1 (unrefused past),
+        record {
+          heads_long = kept.0 ∙ new;
+          next_long = kept.1.0 ∙ new;
+          owner_long = kept.1.1.0 ∙ new;
+          key_heads_long = kept.1.1.1.0 ∙ new;
+          key_next_long = kept.1.1.1.1.0 ∙ new;
+          offsets_long = outs.0;
+          own_long = outs.1;
+        },
+      )).0;
+      lent = ((
+        verdict.ensures.1 (unrefused past),
+        record {
+          heads_long = kept.0 ∙ new;
+          next_long = kept.1.0 ∙ new;
+          owner_long = kept.1.1.0 ∙ new;
+          key_heads_long = kept.1.1.1.0 ∙ new;
+          key_next_long = kept.1.1.1.1.0 ∙ new;
+          offsets_long = outs.0;
+          own_long = outs.1;
+        },
+      )).1;
+    }
+
+pub returns : goal.returns
+returns c = record {
+      result_value = c.succession_verdict-v.ensures.result_value;
+      filled = λ unrefused. c.find_own.ensures;
+    }
