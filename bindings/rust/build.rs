@@ -1,4 +1,4 @@
-//! Links libvorzhyket.a from the folder that VORZHYKET_LIB names, or from where `rt staticlib vorzhyket` writes it.
+//! Links libvorzhyket.a from the folder that VORZHYKET_LIB names, or from where `tool/build archive` puts it.
 use std::{env, path::PathBuf};
 
 fn main() {
@@ -9,7 +9,7 @@ fn main() {
     };
     let archive = folder.join("libvorzhyket.a");
     if !archive.exists() {
-        panic!("{} is missing: run `rt staticlib vorzhyket`, or name its folder in VORZHYKET_LIB", archive.display());
+        panic!("{} is missing: run `tool/build archive`, or name its folder in VORZHYKET_LIB", archive.display());
     }
     println!("cargo:rerun-if-changed={}", archive.display());
     println!("cargo:rustc-link-search=native={}", folder.display());

@@ -12,18 +12,19 @@ mod walk;
 use crate::print::report;
 use crate::stream::read;
 use crate::walk::walk;
-use libc::STDIN_FILENO;
+use std::io;
+use std::io::Read;
 
-fn run(text: &mut [u8], words: &mut [u32], tally: &mut [usize]) {
-    let n = io::read_full(STDIN_FILENO, text);
-    let k = read(&text[0..n], words);
-    walk(&words[0..k], tally);
-    report(tally);
+fn run(rt: &HostRuntime, words: &mut [u32], tally: &mut [usize]) -> io::Result<()> {
+    let mut text = Vec::new(rt.alloc());
+    rt.reader().take(1048576).read_to_end(&mut text)?;
+    let k = read(text.as_slice(), words);
+    walk(rt, &words[0..k], tally)?;
+    report(rt, tally)
 }
 
-fn main() {
-    let mut text = [0u8; 1048576];
-    let mut words = [0u32; 262144];
+fn main(rt: HostRuntime) -> io::Result<()> {
+    let mut words = vec![in rt.alloc(); 0u32; 262144]?;
     let mut tally = [0usize; 30];
-    run(&mut text, &mut words, &mut tally);
+    run(&rt, words.as_mut_slice(), &mut tally)
 }

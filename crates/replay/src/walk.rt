@@ -6,6 +6,7 @@ use crate::convert::{put_bytes, put_floats};
 use crate::print::say_other;
 use crate::readings::{junctions_again, lanes_again, length_again, targets_again};
 use crate::stream::{after, list, list_at, number};
+use std::io;
 
 // Runs a call again, over the tables of the last step of kind 1. Does it come out as recorded?
 fn again(kind: u32, text: &[u8], tables: &[u32], edges: &[f32], step: &[u32]) -> bool {
@@ -53,7 +54,7 @@ fn count(tally: &mut [usize], kind: u32, step: &[u32], well: bool) {
     }
 }
 
-pub fn walk(words: &[u32], tally: &mut [usize]) {
+pub fn walk(rt: &impl Print, words: &[u32], tally: &mut [usize]) -> io::Result<()> {
     let mut at = 0;
     let mut tables = 0;
     while at < words.len() {
@@ -64,7 +65,8 @@ pub fn walk(words: &[u32], tally: &mut [usize]) {
         let step = list_at(words, at + 1);
         let well = with_text(kind, list_at(words, tables), step);
         count(tally, kind, step, well);
-        say_other(well, at);
+        say_other(rt, well, at)?;
         at = after(words, at + 1);
     }
+    Ok(())
 }

@@ -7,6 +7,7 @@ use reading::lanes::{ReadLanes, read_lanes};
 use reading::length::{Length, check_length};
 use reading::numbers::{Link, lane_number};
 use reading::targets::{ReadTargets, read_targets};
+use std::io;
 use words::rows;
 
 // virtual at 0, direct at 7, end at 13, a at 16, b at 17, -12 at 18, +5 at 21, x at 23, junction at 24, End at 32,
@@ -17,58 +18,57 @@ const TEXT: [u8; 40] = *b"virtualdirectendab-12+5xjunctionEndstart";
 pub const NO_ELEMENT: [u32; 9] = [0, NO, 0, NO, 0, NO, 0, NO, 0];
 
 // A lane number with its sign, or none.
-fn print_link(q: Link) {
+fn print_link(rt: &impl Print, q: Link) -> io::Result<()> {
     if q.flag == 0 {
-        print(b"none\n");
-        return;
+        return print(rt, "none\n");
     }
     if q.number > 2147483647 {
-        print(b"-");
-        print_number(4294967295 - q.number + 1);
+        print(rt, "-")?;
+        print_number(rt, 4294967295 - q.number + 1)?;
     } else {
-        print_number(q.number);
+        print_number(rt, q.number)?;
     }
-    print(b"\n");
+    print(rt, "\n")
 }
 
-fn say_number(bytes: &[u8]) {
-    print(b"\"");
-    print(bytes);
-    print(b"\": ");
-    print_link(lane_number(bytes));
+fn say_number(rt: &impl Print, text: &str) -> io::Result<()> {
+    print(rt, "\"")?;
+    print(rt, text)?;
+    print(rt, "\": ")?;
+    print_link(rt, lane_number(text.as_bytes()))
 }
 
 // The answer, and every word of the output.
-fn say_lanes(answer: ReadLanes, out: &[u32]) {
+fn say_lanes(rt: &impl Print, answer: ReadLanes, out: &[u32]) -> io::Result<()> {
     match answer {
-        ReadLanes::Written(_) => print(b"written"),
-        ReadLanes::Refused(v) => print_refusal(v),
+        ReadLanes::Written(_) => print(rt, "written")?,
+        ReadLanes::Refused(v) => print_refusal(rt, v)?,
     }
-    print(b":");
-    print_list(out);
-    print(b"\n");
+    print(rt, ":")?;
+    print_list(rt, out)?;
+    print(rt, "\n")
 }
 
 // What reading raw lanes answers and leaves in an output.
-fn lanes_read(raw: &[u32], before: [u32; 9]) -> [u32; 9] {
+fn lanes_read(rt: &impl Print, raw: &[u32], before: [u32; 9]) -> io::Result<[u32; 9]> {
     let mut out = before;
     let answer = read_lanes(&TEXT, raw, &mut out);
-    say_lanes(answer, &out);
-    out
+    say_lanes(rt, answer, &out)?;
+    Ok(out)
 }
 
 // An output that is a word too short.
-fn show_short() {
+fn show_short(rt: &impl Print) -> io::Result<()> {
     let mut out = [9u32; 3];
     let answer = read_lanes(&TEXT, &[18, 3, 23, 1], &mut out);
-    say_lanes(answer, &out);
+    say_lanes(rt, answer, &out)
 }
 
 // -12 and "x"; none and +5; a name past the text.
-fn show_lanes() {
-    let out = lanes_read(&[18, 3, 23, 1, NO, 0, 21, 2], [9u32; 9]);
-    lanes_read(&[18, 3, 39, 2], out);
-    show_short();
+fn show_lanes(rt: &impl Print) -> io::Result<()> {
+    let out = lanes_read(rt, &[18, 3, 23, 1, NO, 0, 21, 2], [9u32; 9])?;
+    lanes_read(rt, &[18, 3, 39, 2], out)?;
+    show_short(rt)
 }
 
 // The raw targets of a road, predecessor first.
@@ -105,49 +105,59 @@ fn raw_targets() -> [u32; 54] {
 }
 
 // The answer, and every word of the two outputs.
-fn say_targets(answer: ReadTargets, targets: &[u32], warnings: &[u32]) {
+fn say_targets(
+    rt: &impl Print,
+    answer: ReadTargets,
+    targets: &[u32],
+    warnings: &[u32],
+) -> io::Result<()> {
     match answer {
-        ReadTargets::Written(_, _) => print(b"written"),
-        ReadTargets::Refused(v) => print_refusal(v),
+        ReadTargets::Written(_, _) => print(rt, "written")?,
+        ReadTargets::Refused(v) => print_refusal(rt, v)?,
     }
-    print(b":");
-    print_list(targets);
-    print(b"; warnings:");
-    print_list(warnings);
-    print(b"\n");
+    print(rt, ":")?;
+    print_list(rt, targets)?;
+    print(rt, "; warnings:")?;
+    print_list(rt, warnings)?;
+    print(rt, "\n")
 }
 
 // What reading raw targets answers and leaves in the outputs.
-fn targets_read(raw: &[u32], targets: &mut [u32], warnings: &mut [u32]) {
+fn targets_read(
+    rt: &impl Print,
+    raw: &[u32],
+    targets: &mut [u32],
+    warnings: &mut [u32],
+) -> io::Result<()> {
     let answer = read_targets(&TEXT, raw, targets, warnings);
-    say_targets(answer, targets, warnings);
+    say_targets(rt, answer, targets, warnings)
 }
 
 // The three roads: with either output too short by a word, then with a word to spare in both.
-fn show_targets() {
+fn show_targets(rt: &impl Print) -> io::Result<()> {
     let raw = raw_targets();
     let mut targets = [9u32; 43];
     let mut warnings = [9u32; 9];
     let mut few_targets = [9u32; 41];
     let mut few_warnings = [9u32; 7];
-    targets_read(&raw, &mut few_targets, &mut warnings);
-    targets_read(&raw, &mut targets, &mut few_warnings);
-    targets_read(&raw, &mut targets, &mut warnings);
+    targets_read(rt, &raw, &mut few_targets, &mut warnings)?;
+    targets_read(rt, &raw, &mut targets, &mut few_warnings)?;
+    targets_read(rt, &raw, &mut targets, &mut warnings)
 }
 
 // Raw targets that are refused, for more than their outputs.
-fn targets_refused(raw: &[u32]) {
+fn targets_refused(rt: &impl Print, raw: &[u32]) -> io::Result<()> {
     let mut targets = [9u32; 6];
     let mut warnings = [9u32; 3];
-    targets_read(raw, &mut targets, &mut warnings);
+    targets_read(rt, raw, &mut targets, &mut warnings)
 }
 
 // A road without its successor, also where a name lies past the text; a name without an element; a flag of 2.
-fn show_bad_targets() {
-    targets_refused(&NO_ELEMENT);
-    targets_refused(&[1, NO, 0, 41, 0, NO, 0, NO, 0]);
-    targets_refused(&two(NO_ELEMENT, [0, NO, 0, 16, 1, NO, 0, NO, 0]));
-    targets_refused(&two([2, NO, 0, 16, 1, NO, 0, NO, 0], NO_ELEMENT));
+fn show_bad_targets(rt: &impl Print) -> io::Result<()> {
+    targets_refused(rt, &NO_ELEMENT)?;
+    targets_refused(rt, &[1, NO, 0, 41, 0, NO, 0, NO, 0])?;
+    targets_refused(rt, &two(NO_ELEMENT, [0, NO, 0, 16, 1, NO, 0, NO, 0]))?;
+    targets_refused(rt, &two([2, NO, 0, 16, 1, NO, 0, NO, 0], NO_ELEMENT))
 }
 
 // The raw connections with one more, from word `at` on.
@@ -216,14 +226,14 @@ struct Outputs {
     warnings: [u32; 29],
 }
 
-fn say_joined(answer: ReadJunctions) {
+fn say_joined(rt: &impl Print, answer: ReadJunctions) -> io::Result<()> {
     match answer {
-        ReadJunctions::Written(_) => print(b"written"),
-        ReadJunctions::Refused(v) => print_refusal(v),
+        ReadJunctions::Written(_) => print(rt, "written"),
+        ReadJunctions::Refused(v) => print_refusal(rt, v),
     }
 }
 
-fn junctions_read(first: u32) -> Outputs {
+fn junctions_read(rt: &impl Print, first: u32) -> io::Result<Outputs> {
     let mut junctions = [9u32; 11];
     let mut connections = [9u32; 15];
     let mut pairs = [9u32; 5];
@@ -238,97 +248,96 @@ fn junctions_read(first: u32) -> Outputs {
         &mut pairs,
         &mut warnings,
     );
-    say_joined(answer);
-    Outputs {
+    say_joined(rt, answer)?;
+    Ok(Outputs {
         junctions,
         connections,
         pairs,
         warnings,
-    }
+    })
 }
 
-fn show_junctions(first: u32) {
-    let out = junctions_read(first);
+fn show_junctions(rt: &impl Print, first: u32) -> io::Result<()> {
+    let out = junctions_read(rt, first)?;
     let junctions = out.junctions;
     let connections = out.connections;
     let pairs = out.pairs;
     let warnings = out.warnings;
-    print(b"\njunctions:");
-    print_list(&junctions);
-    print(b"\nconnections:");
-    print_list(&connections);
-    print(b"\npairs:");
-    print_list(&pairs);
-    print(b"\nwarnings:");
-    print_list(&warnings);
-    print(b"\n");
+    print(rt, "\njunctions:")?;
+    print_list(rt, &junctions)?;
+    print(rt, "\nconnections:")?;
+    print_list(rt, &connections)?;
+    print(rt, "\npairs:")?;
+    print_list(rt, &pairs)?;
+    print(rt, "\nwarnings:")?;
+    print_list(rt, &warnings)?;
+    print(rt, "\n")
 }
 
-fn say_length(answer: Length) {
+fn say_length(rt: &impl Print, answer: Length) -> io::Result<()> {
     match answer {
-        Length::Fine => print(b": nothing to report\n"),
+        Length::Fine => print(rt, ": nothing to report\n"),
         Length::Off(sum) => {
             if sum == 3.0 {
-                print(b": reported, with 3\n");
-                return;
+                return print(rt, ": reported, with 3\n");
             }
-            print(b": reported\n");
+            print(rt, ": reported\n")
         }
-        Length::Uneven => print(b": refusal 16\n"),
+        Length::Uneven => print(rt, ": refusal 16\n"),
     }
 }
 
 // A road of two geometries, 1 and 2 long.
-fn two_long(label: &[u8], length: f64) {
-    print(label);
-    say_length(check_length(&[0.0, 1.0], &[1.0, 2.0], length));
+fn two_long(rt: &impl Print, label: &str, length: f64) -> io::Result<()> {
+    print(rt, label)?;
+    say_length(rt, check_length(&[0.0, 1.0], &[1.0, 2.0], length))
 }
 
-fn show_lengths() {
-    two_long(b"1 and 2, a road of 3", 3.0);
-    two_long(b"a road of 3.01", 3.01);
-    two_long(b"a road of 3.02", 3.02);
-    two_long(b"a road of 2", 2.0);
+fn show_lengths(rt: &impl Print) -> io::Result<()> {
+    two_long(rt, "1 and 2, a road of 3", 3.0)?;
+    two_long(rt, "a road of 3.01", 3.01)?;
+    two_long(rt, "a road of 3.02", 3.02)?;
+    two_long(rt, "a road of 2", 2.0)
 }
 
-fn show_odd_lengths() {
-    print(b"no geometry");
-    say_length(check_length(&[], &[], 2.0));
-    print(b"no length");
-    say_length(check_length(&[0.0], &[], 2.0));
-    print(b"a length of 0/0");
-    say_length(check_length(&[0.0], &[0.0 / 0.0], 2.0));
+fn show_odd_lengths(rt: &impl Print) -> io::Result<()> {
+    print(rt, "no geometry")?;
+    say_length(rt, check_length(&[], &[], 2.0))?;
+    print(rt, "no length")?;
+    say_length(rt, check_length(&[0.0], &[], 2.0))?;
+    print(rt, "a length of 0/0")?;
+    say_length(rt, check_length(&[0.0], &[0.0 / 0.0], 2.0))
 }
 
 // What is no number, and signs.
-fn show_signs() {
-    say_number(b"");
-    say_number(b"+");
-    say_number(b"-");
-    say_number(b"+-1");
-    say_number(b"1 ");
-    say_number(b"+7");
+fn show_signs(rt: &impl Print) -> io::Result<()> {
+    say_number(rt, "")?;
+    say_number(rt, "+")?;
+    say_number(rt, "-")?;
+    say_number(rt, "+-1")?;
+    say_number(rt, "1 ")?;
+    say_number(rt, "+7")
 }
 
 // Zeros in front, and the range's ends.
-fn show_range() {
-    say_number(b"-0");
-    say_number(b"-00000000000000000000000000000012");
-    say_number(b"2147483647");
-    say_number(b"2147483648");
-    say_number(b"-2147483648");
-    say_number(b"-2147483649");
+fn show_range(rt: &impl Print) -> io::Result<()> {
+    say_number(rt, "-0")?;
+    say_number(rt, "-00000000000000000000000000000012")?;
+    say_number(rt, "2147483647")?;
+    say_number(rt, "2147483648")?;
+    say_number(rt, "-2147483648")?;
+    say_number(rt, "-2147483649")
 }
 
-pub fn show() {
-    print(b"# Attributes\n");
-    show_signs();
-    show_range();
-    show_lanes();
-    show_targets();
-    show_bad_targets();
-    show_junctions(0);
-    show_junctions(1);
-    show_lengths();
-    show_odd_lengths();
+pub fn show(rt: &impl Print) -> io::Result<()> {
+    print(rt, "# Attributes\n")?;
+    show_signs(rt)?;
+    show_range(rt)?;
+    show_lanes(rt)?;
+    show_targets(rt)?;
+    show_bad_targets(rt)?;
+    show_junctions(rt, 0)?;
+    show_junctions(rt, 1)?;
+    show_lengths(rt)?;
+    show_odd_lengths(rt)
 }

@@ -9,6 +9,7 @@ use reading::junctions::{ReadJunctions, read_junctions};
 use reading::lanes::{ReadLanes, read_lanes};
 use reading::targets::{ReadTargets, read_targets};
 use repair::call::{Repaired, repair};
+use std::io;
 use succession::call::succession;
 use succession::lists::list_lookup;
 use words::rows;
@@ -39,42 +40,41 @@ pub struct Lists {
 }
 
 // What was accepted, and the warning row that it wrote, or none.
-fn say_warned(said: &[u8], n: usize, warnings: [u32; 4]) {
-    print(said);
-    print(b", warning row:");
+fn say_warned(rt: &impl Print, said: &str, n: usize, warnings: [u32; 4]) -> io::Result<()> {
+    print(rt, said)?;
+    print(rt, ", warning row:")?;
     if n == 0 {
-        print(b" none\n");
-        return;
+        return print(rt, " none\n");
     }
-    print_list(&warnings);
-    print(b"\n");
+    print_list(rt, &warnings)?;
+    print(rt, "\n")
 }
 
-fn say_targets(answer: ReadTargets, warnings: [u32; 4]) {
+fn say_targets(rt: &impl Print, answer: ReadTargets, warnings: [u32; 4]) -> io::Result<()> {
     match answer {
-        ReadTargets::Written(_, w) => say_warned(b"targets: read", w, warnings),
-        ReadTargets::Refused(v) => print_refusal(v),
-    }
-}
-
-fn say_lanes(answer: ReadLanes) {
-    match answer {
-        ReadLanes::Written(_) => print(b"lanes: read\n"),
-        ReadLanes::Refused(v) => print_refusal(v),
+        ReadTargets::Written(_, w) => say_warned(rt, "targets: read", w, warnings),
+        ReadTargets::Refused(v) => print_refusal(rt, v),
     }
 }
 
-fn say_joined(answer: ReadJunctions, warnings: [u32; 4]) {
+fn say_lanes(rt: &impl Print, answer: ReadLanes) -> io::Result<()> {
     match answer {
-        ReadJunctions::Written(n) => say_warned(b"junctions: read", n.warnings, warnings),
-        ReadJunctions::Refused(v) => print_refusal(v),
+        ReadLanes::Written(_) => print(rt, "lanes: read\n"),
+        ReadLanes::Refused(v) => print_refusal(rt, v),
     }
 }
 
-fn say_repaired(answer: Repaired, warnings: [u32; 4]) {
+fn say_joined(rt: &impl Print, answer: ReadJunctions, warnings: [u32; 4]) -> io::Result<()> {
     match answer {
-        Repaired::Written(n) => say_warned(b"repaired", n.warnings, warnings),
-        Repaired::Refused(v) => print_refusal(v),
+        ReadJunctions::Written(n) => say_warned(rt, "junctions: read", n.warnings, warnings),
+        ReadJunctions::Refused(v) => print_refusal(rt, v),
+    }
+}
+
+fn say_repaired(rt: &impl Print, answer: Repaired, warnings: [u32; 4]) -> io::Result<()> {
+    match answer {
+        Repaired::Written(n) => say_warned(rt, "repaired", n.warnings, warnings),
+        Repaired::Refused(v) => print_refusal(rt, v),
     }
 }
 
@@ -89,12 +89,12 @@ fn raw_targets(point: [u32; 2]) -> [u32; 54] {
     three_roads(w, c, e)
 }
 
-fn read_ends(point: [u32; 2]) -> [u32; 42] {
+fn read_ends(rt: &impl Print, point: [u32; 2]) -> io::Result<[u32; 42]> {
     let mut targets = [0u32; 42];
     let mut warnings = [0u32; 4];
     let answer = read_targets(&TEXT, &raw_targets(point), &mut targets, &mut warnings);
-    say_targets(answer, warnings);
-    targets
+    say_targets(rt, answer, warnings)?;
+    Ok(targets)
 }
 
 // A road with one section, which stands in a row, and with its two targets, 14 words.
@@ -117,11 +117,11 @@ fn roads(t: [u32; 42]) -> [u32; 60] {
 }
 
 // w has no link of its own; c comes from -1 and leads to -1; e comes from -1.
-fn read_links() -> [u32; 12] {
+fn read_links(rt: &impl Print) -> io::Result<[u32; 12]> {
     let raw = [NO, 0, NO, 0, 4, 2, 4, 2, 4, 2, NO, 0];
     let mut links = [0u32; 12];
-    say_lanes(read_lanes(&TEXT, &raw, &mut links));
-    links
+    say_lanes(rt, read_lanes(&TEXT, &raw, &mut links))?;
+    Ok(links)
 }
 
 // A forward lane with the number -1 on each road. Its links, read predecessor first, stand successor first.
@@ -148,9 +148,9 @@ fn edges() -> [f32; 36] {
 
 // The map with the contactPoints of c's predecessor and of the connection. Junction j: from w into c, met at its start;
 // lane -1 to lane -1.
-fn read(point: [u32; 2], met: [u32; 2]) -> Map {
-    let roads = roads(read_ends(point));
-    let lanes = lanes(read_links());
+fn read(rt: &impl Print, point: [u32; 2], met: [u32; 2]) -> io::Result<Map> {
+    let roads = roads(read_ends(rt, point)?);
+    let lanes = lanes(read_links(rt)?);
     let mut junctions = [0u32; 5];
     let mut connections = [0u32; 7];
     let mut pairs = [0u32; 2];
@@ -165,19 +165,19 @@ fn read(point: [u32; 2], met: [u32; 2]) -> Map {
         &mut pairs,
         &mut warnings,
     );
-    say_joined(answer, warnings);
-    Map {
+    say_joined(rt, answer, warnings)?;
+    Ok(Map {
         roads,
         junctions,
         connections,
         pairs,
         lanes,
         edges: edges(),
-    }
+    })
 }
 
 // The map after repair.
-pub fn repaired(m: Map) -> Map {
+pub fn repaired(rt: &impl Print, m: Map) -> io::Result<Map> {
     let roads = m.roads;
     let junctions = m.junctions;
     let connections = m.connections;
@@ -202,15 +202,15 @@ pub fn repaired(m: Map) -> Map {
         &mut d,
         &mut warnings,
     );
-    say_repaired(answer, warnings);
-    Map {
+    say_repaired(rt, answer, warnings)?;
+    Ok(Map {
         roads: a,
         junctions: b,
         connections: c,
         pairs: d,
         lanes,
         edges,
-    }
+    })
 }
 
 // The lists of a repaired map; zeros where succession refuses it.
@@ -246,57 +246,57 @@ pub fn linked(m: Map) -> Lists {
 }
 
 // A list of the lane in a row.
-fn print_side(l: Lists, row: usize, before: bool) {
+fn print_side(rt: &impl Print, l: Lists, row: usize, before: bool) -> io::Result<()> {
     let a = l.onward;
     let b = l.onward_ids;
     let c = l.before;
     let d = l.before_ids;
-    print_list(list_lookup(&a, &b, &c, &d, row, before));
+    print_list(rt, list_lookup(&a, &b, &c, &d, row, before))
 }
 
 // The lanes onward of the lane in a row, and the lanes before.
-fn print_row(l: Lists, identity: u32, row: usize) {
-    print(b"lane ");
-    print_number(identity);
-    print(b", onward:");
-    print_side(l, row, false);
-    print(b"; before:");
-    print_side(l, row, true);
-    print(b"\n");
+fn print_row(rt: &impl Print, l: Lists, identity: u32, row: usize) -> io::Result<()> {
+    print(rt, "lane ")?;
+    print_number(rt, identity)?;
+    print(rt, ", onward:")?;
+    print_side(rt, l, row, false)?;
+    print(rt, "; before:")?;
+    print_side(rt, l, row, true)?;
+    print(rt, "\n")
 }
 
 // A line for each lane.
-pub fn print_lists(l: Lists) {
-    print_row(l, 7, 0);
-    print_row(l, 3, 1);
-    print_row(l, 5, 2);
+pub fn print_lists(rt: &impl Print, l: Lists) -> io::Result<()> {
+    print_row(rt, l, 7, 0)?;
+    print_row(rt, l, 3, 1)?;
+    print_row(rt, l, 5, 2)
 }
 
 // The targets of w, c and e.
-fn print_targets(said: &[u8], roads: [u32; 60]) {
-    print(said);
-    print_list(&roads[4..18]);
-    print_list(&roads[24..38]);
-    print_list(&roads[44..58]);
-    print(b"\n");
+fn print_targets(rt: &impl Print, said: &str, roads: [u32; 60]) -> io::Result<()> {
+    print(rt, said)?;
+    print_list(rt, &roads[4..18])?;
+    print_list(rt, &roads[24..38])?;
+    print_list(rt, &roads[44..58])?;
+    print(rt, "\n")
 }
 
 // Reads the map with these contactPoints, and goes on with it.
-fn run(point: [u32; 2], met: [u32; 2]) -> Map {
-    let m = read(point, met);
+fn run(rt: &impl Print, point: [u32; 2], met: [u32; 2]) -> io::Result<Map> {
+    let m = read(rt, point, met)?;
     let read = m.roads;
-    print_targets(b"targets before repair:", read);
-    let r = repaired(m);
+    print_targets(rt, "targets before repair:", read)?;
+    let r = repaired(rt, m)?;
     let left = r.roads;
-    print_targets(b"targets after repair:", left);
-    print_lists(linked(r));
-    m
+    print_targets(rt, "targets after repair:", left)?;
+    print_lists(rt, linked(r))?;
+    Ok(m)
 }
 
-pub fn show() -> Map {
-    print(b"# Chain\n");
-    let m = run([6, 3], [9, 5]);
-    print(b"# Chain with End and Start\n");
-    run([14, 3], [17, 5]);
-    m
+pub fn show(rt: &impl Print) -> io::Result<Map> {
+    print(rt, "# Chain\n")?;
+    let m = run(rt, [6, 3], [9, 5])?;
+    print(rt, "# Chain with End and Start\n")?;
+    run(rt, [14, 3], [17, 5])?;
+    Ok(m)
 }

@@ -8,12 +8,15 @@ mod print;
 mod refusals;
 mod sequence;
 
+use std::io;
+
 // The first word of a name that is absent.
 pub const NO: u32 = 4294967295;
 
-fn main() {
-    cards::show();
-    refusals::show();
-    attributes::show();
-    sequence::show(chain::show());
+fn main(rt: HostRuntime) -> io::Result<()> {
+    cards::show(&rt)?;
+    refusals::show(&rt)?;
+    attributes::show(&rt)?;
+    let map = chain::show(&rt)?;
+    sequence::show(&rt, map)
 }

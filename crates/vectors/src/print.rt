@@ -1,37 +1,37 @@
 // Words in print.
-use libc::STDOUT_FILENO;
+use std::io;
 use tables::check;
 use tables::verdict::Verdict;
 
-pub fn print(text: &[u8]) {
-    io::write_all(STDOUT_FILENO, text);
+pub fn print(rt: &impl Print, text: &str) -> io::Result<()> {
+    rt.print(text)
 }
 
-pub fn print_number(n: u32) {
-    io::print_decimal(STDOUT_FILENO, n as u64);
+pub fn print_number(rt: &impl Print, n: u32) -> io::Result<()> {
+    rt.print(n)
 }
 
 // Eight hexadecimal digits.
-pub fn print_bits(bits: u32) {
-    io::print_hex(STDOUT_FILENO, bits as u64, 8);
+pub fn print_bits(rt: &impl Print, bits: u32) -> io::Result<()> {
+    print!(rt; "{bits:08x}")
 }
 
 // The words of a list, or "none".
-pub fn print_list(words: &[u32]) {
+pub fn print_list(rt: &impl Print, words: &[u32]) -> io::Result<()> {
     if words.len() == 0 {
-        print(b" none");
-        return;
+        return print(rt, " none");
     }
     let mut i = 0;
     while i < words.len() {
-        print(b" ");
-        print_number(words[i]);
+        print(rt, " ")?;
+        print_number(rt, words[i])?;
         i += 1;
     }
+    Ok(())
 }
 
-// A number of document 01; the line's end is the caller's.
-pub fn print_refusal(verdict: Verdict) {
-    print(b"refusal ");
-    print_number(check::number(verdict));
+// The number of a refusal; the line's end is the caller's.
+pub fn print_refusal(rt: &impl Print, verdict: Verdict) -> io::Result<()> {
+    print(rt, "refusal ")?;
+    print_number(rt, check::number(verdict))
 }

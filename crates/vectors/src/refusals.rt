@@ -1,6 +1,7 @@
 // Each refusal number that reads tables, on a small map with one fault, and which of two faults is named first.
 use crate::NO;
 use crate::print::{print, print_refusal};
+use std::io;
 use tables::check;
 use tables::verdict::Verdict;
 use words::rows;
@@ -40,30 +41,44 @@ fn roads(at: usize, word: u32, also: usize, other: u32) -> [u32; 40] {
     table
 }
 
-fn say(label: &[u8], verdict: Verdict) {
-    print(label);
+fn say(rt: &impl Print, label: &str, verdict: Verdict) -> io::Result<()> {
+    print(rt, label)?;
     if check::number(verdict) == 0 {
-        print(b": admitted\n");
-        return;
+        return print(rt, ": admitted\n");
     }
-    print(b": ");
-    print_refusal(verdict);
-    print(b"\n");
+    print(rt, ": ")?;
+    print_refusal(rt, verdict)?;
+    print(rt, "\n")
 }
 
-fn repair_says(label: &[u8], roads: &[u32], last: u32, connections: &[u32]) {
+fn repair_says(
+    rt: &impl Print,
+    label: &str,
+    roads: &[u32],
+    last: u32,
+    connections: &[u32],
+) -> io::Result<()> {
     say(
+        rt,
         label,
         check::check_repair(&TEXT, roads, &[0, 0, last], &JUNCTIONS, connections, &PAIRS),
-    );
+    )
 }
 
 // Repair's check with two words of the roads changed and the last section number given.
-fn roads_say(label: &[u8], at: usize, word: u32, also: usize, other: u32, last: u32) {
-    repair_says(label, &roads(at, word, also, other), last, &CONNECTIONS);
+fn roads_say(
+    rt: &impl Print,
+    label: &str,
+    at: usize,
+    word: u32,
+    also: usize,
+    other: u32,
+    last: u32,
+) -> io::Result<()> {
+    repair_says(rt, label, &roads(at, word, also, other), last, &CONNECTIONS)
 }
 
-fn succession_says(label: &[u8], lanes: &[u32]) {
+fn succession_says(rt: &impl Print, label: &str, lanes: &[u32]) -> io::Result<()> {
     let roads = roads(40, 0, 40, 0);
     let verdict = check::check_succession(
         &TEXT,
@@ -74,7 +89,7 @@ fn succession_says(label: &[u8], lanes: &[u32]) {
         &PAIRS,
         lanes,
     );
-    say(label, verdict);
+    say(rt, label, verdict)
 }
 
 // The lanes with two words changed.
@@ -90,8 +105,15 @@ fn lanes(at: usize, word: u32, also: usize, other: u32) -> [u32; 20] {
 }
 
 // Succession's check with two words of the lanes changed.
-fn lanes_say(label: &[u8], at: usize, word: u32, also: usize, other: u32) {
-    succession_says(label, &lanes(at, word, also, other));
+fn lanes_say(
+    rt: &impl Print,
+    label: &str,
+    at: usize,
+    word: u32,
+    also: usize,
+    other: u32,
+) -> io::Result<()> {
+    succession_says(rt, label, &lanes(at, word, also, other))
 }
 
 // The first n words, or all where they are fewer.
@@ -113,7 +135,8 @@ fn front_floats<'a>(floats: &'a [f32], n: usize) -> &'a [f32] {
 // Reversal's check with the kind of junction j, the second number of the pair, a link number, so many floats as edges,
 // the first mark and so many marks.
 fn reversal_says(
-    label: &[u8],
+    rt: &impl Print,
+    label: &str,
     roads: [u32; 40],
     kind: u32,
     to: u32,
@@ -121,7 +144,7 @@ fn reversal_says(
     floats: usize,
     mark: u32,
     marks: usize,
-) {
+) -> io::Result<()> {
     let edges = [0.0f32; 36];
     let marked = [mark, 0, 0];
     let verdict = check::check_reversal(
@@ -135,71 +158,89 @@ fn reversal_says(
         front_floats(&edges, floats),
         front(&marked, marks),
     );
-    say(label, verdict);
+    say(rt, label, verdict)
 }
 
 // 1 and 2, which repair tests, as 3 to 5.
-fn map_faults() {
-    roads_say(b"a good map", 40, 0, 40, 0, 1);
-    repair_says(b"roads of 39 words", &[0u32; 39], 1, &CONNECTIONS);
+fn map_faults(rt: &impl Print) -> io::Result<()> {
+    roads_say(rt, "a good map", 40, 0, 40, 0, 1)?;
+    repair_says(rt, "roads of 39 words", &[0u32; 39], 1, &CONNECTIONS)?;
     repair_says(
-        b"connections of 6 words",
+        rt,
+        "connections of 6 words",
         &roads(40, 0, 40, 0),
         1,
         &[0, 1, 1, 1, 0, 0],
-    );
-    roads_say(b"a present flag of 2", 11, 2, 40, 0, 1);
-    roads_say(b"a name past the text", 1, 4, 40, 0, 1);
-    roads_say(b"a name whose end passes a word", 20, NO, 21, NO, 1);
+    )?;
+    roads_say(rt, "a present flag of 2", 11, 2, 40, 0, 1)?;
+    roads_say(rt, "a name past the text", 1, 4, 40, 0, 1)?;
+    roads_say(rt, "a name whose end passes a word", 20, NO, 21, NO, 1)
 }
 
 // 3 to 5.
-fn row_faults() {
-    roads_say(b"road a twice", 20, 0, 40, 0, 1);
-    roads_say(b"sections that do not ascend", 40, 0, 40, 0, 0);
-    roads_say(b"a section part whose end passes a word", 39, NO, 40, 0, 1);
+fn row_faults(rt: &impl Print) -> io::Result<()> {
+    roads_say(rt, "road a twice", 20, 0, 40, 0, 1)?;
+    roads_say(rt, "sections that do not ascend", 40, 0, 40, 0, 0)?;
+    roads_say(
+        rt,
+        "a section part whose end passes a word",
+        39,
+        NO,
+        40,
+        0,
+        1,
+    )?;
     repair_says(
-        b"a pair part from row 1",
+        rt,
+        "a pair part from row 1",
         &roads(40, 0, 40, 0),
         1,
         &[0, 1, 1, 1, 0, 1, 1],
-    );
+    )?;
     roads_say(
-        b"road a twice, and sections that do not ascend",
+        rt,
+        "road a twice, and sections that do not ascend",
         20,
         0,
         40,
         0,
         0,
-    );
+    )
 }
 
 // 6 to 8, which succession tests too.
-fn lane_faults() {
-    lanes_say(b"good lanes", 20, 0, 20, 0);
-    succession_says(b"lanes of 19 words", &[0u32; 19]);
-    lanes_say(b"a link number without its flag", 7, 5, 20, 0);
-    lanes_say(b"identity 7 twice", 10, 7, 20, 0);
-    lanes_say(b"a lane on road j, which is unknown", 11, 2, 20, 0);
-    lanes_say(b"a lane in section 2 of road b", 13, 2, 20, 0);
-    lanes_say(b"two lanes of one road, section and number", 11, 0, 20, 0);
-    lanes_say(b"identity 7 twice, and a lane on road j", 10, 7, 11, 2);
+fn lane_faults(rt: &impl Print) -> io::Result<()> {
+    lanes_say(rt, "good lanes", 20, 0, 20, 0)?;
+    succession_says(rt, "lanes of 19 words", &[0u32; 19])?;
+    lanes_say(rt, "a link number without its flag", 7, 5, 20, 0)?;
+    lanes_say(rt, "identity 7 twice", 10, 7, 20, 0)?;
+    lanes_say(rt, "a lane on road j, which is unknown", 11, 2, 20, 0)?;
+    lanes_say(rt, "a lane in section 2 of road b", 13, 2, 20, 0)?;
+    lanes_say(
+        rt,
+        "two lanes of one road, section and number",
+        11,
+        0,
+        20,
+        0,
+    )?;
+    lanes_say(rt, "identity 7 twice, and a lane on road j", 10, 7, 11, 2)
 }
 
 // 10, 12 and 13, which reversal tests too.
-fn reversal_faults() {
+fn reversal_faults(rt: &impl Print) -> io::Result<()> {
     let r = roads(40, 0, 40, 0);
-    reversal_says(b"a good reversal", r, 0, 1, 1, 24, 1, 2);
-    reversal_says(b"edges of 25 floats", r, 0, 1, 1, 25, 1, 2);
-    reversal_says(b"edges of three lanes", r, 0, 1, 1, 36, 1, 2);
-    reversal_says(b"three marks", r, 0, 1, 1, 24, 1, 3);
-    reversal_says(b"a mark of 2", r, 0, 1, 1, 24, 2, 2);
-    reversal_says(b"a pair number of -2147483648", r, 0, LEAST, 1, 24, 1, 2);
-    reversal_says(b"a link number of -2147483648", r, 0, 1, LEAST, 24, 1, 2);
+    reversal_says(rt, "a good reversal", r, 0, 1, 1, 24, 1, 2)?;
+    reversal_says(rt, "edges of 25 floats", r, 0, 1, 1, 25, 1, 2)?;
+    reversal_says(rt, "edges of three lanes", r, 0, 1, 1, 36, 1, 2)?;
+    reversal_says(rt, "three marks", r, 0, 1, 1, 24, 1, 3)?;
+    reversal_says(rt, "a mark of 2", r, 0, 1, 1, 24, 2, 2)?;
+    reversal_says(rt, "a pair number of -2147483648", r, 0, LEAST, 1, 24, 1, 2)?;
+    reversal_says(rt, "a link number of -2147483648", r, 0, 1, LEAST, 24, 1, 2)
 }
 
 // 14, and 10 before 12.
-fn last_faults() {
+fn last_faults(rt: &impl Print) -> io::Result<()> {
     let r = roads(40, 0, 40, 0);
     // road a names junction j at both ends
     let mut ends = r;
@@ -208,7 +249,8 @@ fn last_faults() {
     ends[6] = 2;
     ends[7] = 1;
     reversal_says(
-        b"road a at both ends of direct junction j, marked",
+        rt,
+        "road a at both ends of direct junction j, marked",
         ends,
         1,
         1,
@@ -216,11 +258,12 @@ fn last_faults() {
         24,
         1,
         2,
-    );
-    reversal_says(b"the same, road a not marked", ends, 1, 1, 1, 24, 0, 2);
-    reversal_says(b"the same, junction j common", ends, 0, 1, 1, 24, 1, 2);
+    )?;
+    reversal_says(rt, "the same, road a not marked", ends, 1, 1, 1, 24, 0, 2)?;
+    reversal_says(rt, "the same, junction j common", ends, 0, 1, 1, 24, 1, 2)?;
     reversal_says(
-        b"edges of three lanes, and three marks",
+        rt,
+        "edges of three lanes, and three marks",
         r,
         0,
         1,
@@ -228,14 +271,14 @@ fn last_faults() {
         36,
         1,
         3,
-    );
+    )
 }
 
-pub fn show() {
-    print(b"# Refusals\n");
-    map_faults();
-    row_faults();
-    lane_faults();
-    reversal_faults();
-    last_faults();
+pub fn show(rt: &impl Print) -> io::Result<()> {
+    print(rt, "# Refusals\n")?;
+    map_faults(rt)?;
+    row_faults(rt)?;
+    lane_faults(rt)?;
+    reversal_faults(rt)?;
+    last_faults(rt)
 }
