@@ -101,8 +101,8 @@ lane_road-f-requires c = let turn : In-loop-i = search in
         links start,
         c.loop-i.invariant.room,
       );
-      chained = ((chained start, c.loop-i.invariant.owned)).0;
-      owned = ((chained start, c.loop-i.invariant.owned)).1;
+      chained = chained start;
+      owned = c.loop-i.invariant.owned;
     }
 
 pub overflow_cast-owner : goal.overflow_cast-owner

@@ -11,15 +11,14 @@ link_names-requires c = record {
       empty = fresh;
     }
 
--- `kept` counts the arguments of `link_names`: `heads` is its sixth and `next` its seventh
 pub none_twice-requires : goal.none_twice-requires
-none_twice-requires c = let kept = (c.link_names.auto.heads, c.link_names.auto.next) in
+none_twice-requires c = 
     record {
       roads_len = c.requires.0;
       by_name = record {
         few = c.requires.1;
-        buckets = kept.0 ∙ fresh.buckets;
-        rows = kept.1.0 ∙ fresh.rows;
+        buckets = c.link_names.auto.heads ∙ fresh.buckets;
+        rows = c.link_names.auto.next ∙ fresh.rows;
         chains = c.link_names.ensures.chained;
       };
     }
