@@ -168,28 +168,18 @@ returns-then-not-identities_once c = let past : Else-not-admitted = search in
 pub lanes_listed-requires : goal.lanes_listed-requires
 lanes_listed-requires c = let past : Else-not-admitted = search in
     let judged-map = judged (tried past) in
-    let lengths = (judged-map.map_verdict-first.auto.heads, judged-map.map_verdict-first.auto.next) in
     let empty = names_empty (begun past) in
     record {
       roads_len_bound = (
         (few past).few_roads,
         lanes_few past,
-        omega (arith, lengths, empty.buckets),
-        omega (arith, lengths, empty.rows),
+        omega (arith, judged-map.map_verdict-first.auto.heads, empty.buckets),
+        omega (arith, judged-map.map_verdict-first.auto.next, empty.rows),
         owner_long (begun past),
       );
-      roads_value = ((
-        parts_of _ _ _ (kept past).sections,
-        (not-true _ (sym (roads_once_lem _ _ _) ∙ (kept past).once), judged-map.map_verdict-first.ensures.chained (admitted past)),
-      )).0;
-      roads_value_2 = ((
-        parts_of _ _ _ (kept past).sections,
-        (not-true _ (sym (roads_once_lem _ _ _) ∙ (kept past).once), judged-map.map_verdict-first.ensures.chained (admitted past)),
-      )).1.0;
-      chained = ((
-        parts_of _ _ _ (kept past).sections,
-        (not-true _ (sym (roads_once_lem _ _ _) ∙ (kept past).once), judged-map.map_verdict-first.ensures.chained (admitted past)),
-      )).1.1;
+      roads_value = parts_of _ _ _ (kept past).sections;
+      roads_value_2 = not-true _ (sym (roads_once_lem _ _ _) ∙ (kept past).once);
+      chained = judged-map.map_verdict-first.ensures.chained (admitted past);
     }
 
 pub returns-then-not-lanes_listed : goal.returns-then-not-lanes_listed

@@ -45,6 +45,9 @@ Start = lts.Start tie.the-claims reads.Pre reads.Post tie.handed_clauses
 abbrev After-fits-2 : Type 0
 After-fits-2 = lts.After-fits2 tie.the-claims reads.Pre reads.Post tie.handed_clauses
 
+abbrev After-fits : Type 0
+After-fits = lts.After-fits tie.the-claims reads.Pre reads.Post tie.handed_clauses
+
 abbrev After-both-a : Type 0
 After-both-a = lts.After-both tie.the-claims reads.Pre reads.Post tie.handed_clauses
 
@@ -98,12 +101,12 @@ sizes_are : (asked : After-both-sizes)
 unfolding map_sized lanes_sized edges_sized
 sizes_are asked =
     let map-sized : After-map_sized = search in
-    let lanes-sized : After-fits-2 = search in
+    let lanes-sized : After-fits = search in
     let map-and-lanes : After-both-a = search in
-    let edges_sized_lem : goal.UNKNOWN-After-fits3 = search in
+    let edges-sized : After-fits-2 = search in
     both_is asked.both-sizes.ensures
-    (both_is map-and-lanes.both-a.ensures map-sized.map_sized.ensures lanes-sized.fits-2.ensures)
-    edges_sized_lem.fits3.ensures
+    (both_is map-and-lanes.both-a.ensures map-sized.map_sized.ensures lanes-sized.fits.ensures)
+    edges-sized.fits-2.ensures
 
 words_are : (asked : After-both-words)
     → asked.both-words.result ≡ (map_worded (tables (search)) && lanes_worded (tables (search)))
@@ -200,9 +203,9 @@ table_verdict-first-requires c = let asked : After-both-sizes = search in
     λ passes. left_on _ (edges_sized t) (sym (sizes_are asked) ∙ passes) in
     record {
       few = (λ passes. few_map t (said passes), λ passes. few_lanes t (said passes));
-      empty = ((start sized).requires).0;
-      owner_len = ((start sized).requires).1.0;
-      empty_2 = ((start sized).requires).1.1;
+      empty = (start sized).requires.empty;
+      owner_len = (start sized).requires.owner_len;
+      empty_2 = (start sized).requires.empty_2;
     }
 
 pub returns-then-not-admitted : goal.returns-then-not-admitted

@@ -21,6 +21,9 @@ After-map_sized = lts.After-map_sized tie.the-claims reads.Pre reads.Post tie.ha
 abbrev Start : Type 0
 Start = lts.Start tie.the-claims reads.Pre reads.Post tie.handed_clauses
 
+abbrev After-fits : Type 0
+After-fits = lts.After-fits tie.the-claims reads.Pre reads.Post tie.handed_clauses
+
 abbrev After-both-words : Type 0
 After-both-words = lts.After-both2 tie.the-claims reads.Pre reads.Post tie.handed_clauses
 
@@ -46,8 +49,8 @@ sizes_are : (asked : After-both-sizes)
 unfolding map_sized lanes_sized
 sizes_are asked =
     let map-sized : After-map_sized = search in
-    let lanes-sized : goal.UNKNOWN-After-fits2 = search in
-    both_is asked.both-sizes.ensures map-sized.map_sized.ensures lanes-sized.fits2.ensures
+    let lanes-sized : After-fits = search in
+    both_is asked.both-sizes.ensures map-sized.map_sized.ensures lanes-sized.fits.ensures
 
 words_are : (asked : After-both-words)
     → asked.both-words.result ≡ (map_worded (tables (search)) && lanes_worded (tables (search)))
@@ -64,9 +67,9 @@ lane_verdict-requires c = let asked : After-both-sizes = search in
     let said = sym (sizes_are asked) in
     record {
       few = (λ passes. few_map t (said ∙ passes), λ passes. few_lanes t (said ∙ passes));
-      empty = ((start sized).requires).0;
-      owner_len = ((start sized).requires).1.0;
-      empty_2 = ((start sized).requires).1.1;
+      empty = (start sized).requires.empty;
+      owner_len = (start sized).requires.owner_len;
+      empty_2 = (start sized).requires.empty_2;
     }
 
 pub returns : goal.returns
