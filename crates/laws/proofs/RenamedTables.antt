@@ -13,7 +13,7 @@ use Rattle.model.specs.Orders.{InAnyOrder, InOrder}
 use Rattle.model.specs.Records.{EdgedLane, Lane, Road, Span}
 use Rattle.model.specs.Renamed.{EdgedRenamed, JunctionName, LaneRenamed, NewName, OneIdentity, Renamed, RenamedClaim}
 use Rattle.model.specs.Renamed.{Renaming, RoadName, SameByIdentity, WarningRenamed, identities_of, name_at}
-use Rattle.model.specs.Repair.{Warning, warnings}
+use Rattle.model.specs.Repair.{Warning}
 use Rattle.model.specs.Rows.{table}
 use Rattle.model.specs.Rules.{ids_once, names_once, same}
 use Rattle.model.specs.Succession.{successors}

@@ -7,9 +7,9 @@ use Rattle.rules.proofs.lanes.identities_once.Goals as goal
 
 pub link_ids-requires : goal.link_ids-requires
 link_ids-requires c = record {
-      n_in_bounds = (omega arith, omega (arith, c.requires));
-      empty = fresh;
-    }
+  n_in_bounds = (omega arith, omega (arith, c.requires));
+  empty = fresh;
+}
 
 pub returns : goal.returns
 returns c = ap not c.link_ids.ensures.value

@@ -1,4 +1,3 @@
-use Prim.Native.Nat.{◌-◌}
 use native.Mathlib.Omega.{arith}
 use mathlib.Core.Bool.{not}
 use mathlib.Core.Path.{◌≡◌, sym, ap, ◌∙◌}
@@ -51,9 +50,9 @@ bounds-marks-i c = omega (arith, c.requires.roads_len)
 
 pub twice_named-twice-requires : goal.twice_named-twice-requires
 twice_named-twice-requires c = record {
-      at_in_bounds = omega arith;
-      by_name = c.requires.by_name;
-    }
+  at_in_bounds = omega arith;
+  by_name = c.requires.by_name;
+}
 
 pub returns-then-both : goal.returns-then-both
 returns-then-both c = one_fails c.loop-i.invariant c.loop-i-test.true (sym (judged_is (search)) ∙ ap not c.if-both.true)

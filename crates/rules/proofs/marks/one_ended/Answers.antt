@@ -7,12 +7,12 @@ use Rattle.rules.proofs.marks.one_ended.Goals as goal
 
 pub link_names-requires : goal.link_names-requires
 link_names-requires c = record {
-      w_bound = (omega arith, omega arith, rows_in _ 5, c.requires.1);
-      empty = fresh;
-    }
+  w_bound = (omega arith, omega arith, rows_in _ 5, c.requires.1);
+  empty = fresh;
+}
 
 pub none_twice-requires : goal.none_twice-requires
-none_twice-requires c = 
+none_twice-requires c =
     record {
       roads_len = c.requires.0;
       by_name = record {

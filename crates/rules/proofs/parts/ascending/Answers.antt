@@ -1,8 +1,6 @@
 use borrow.Author.Count.{below_none, below_more}
 use native.Mathlib.Omega.{arith}
 use mathlib.Core.Path.{sym}
-use Prim.Native.Nat.{◌-◌}
-use Rattle.model.specs.Rows.{part}
 use Rattle.rules.proofs.Fits.{ascend_off, ascend_on}
 use Rattle.rules.proofs.parts.ascending.Goals as goal
 

@@ -1,7 +1,6 @@
 -- Number after number: before turn `k` each of the first `k` is below its next.
 use lib.ListN.{length, get_or}
 use Prim.Native.Nat.{ℕ, ◌+◌, ◌-◌, ◌<◌, ◌≤◌}
-use Rattle.model.specs.Rows.{part}
 use Rattle.rules.proofs.parts.ascending.Given as goal
 
 abbrev pub invariant-loop-k : goal.invariant-loop-k

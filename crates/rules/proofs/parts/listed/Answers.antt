@@ -4,9 +4,8 @@ use lib.Dec.{eqb}
 use native.Mathlib.Omega.{arith}
 use mathlib.Core.Bool.{◌||◌}
 use mathlib.Core.Path.{◌≡◌, refl, sym, ◌∙◌}
-use Prim.Native.Nat.{◌+◌, ◌-◌}
+use Prim.Native.Nat.{◌+◌}
 use Rattle.model.specs.Lists.{member}
-use Rattle.model.specs.Rows.{part}
 use Rattle.words.proofs.Laws.{or_left}
 use Rattle.rules.proofs.Fits.{member_end, member_step}
 use Rattle.rules.proofs.parts.listed.Lts as lts

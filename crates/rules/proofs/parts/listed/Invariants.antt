@@ -3,7 +3,6 @@ use lib.ListN.{length, drop}
 use mathlib.Core.Path.{◌≡◌}
 use Prim.Native.Nat.{◌-◌}
 use Rattle.model.specs.Lists.{member}
-use Rattle.model.specs.Rows.{part}
 use Rattle.rules.proofs.parts.listed.Given as goal
 
 abbrev pub invariant-loop-k : goal.invariant-loop-k

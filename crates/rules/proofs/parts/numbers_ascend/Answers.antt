@@ -1,4 +1,3 @@
-use Prim.Native.Nat.{◌-◌}
 use native.Mathlib.Omega.{arith}
 use borrow.Author.Tests.{not-true, not-false}
 use mathlib.Core.Path.{◌≡◌, sym, ap, ◌∙◌}
@@ -42,9 +41,9 @@ loop-i-init c = passing_none
 
 pub numbers-requires : goal.numbers-requires
 numbers-requires c = record {
-      roads_value = c.requires;
-      r_in_bounds = omega arith;
-    }
+  roads_value = c.requires;
+  r_in_bounds = omega arith;
+}
 
 pub returns-then-not-ascending : goal.returns-then-not-ascending
 returns-then-not-ascending c = one_fails c.loop-i.invariant c.loop-i-test.true (sym (judged_is (search)) ∙ not-true _ c.if-not-ascending.true-raw)

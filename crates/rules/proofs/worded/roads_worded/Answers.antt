@@ -1,8 +1,6 @@
-use Prim.Native.Nat.{◌-◌}
 use native.Mathlib.Omega.{arith}
 use borrow.Author.Tests.{not-true, not-false}
 use mathlib.Core.Path.{sym, ◌∙◌}
-use Rattle.model.specs.Rules.{road_worded}
 use Rattle.words.proofs.Scans.{passing_more, passing_none, row_fails, rows_pass}
 use Rattle.rules.proofs.Locals.{road_local}
 use Rattle.rules.proofs.worded.roads_worded.Goals as goal

@@ -6,7 +6,7 @@ use Rattle.tables.proofs.check.check_succession.Goals as goal
 
 pub succession_verdict-requires : goal.succession_verdict-requires
 succession_verdict-requires c = record {
-      empty = fresh;
-      owner_len = length-replicate {A = ℕ} 16384 0;
-      empty_2 = fresh;
-    }
+  empty = fresh;
+  owner_len = length-replicate {A = ℕ} 16384 0;
+  empty_2 = fresh;
+}

@@ -86,15 +86,15 @@ returns-then-not-sizes c = let start : Start = search in
 pub returns-then-not-words : goal.returns-then-not-words
 unfolding rules_to5
 returns-then-not-words c = record {
-      result_value = broken_at 1 (rule_list (start (search))) (sized (search), tt) (not-true _ c.if-not-words.true-raw);
-      chained = refused 2;
-    }
+  result_value = broken_at 1 (rule_list (start (search))) (sized (search), tt) (not-true _ c.if-not-words.true-raw);
+  chained = refused 2;
+}
 
 pub link_names-requires : goal.link_names-requires
 link_names-requires c = record {
-      w_bound = (omega arith, omega arith, rows_in (length c.args.roads.now) 20, (few (search)).few_roads);
-      empty = c.requires.empty;
-    }
+  w_bound = (omega arith, omega arith, rows_in (length c.args.roads.now) 20, (few (search)).few_roads);
+  empty = c.requires.empty;
+}
 
 pub returns-then-link_names : goal.returns-then-link_names
 unfolding rules_to5

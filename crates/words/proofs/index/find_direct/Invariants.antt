@@ -1,6 +1,5 @@
 -- `find_direct` walks the chain of the name's bucket, as `find_key` does; a row passes that is direct and bears the
 -- name.
-use Prim.Native.Nat.{◌-◌}
 use Rattle.words.specs.Keys.{hash_name, is_direct_of, name_hash}
 use Rattle.words.specs.Rows.{span}
 use Rattle.words.proofs.Loops.{Lookup}

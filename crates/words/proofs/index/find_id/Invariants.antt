@@ -1,5 +1,5 @@
 -- `find_id` walks the chain of the identity's bucket, as `find_key` does.
-use Prim.Native.Nat.{◌-◌, ◌%◌}
+use Prim.Native.Nat.{◌%◌}
 use Rattle.words.specs.Keys.{id_hash, is_id}
 use Rattle.words.proofs.Loops.{Lookup}
 use Rattle.words.proofs.index.find_id.Given as goal

@@ -1,6 +1,5 @@
 -- `find_key` walks one bucket's chain back from its head. At the loop's head no row from `at` on has the key,
 -- which is what `Lookup` says: each need is a law of `Chains` about it.
-use Prim.Native.Nat.{◌-◌}
 use Rattle.words.specs.Keys.{is_key, key_hash, lane_hash}
 use Rattle.words.proofs.Loops.{Lookup}
 use Rattle.words.proofs.index.find_key.Given as goal

@@ -1,5 +1,4 @@
 -- `find_name` walks the chain of the name's bucket, as `find_key` does.
-use Prim.Native.Nat.{◌-◌}
 use Rattle.words.specs.Keys.{bears, hash_name, name_hash}
 use Rattle.words.specs.Rows.{span}
 use Rattle.words.proofs.Loops.{Lookup}

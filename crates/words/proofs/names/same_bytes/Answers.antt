@@ -4,7 +4,7 @@ use lib.ListN.{length, get_or}
 use native.Mathlib.Omega.{arith}
 use mathlib.Core.List.{List}
 use mathlib.Core.Path.{◌≡◌, sym, ap}
-use Prim.Native.Nat.{ℕ, ◌-◌}
+use Prim.Native.Nat.{ℕ}
 use Rattle.words.proofs.KeyLaws.{equal_off, equal_on}
 use Rattle.words.proofs.names.same_bytes.Goals as goal
 

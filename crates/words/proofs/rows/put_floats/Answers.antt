@@ -1,4 +1,3 @@
-use Prim.Native.Nat.{◌-◌}
 use native.Mathlib.Omega.{arith}
 use Rattle.words.proofs.Laws.{all_put, putting_more, putting_none}
 use Rattle.words.proofs.rows.put_floats.Goals as goal
