@@ -16,7 +16,8 @@ use Rattle.geometry.specs.declared.gap.Decision.{Decision}
 use Rattle.geometry.specs.declared.gap.Decision.TheVariants.{Passed, Wide}
 use Rattle.geometry.proofs.Promises.{gap_of_choice}
 use Rattle.model.specs.Calls.{gap_content, gap_words}
-use Rattle.model.specs.Gaps.{GapRow, closest_between, ends_of, gap_between, gap_row, gaps_from, link_gaps, row_of_identity}
+use Rattle.model.specs.Gaps.{GapRow, closest_between, ends_of, gap_between, gap_row, gaps_from, link_gaps}
+use Rattle.model.specs.Gaps.{row_of_identity}
 use Rattle.model.specs.Lists.{gather, list_o}
 use Rattle.model.specs.Lookup.{lists_after, lists_in}
 use Rattle.model.specs.Records.{EdgedLane}
@@ -103,7 +104,8 @@ unfolding gap_words
 row_words_lem i r u v Passed = refl
 row_words_lem i r u v (Wide w) = refl
 
-words_of : (i r : ℕ) (a b : EdgedLane) → gather gap_words (gap_row i a (r, b)) ≡ row_of i r (seen_of (closest_between a b))
+words_of : (i r : ℕ) (a b : EdgedLane)
+    → gather gap_words (gap_row i a (r, b)) ≡ row_of i r (seen_of (closest_between a b))
 unfolding gap_row
 words_of i r a b =
     let at = closest_between a b in

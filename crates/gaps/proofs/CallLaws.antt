@@ -9,7 +9,8 @@ use lib.Dec.{eqb, leb}
 use lib.ListN.{length, take, take-append-drop}
 use borrow.Author.Tests.{eqb-true, leb-true, not-true}
 use Rattle.model.specs.Calls.{gap_rules, lane_rules, rules_to5}
-use Rattle.model.specs.Rules.{Rule, edges_even, edges_sized, first_broken, lanes_sized, lists_fit, lists_sized, map_sized}
+use Rattle.model.specs.Rules.{Rule, edges_even, edges_sized, first_broken, lanes_sized, lists_fit, lists_sized}
+use Rattle.model.specs.Rules.{map_sized}
 use Rattle.model.specs.Rules.{rule, sized}
 use Rattle.model.specs.Tables.{Tables}
 use Rattle.laws.proofs.RulesReversed.{unbroken_append}

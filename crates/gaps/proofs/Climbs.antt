@@ -48,7 +48,8 @@ module _ (end : ℕ) (os : List ℕ) (last i : ℕ) (h : i < length os) where
       ≡ (leb last (get_or os i 0) && climbs_to end (get_or os i 0) (drop (i + 1) os))
   climbs_split = rw (add-one, drop-cons os i 0 h)
 
-  pub climbs_on : last ≤ get_or os i 0 → climbs_to end last (drop i os) ≡ climbs_to end (get_or os i 0) (drop (i + 1) os)
+  pub climbs_on : last ≤ get_or os i 0
+      → climbs_to end last (drop i os) ≡ climbs_to end (get_or os i 0) (drop (i + 1) os)
   climbs_on l =
       climbs_split ∙ ap (λ b. b && climbs_to end (get_or os i 0) (drop (i + 1) os)) (le-leb last (get_or os i 0) l)
 

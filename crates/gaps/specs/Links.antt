@@ -1,6 +1,7 @@
 -- The gap rows by row numbers: what the loops over lanes and links write. proofs/ has them as the model's gap
 -- rows. Definitions only.
-use Rattle.std.specs.Prelude.{Bool, true, not, ◌&&◌, cond, List, [], ◌∷◌, ◌≡◌, ℕ, suc, ◌+◌, ◌*◌, ◌-◌, ◌/◌, ◌≤◌, T, eqb, Float, length, get_or}
+use Rattle.std.specs.Prelude.{Bool, true, not, ◌&&◌, cond, List, [], ◌∷◌, ◌≡◌, ℕ, suc, ◌+◌, ◌*◌, ◌-◌, ◌/◌, ◌≤◌, T, eqb}
+use Rattle.std.specs.Prelude.{Float, length, get_or}
 use Rattle.std.specs.Float.Ieee.{is_nan}
 use Rattle.geometry.specs.declared.gap.Decision.{Decision}
 use Rattle.geometry.specs.declared.gap.Decision.TheVariants.{Passed, Wide}

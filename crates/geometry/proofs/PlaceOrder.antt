@@ -1,5 +1,6 @@
 -- The choice among the pairs of ends. Gaps and places compare as their bits in rows do, so that `better` compares one
--- number, the key, of which gap, u and v are the digits (`better_key`), and the choice has the least key (`best_from_lem`).
+-- number, the key, of which gap, u and v are the digits (`better_key`), and the choice has the least key
+-- (`best_from_lem`).
 -- So what a row shows of it does not depend on the order of the pairs (`any_order`) nor on which way a lane is turned
 -- (`from_turned_shown`, `to_turned_shown`). Its gap is `gap_of` (`ends_gap`), its places lie from 0 to 1
 -- (`ends_within`), and with an infinite gap both are 0 (`infinite_nought`). Only `better_key` looks into `better`.
@@ -202,7 +203,8 @@ best_from_lem a (x ∷ cs) choice fair =
 abbrev pub places_shown : Closest → ℕ × ℕ
 places_shown c = (place_bits c.u, place_bits c.v)
 
-key_shows : {c d : Closest} → Fair c → Fair d → key_of c ≡ key_of d → (c.gap ≡ d.gap) × (places_shown c ≡ places_shown d)
+key_shows : {c d : Closest} → Fair c → Fair d → key_of c ≡ key_of d
+    → (c.gap ≡ d.gap) × (places_shown c ≡ places_shown d)
 key_shows {c} {d} fair-c fair-d same =
     let same_gap : to_bits binary32 c.gap ≡ to_bits binary32 d.gap =
     omega (arith, same, places_low fair-c, places_low fair-d) in
@@ -247,7 +249,8 @@ module _ (from : List (List Point)) (df : Direction) (to : List (List Point)) (d
   to_turned_shown = (any_order (ends_fair from df (swapped to) (flipped dt)) (to_turned closest_of from to df dt)).1
 
   pub ends_best : Best unmet (end_pairs (exits_of df from) (entries_of dt to))
-  ends_best = best_from_lem unmet (end_pairs (exits_of df from) (entries_of dt to)) unmet_choice (ends_fair from df to dt)
+  ends_best =
+      best_from_lem unmet (end_pairs (exits_of df from) (entries_of dt to)) unmet_choice (ends_fair from df to dt)
 
   pub ends_gap : (closest_ends from df to dt).gap ≡ gap_of from df to dt
   unfolding closest_ends gap_of

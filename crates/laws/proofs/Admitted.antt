@@ -137,7 +137,8 @@ road_spelt_lem text ss r h =
 connection_spelt_lem : (text : List ℕ) (ps : List Pair) (r : List ℕ) → connection_worded text r ≡ true
     → connection_spelt text (connection_in ps r) ≡ true
 unfolding connection_worded connection_in
-connection_spelt_lem text ps r h = and_left (placed text (span_in r 0) && placed text (span_in r 2)) (leb (word r 4) 1) h
+connection_spelt_lem text ps r h =
+    and_left (placed text (span_in r 0) && placed text (span_in r 2)) (leb (word r 4) 1) h
 
 junction_spelt_lem : (text : List ℕ) (cs : List Connection) (r : List ℕ) → every (connection_spelt text) cs ≡ true
     → junction_worded text r ≡ true → junction_spelt text (junction_in cs r) ≡ true

@@ -15,7 +15,8 @@ use Rattle.model.specs.Rows.{rows, rows_from, table, word}
 use Rattle.model.specs.Tables.{Tables, all_connections, all_pairs, bit, connection_in, connection_row}
 use Rattle.model.specs.Tables.{connection_words, connections_in, direction_word, is_absent, junction_in, junction_row}
 use Rattle.model.specs.Tables.{junction_words, junctions_in, kind_word, lane_in, lane_row, lane_words, lanes_in}
-use Rattle.model.specs.Tables.{link_of, link_words, map_of, name_in, name_words, pair_in, pair_row, pair_words, pairs_in}
+use Rattle.model.specs.Tables.{link_of, link_words, map_of, name_in, name_words, pair_in, pair_row, pair_words}
+use Rattle.model.specs.Tables.{pairs_in}
 use Rattle.model.specs.Tables.{road_in, road_row, road_words, roads_in, section_words, span_in, span_words, target_of}
 use Rattle.model.specs.Tables.{target_words}
 use Rattle.laws.proofs.ForEach.{each_append, each_drop, each_gather, each_over, each_take}

@@ -9,7 +9,8 @@ use native.Mathlib.Nat.{le_of_suc-le-suc, not-suc-le-zero}
 use lib.Dec.{eqb}
 use lib.ListN.{get_or, length}
 use borrow.Author.Tests.{eq-eqb, eqb-true}
-use Rattle.model.specs.Lists.{amend, bind_o, distinct, final, first, gather, insert, is_some, keep, list_o, or_else, some?}
+use Rattle.model.specs.Lists.{amend, bind_o, distinct, final, first, gather, insert, is_some, keep, list_o, or_else}
+use Rattle.model.specs.Lists.{some?}
 use Rattle.model.specs.Lists.{sort}
 use Rattle.model.specs.Orders.{BothOrNone, neither, both, InAnyOrder, emptied, among, InOrder, ended, paired}
 use Rattle.model.specs.Orders.{SameCollection}
@@ -250,7 +251,8 @@ module _ {A B : Type 0} {R : A → B → Type 0} where
           rw (nothing.0, nothing.1) tt
       go (v ∷ vs) left one = absurd one
 
-  any_first_of : {xs : List A} {ys : List B} → InAnyOrder R xs ys → AtMostOne xs → BothOrNone R (first_of xs) (first_of ys)
+  any_first_of : {xs : List A} {ys : List B} → InAnyOrder R xs ys → AtMostOne xs
+      → BothOrNone R (first_of xs) (first_of ys)
   any_first_of emptied one = neither
   any_first_of (among {x} {xs} {y} before after r rest) one = go xs rest one
     where
@@ -312,7 +314,8 @@ module _ {A B : Type 0} {R : A → B → Type 0} (key : A → ℕ) (key' : B →
   -- rows of one number stand to one another
   pub any_row : (once' : KeysOnce key' ys) (i j : ℕ) (z : A) (z' : B) → i < length xs → j < length ys
       → key' (get_or ys j z') ≡ key (get_or xs i z) → R (get_or xs i z) (get_or ys j z')
-  any_row once' i j z z' row row' e = go (rw (first_row_lem key xs i z row once, there) at (any_key (key (get_or xs i z))))
+  any_row once' i j z z' row row' e =
+      go (rw (first_row_lem key xs i z row once, there) at (any_key (key (get_or xs i z))))
     where
       there : first (λ y. eqb (key' y) (key (get_or xs i z))) ys ≡ some (get_or ys j z')
       there = ap (λ n. first (λ y. eqb (key' y) n) ys) (sym e) ∙ first_row_lem key' ys j z' row' once'

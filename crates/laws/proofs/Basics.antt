@@ -163,7 +163,8 @@ module _ {A B : Type 0} where
 
   pub first_map_lem : (f : A → B) (p : B → Bool) (xs : List A) → first p (map f xs) ≡ map_o f (first (λ x. p (f x)) xs)
   first_map_lem f p [] = refl
-  first_map_lem f p (x ∷ xs) = rw (first_map_lem f p xs) (sym (map_o_cond f (p (f x)) (some x) (first (λ x. p (f x)) xs)))
+  first_map_lem f p (x ∷ xs) =
+      rw (first_map_lem f p xs) (sym (map_o_cond f (p (f x)) (some x) (first (λ x. p (f x)) xs)))
 
   pub final_map : (f : A → B) (p : B → Bool) (xs : List A) → final p (map f xs) ≡ map_o f (final (λ x. p (f x)) xs)
   final_map f p [] = refl

@@ -146,7 +146,8 @@ module _ (same : Span → Span → Bool) (A : Alike same) (m : Map)
       c.contact p.to) in
       omega (arith, length_keep (λ (p : Pair). eqb p.from k) c.pairs)
 
-  through_junction_few : (n : Span) (k : ℕ) (j : Junction) → length (through_junction same m n k j) ≤ length (pairs_of j)
+  through_junction_few : (n : Span) (k : ℕ) (j : Junction)
+      → length (through_junction same m n k j) ≤ length (pairs_of j)
   unfolding through_junction
   through_junction_few n k j =
       gather_kept (λ c. same c.incoming n) (λ c. through_pairs same m c k) (λ c. c.pairs) j.connections

@@ -26,7 +26,8 @@ use Rattle.model.specs.Reversal.{leads_to, mirror, mirrored, negated, reverse_co
 use Rattle.model.specs.Reversal.{reverse_junction, reverse_lane, reverse_link, reverse_map, reverse_pair}
 use Rattle.model.specs.Reversal.{reverse_road, reverse_target, reverse_warning, roadward}
 use Rattle.model.specs.Rows.{table, written}
-use Rattle.model.specs.Rules.{borne, connection_parts_fit, connection_worded, edges_even, edges_sized, first_broken, ids_once}
+use Rattle.model.specs.Rules.{borne, connection_parts_fit, connection_worded, edges_even, edges_sized, first_broken}
+use Rattle.model.specs.Rules.{ids_once}
 use Rattle.model.specs.Rules.{junction_worded, lane_fine, lane_worded, lanes_sized, lanes_worded, link_worded}
 use Rattle.model.specs.Rules.{listed_in, lists_fit, lists_sized, map_sized, map_worded, marks_fit, names_direct_twice}
 use Rattle.model.specs.Rules.{names_once, names_twice, numbers_fine, one_ended_in, pair_fine, pair_parts_fit}
@@ -53,16 +54,17 @@ abbrev at : ℕ → ℕ → Point
 at x y = record { x = bits x; y = bits y; z = bits 0 }
 
 -- no rule refuses the tables repair, nor what it leaves succession; and these are the lists
-pub record Gives (t : Tables) (successor_offsets successor_ids predecessor_offsets predecessor_ids : List ℕ) : Type 0 where
-  pub repair_passes : first_broken (repair_rules t) ≡ none
-  pub succession_passes : first_broken (succession_rules (repaired_tables t)) ≡ none
-  pub lists_are : list_content (repaired_tables t)
-      ≡ record {
-        successor_offsets = successor_offsets;
-        successor_ids = successor_ids;
-        predecessor_offsets = predecessor_offsets;
-        predecessor_ids = predecessor_ids;
-      }
+pub record Gives (t : Tables) (successor_offsets successor_ids predecessor_offsets predecessor_ids : List ℕ) : Type 0
+  where
+    pub repair_passes : first_broken (repair_rules t) ≡ none
+    pub succession_passes : first_broken (succession_rules (repaired_tables t)) ≡ none
+    pub lists_are : list_content (repaired_tables t)
+        ≡ record {
+          successor_offsets = successor_offsets;
+          successor_ids = successor_ids;
+          predecessor_offsets = predecessor_offsets;
+          predecessor_ids = predecessor_ids;
+        }
 
 -- road b reversed, with outputs just long enough
 abbrev reversing_b : Call
@@ -93,7 +95,8 @@ unfolding repaired_tables rules_to5 lane_rules repair_lengths repair_counts put_
     succession_call gap_words gap_content gap_rules gap_call reversal_lengths reversal_counts put_reversed
     reversal_content table_rules mark_rules reversal_rules reversal_refusal reversal_call gap_between
     closest_between gap_row link_gaps
-    linked put_target vacant_end swapped back_at road_of meets in_virtual without_along back_end missing_end missing_link
+    linked put_target vacant_end swapped back_at road_of meets in_virtual without_along back_end missing_end
+    missing_link
     meeting_end runs_back back_of reversed repair_roads repair_junction start_roads repair warn_one warnings negated
     mirror mirrored reverse_target reverse_road reverse_pair reverse_connection reverse_junction reverse_warning
     roadward leads_to reverse_link reverse_lane reverse_map reverse_edged table written sized map_sized lanes_sized
@@ -106,8 +109,10 @@ unfolding repaired_tables rules_to5 lane_rules repair_lengths repair_counts put_
     successor_lists predecessor_lists road_in road_row pair_in pair_row connection_in connection_row junction_in
     junction_row lane_in lane_row edge_row roads_in pairs_in connections_in junctions_in lanes_in map_of edged_lanes_of
     road_words section_words all_connections all_pairs junction_words connection_words pair_words lane_words edge_words
-    tables_of bytes_of same_in placed midpoint_below midpoint_above root_bits root_of below_zero minus_of plus_of times_of
-    dot_of length_of clamp_of free_place places_apart places_of places_for apart_of min_of least_from gap_of better chosen_of
+    tables_of bytes_of same_in placed midpoint_below midpoint_above root_bits root_of below_zero minus_of plus_of
+    times_of
+    dot_of length_of clamp_of free_place places_apart places_of places_for apart_of min_of least_from gap_of better
+    chosen_of
     best_from closest_ends of_bits to_bits add sub mul div neg lt le eq is_nan
 bench_cards = (
   refl,

@@ -17,7 +17,8 @@ use Rattle.model.specs.Tables.{all_connections, all_pairs, bit, connection_in, c
 use Rattle.model.specs.Tables.{connections_in, direction_of, direction_word, edge_row, edge_words, edged_lanes_of}
 use Rattle.model.specs.Tables.{flag, is_absent, junction_in, junction_row, junction_words, junctions_in, kind_of}
 use Rattle.model.specs.Tables.{kind_word, lane_in, lane_row, lane_words, lanes_in, link_flag, link_number, link_of}
-use Rattle.model.specs.Tables.{map_of, name_size, name_start, pair_in, pair_row, pair_words, pairs_in, road_in, road_row}
+use Rattle.model.specs.Tables.{map_of, name_size, name_start, pair_in, pair_row, pair_words, pairs_in, road_in}
+use Rattle.model.specs.Tables.{road_row}
 use Rattle.model.specs.Tables.{road_words, roads_in, section_words, tables_of, target_of, target_word, with_edges}
 use Rattle.laws.proofs.Basics.{map_id}
 use Rattle.laws.proofs.ForEach.{each, each_map}
@@ -165,7 +166,8 @@ roads_back rs h =
 
 pub pairs_back : (js : List Junction) → map pair_in (table 2 (pair_words js)) ≡ all_pairs js
 unfolding pair_words
-pairs_back js = ap (map pair_in) (table_even 2 pair_row (all_pairs js) (omega arith) (each pair_width_lem (all_pairs js)))
+pairs_back js =
+    ap (map pair_in) (table_even 2 pair_row (all_pairs js) (omega arith) (each pair_width_lem (all_pairs js)))
     ∙ map-map pair_in pair_row (all_pairs js)
     ∙ map_id (λ p. pair_in (pair_row p)) (all_pairs js) (each pair_back (all_pairs js))
 

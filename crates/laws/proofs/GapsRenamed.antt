@@ -79,7 +79,8 @@ module _ (ids : ℕ → ℕ) where
         map by_ids (list_o (row_of_identity k 0 all) (gap_row i a)) ≡ list_o (bearing all k) (wide a)
     unfolding gap_row named
     row_named_lem a i told k =
-        leaf (row_of_identity k 0 all) ∙ ap (λ o. list_o o row) (row_bearing_lem k 0 all all_told) ∙ back (bearing all k)
+        leaf (row_of_identity k 0 all) ∙ ap (λ o. list_o o row) (row_bearing_lem k 0 all all_told)
+        ∙ back (bearing all k)
       where
         row : ℕ × EdgedLane → List (List ℕ)
         row b = link_row (identity_of a) b.0 a b.1

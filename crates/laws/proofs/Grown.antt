@@ -158,7 +158,8 @@ module _ (t : Tables) (h : first_broken (repair_rules t) ≡ none) where
   rules = let p = all_pass (repair_rules t) h in (p.0, p.1.0, p.1.1.0, p.1.1.1.0, p.1.1.1.1.0)
 
   bare_passed : Passed (bare t)
-  unfolding bare map_worded lanes_worded names_once section_parts_fit sections_ascend connection_parts_fit pair_parts_fit
+  unfolding bare map_worded lanes_worded names_once section_parts_fit sections_ascend connection_parts_fit
+      pair_parts_fit
       ids_once listed_in places_once edges_even roads_in lanes_in table
   bare_passed = record {
     worded = ap (λ b. b && true) rules.1;

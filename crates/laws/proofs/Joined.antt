@@ -15,7 +15,8 @@ use Rattle.model.specs.Joined.{is_readings, is_repairs, joined_from, joined_warn
 use Rattle.model.specs.Lists.{gather, is_some, keep, list_o, map_o}
 use Rattle.model.specs.Reading.{RawTables, ReadWarning, connection_dropped, connection_loose, connection_warnings}
 use Rattle.model.specs.Reading.{connections_at, contact_at, contact_warnings, junction_rows, junction_warnings}
-use Rattle.model.specs.Reading.{kept_connections, kind_at, lane_link_dropped, lane_link_warnings, lane_links_at, part_rows}
+use Rattle.model.specs.Reading.{kept_connections, kind_at, lane_link_dropped, lane_link_warnings, lane_links_at}
+use Rattle.model.specs.Reading.{part_rows}
 use Rattle.model.specs.Reading.{passed_over, raw_junction, read_connection, read_junction, read_junctions, read_pair}
 use Rattle.model.specs.Reading.{read_warning_row, read_warnings, target_loose, target_warnings, to_list}
 use Rattle.model.specs.ReadingCalls.{junction_content, target_content}
@@ -78,7 +79,8 @@ row_by_row {j} (more {n = n} here rest at later) =
 
     other_rows : gather (λ i. warned_at i (here ++ rest)) (part_rows (suc j) n)
         ≡ gather (λ i. warned_at i rest) (part_rows (suc j) n)
-    other_rows = gather_ext _ _ (part_rows (suc j) n) (each_map later_row (part_rows (suc j) n) (rows_from_lem (suc j) n))
+    other_rows =
+        gather_ext _ _ (part_rows (suc j) n) (each_map later_row (part_rows (suc j) n) (rows_from_lem (suc j) n))
 
 -- ---- those of reading
 abbrev ReadOf : ℕ → ReadWarning → Type 0
@@ -126,7 +128,8 @@ module _ (t : RawTables) where
       go : (named : Bool) → Each (ReadOf j) (cond named (gather (connection_warnings t j) (connections_at t j))
           (map (connection_dropped j) (connections_at t j)))
       go true = each_gathered (ReadOf j) (connection_warnings t j) (of_connection j) (connections_at t j)
-      go false = each_of_map (connection_dropped j) (ReadOf j) (connections_at t j) (each (λ c. refl) (connections_at t j))
+      go false =
+          each_of_map (connection_dropped j) (ReadOf j) (connections_at t j) (each (λ c. refl) (connections_at t j))
 
   read_in_rows : (j n : ℕ) → InRows j n (map read_warning_row (gather (junction_warnings t) (part_rows j n)))
   read_in_rows j zero = nothing
@@ -153,7 +156,8 @@ read_rows ws = table_even 4 read_warning_row ws (omega arith) (each four ws)
     four (connection_loose j c) = refl
     four (target_loose r e) = refl
 
-all_readings : (ws : List ReadWarning) → Each (λ w. is_readings w ≡ true) (table warning_width (gather read_warning_row ws))
+all_readings : (ws : List ReadWarning)
+    → Each (λ w. is_readings w ≡ true) (table warning_width (gather read_warning_row ws))
 all_readings ws =
     rw (read_rows ws) (each_of_map read_warning_row (λ w. is_readings w ≡ true) ws (each is_reading ws))
 
@@ -224,7 +228,8 @@ module _ (t : RawTables) (read repaired : List (List ℕ)) (of_reading : Each (�
       ∙ ap (λ xs. xs ++ keep is_readings rest)
       (keep_each is_readings (warned_at j read) (each_keep (λ w. is_readings w ≡ true) _ read of_reading))
 
-  readings_past : (k : ℕ) (rest : List (List ℕ)) → keep is_readings (warned_at k repaired ++ rest) ≡ keep is_readings rest
+  readings_past : (k : ℕ) (rest : List (List ℕ))
+      → keep is_readings (warned_at k repaired ++ rest) ≡ keep is_readings rest
   readings_past k rest = keep_append is_readings (warned_at k repaired) rest
       ∙ ap (λ xs. xs ++ keep is_readings rest)
       (keep_no is_readings (warned_at k repaired) (each_keep (λ w. is_readings w ≡ false) _ repaired
@@ -267,7 +272,8 @@ module _ (t : RawTables) (read repaired : List (List ℕ)) (of_reading : Each (�
           record { name = n; kind = kind_at t j; connections = gather (kept_connections t j) (connections_at t j) }
 
       go : (name : Option Span)
-          → ((i : ℕ) → keep is_repairs (joined i js) ≡ gather (λ i. warned_at i repaired) (part_rows i (rows_read t js)))
+          → ((i : ℕ) → keep is_repairs (joined i js)
+          ≡ gather (λ i. warned_at i repaired) (part_rows i (rows_read t js)))
           → keep is_repairs (cond (is_some name) (warned_at k repaired ++ joined (suc k) js) (joined k js))
           ≡ gather (λ i. warned_at i repaired)
           (part_rows k (length (to_list (map_o named name) ++ gather (λ j. to_list (read_junction t j)) js)))

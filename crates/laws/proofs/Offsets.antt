@@ -195,7 +195,8 @@ module _ (t : Tables) (h : first_broken (succession_rules t) ≡ none) where
       → first_broken (gap_rules t (list_content t).successor_offsets (list_content t).successor_ids) ≡ none
   unfolding gap_rules rules_to5 lane_rules
   through edges_hold =
-      let map-sized = and_both (map_sized 16384 t && lanes_sized t) (edges_sized t) facts.sizes (edges_sized_lem edges_hold) in
+      let map-sized =
+      and_both (map_sized 16384 t && lanes_sized t) (edges_sized t) facts.sizes (edges_sized_lem edges_hold) in
       let all-sized = and_both (map_sized 16384 t && lanes_sized t && edges_sized t)
       (lists_sized (list_content t).successor_offsets (list_content t).successor_ids) map-sized lists_sized_lem in
       pass_all (gap_rules t (list_content t).successor_offsets (list_content t).successor_ids) (

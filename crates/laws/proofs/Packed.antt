@@ -147,7 +147,8 @@ module _ (t : Tables) where
           → (by refusal).answer ≡ wrote counts → Mutual t.lanes (list_rows counts (by refusal).outs)
       go (some k) broken said = absurd (false≢true (ap is_accepted said))
       go none unbroken said =
-          let written = ap (λ ns. list_rows ns (put_lists (list_content t) o)) (sym (ap counts_of said)) ∙ rows_content o in
+          let written =
+          ap (λ ns. list_rows ns (put_lists (list_content t) o)) (sym (ap counts_of said)) ∙ rows_content o in
           let rules-unbroken = (unbroken_append (succession_rules t) nine unbroken).0 in
           subst (Mutual t.lanes) (sym written) (mutual_content (listable t rules-unbroken).identities)
 

@@ -17,7 +17,8 @@ use Rattle.model.specs.Repair.{Warning}
 use Rattle.model.specs.Rows.{table}
 use Rattle.model.specs.Rules.{ids_once, names_once, same}
 use Rattle.model.specs.Succession.{successors}
-use Rattle.model.specs.Tables.{Tables, bit, edged_lanes_of, lane_in, lane_width, lanes_in, lanes_of, map_of, road_in, road_width}
+use Rattle.model.specs.Tables.{Tables, bit, edged_lanes_of, lane_in, lane_width, lanes_in, lanes_of, map_of, road_in}
+use Rattle.model.specs.Tables.{road_width}
 use Rattle.model.specs.Tables.{roads_in, roads_of, span_in}
 use Rattle.model.specs.Text.{bytes_of, equal_bytes, same_in}
 use Rattle.model.proofs.RenamedCorners.{both_admitted, copy, first_map, is_copy, prefixed}

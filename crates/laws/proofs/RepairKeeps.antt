@@ -26,7 +26,8 @@ seen_roadward : (same : Span → Span → Bool) (rs : List Road) (n : Span) (e :
 unfolding roadward
 seen_roadward same rs n e = go (road_of same rs n)
   where
-    go : (o : Option Road) → bind_o (bind_o o (target_at e)) road_named ≡ bind_o o (λ r. bind_o (target_at e r) road_named)
+    go : (o : Option Road)
+        → bind_o (bind_o o (target_at e)) road_named ≡ bind_o o (λ r. bind_o (target_at e r) road_named)
     go none = refl
     go (some r) = refl
 

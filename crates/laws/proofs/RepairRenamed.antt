@@ -11,8 +11,10 @@ use Rattle.model.specs.Renamed.{ConnectionRenamed, JunctionRenamed, LaneRenamed,
 use Rattle.model.specs.Renamed.{TargetRenamed}
 use Rattle.model.specs.Repair.{back_at, back_end, back_of, connections_after, drop_along, in_virtual, is_virtual}
 use Rattle.model.specs.Repair.{junctions_over, link_at_end, linked, meeting_end, meets, missing_end, missing_link}
-use Rattle.model.specs.Repair.{missing_links, names_junction, put_target, repair, repair_junction, repair_roads, reversed}
-use Rattle.model.specs.Repair.{road_of, roads_after, roads_over, runs_back, start_roads, swapped, vacant_end, without_along}
+use Rattle.model.specs.Repair.{missing_links, names_junction, put_target, repair, repair_junction, repair_roads}
+use Rattle.model.specs.Repair.{reversed}
+use Rattle.model.specs.Repair.{road_of, roads_after, roads_over, runs_back, start_roads, swapped, vacant_end}
+use Rattle.model.specs.Repair.{without_along}
 use Rattle.laws.proofs.AnyOrder.{AtMostOne, any_amend, any_first, any_map, both_bind, both_both, both_some}
 use Rattle.laws.proofs.AnyOrder.{distinct_one, order_append, order_first, order_gather, order_keep, order_some}
 use Rattle.laws.proofs.RepairEach.{cleared}
@@ -301,7 +303,8 @@ module _ (N : Names) where
   roads_over_lem ended h = h
   roads_over_lem (paired {x = j} {y = j'} k rest) h = roads_over_lem rest (repair_roads_lem h j j' k)
 
-  junctions_over_lem : {js js' : List Junction} → InOrder Junctions js js' → {rs rs' : List Road} → RoadsRenamed rs rs' →
+  junctions_over_lem : {js js' : List Junction} → InOrder Junctions js js' → {rs rs' : List Road}
+      → RoadsRenamed rs rs' →
       InOrder Junctions (junctions_over N.same js rs) (junctions_over N.same' js' rs')
   junctions_over_lem ended h = ended
   junctions_over_lem (paired {x = j} {y = j'} k rest) h =

@@ -10,7 +10,8 @@ use Rattle.model.specs.Records.{target_at, virtual}
 use Rattle.model.specs.Repair.{back_end, drop_along, in_virtual, is_virtual, link_at_end, linked, meeting_end, meets}
 use Rattle.model.specs.Repair.{missing_end, missing_link, missing_links, names_junction, put_target, repair}
 use Rattle.model.specs.Repair.{repair_roads, road_of, roads_after, roads_over, start_roads, vacant_end, without_along}
-use Rattle.model.specs.Reversal.{mirrored, reverse_connection, reverse_junction, reverse_map, reverse_road, reverse_target}
+use Rattle.model.specs.Reversal.{mirrored, reverse_connection, reverse_junction, reverse_map, reverse_road}
+use Rattle.model.specs.Reversal.{reverse_target}
 use Rattle.laws.proofs.Basics.{first_map_lem, map_ext, map_o_is_some, ⊕-self}
 use Rattle.laws.proofs.ForEach.{each}
 use Rattle.laws.proofs.Names.{road_of_name}
@@ -59,7 +60,8 @@ target_at_bare false r = refl
 target_at_bare true r = refl
 
 module _ (same : Span → Span → Bool) where
-  pub road_of_bare : (rs : List Road) (n : Span) → road_of same (map bare_road rs) n ≡ map_o bare_road (road_of same rs n)
+  pub road_of_bare : (rs : List Road) (n : Span)
+      → road_of same (map bare_road rs) n ≡ map_o bare_road (road_of same rs n)
   unfolding road_of bare_road
   road_of_bare rs n = first_map_lem bare_road (λ r. same r.name n) rs
 
@@ -249,7 +251,8 @@ module _ (same : Span → Span → Bool) (mk : Span → Bool) where
             sections = cond (mk r.name) (mirrored r.sections) r.sections;
           }
 
-      go : (b : Bool) → cond b (cleared (reverse_road mk r)) (reverse_road mk r) ≡ reverse_road mk (cond b (cleared r) r)
+      go : (b : Bool) → cond b (cleared (reverse_road mk r)) (reverse_road mk r)
+          ≡ reverse_road mk (cond b (cleared r) r)
       go true = clear
       go false = refl
 

@@ -345,7 +345,8 @@ module _ (text : List ℕ) (m : Map) (xs : List EdgedLane) (h : Sound text m xs)
   mended_lanes : lanes_of mended ≡ m.lanes
   mended_lanes = is_lanes text mended_map xs mended_sound ∙ (unfold repair in refl)
 
-  pub lists_fit_reversed : (offsets ids : List ℕ) → lists_fit turned_then_mended offsets ids ≡ lists_fit mended offsets ids
+  pub lists_fit_reversed : (offsets ids : List ℕ)
+      → lists_fit turned_then_mended offsets ids ≡ lists_fit mended offsets ids
   unfolding lists_fit borne
   lists_fit_reversed offsets ids =
       λ i. eqb (length offsets) (suc (even_after.lanes i / 10)) && climbs (length ids) offsets && all_borne i

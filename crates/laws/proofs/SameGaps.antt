@@ -88,12 +88,14 @@ module _ (same : Span → Span → Bool) (mk : Span → Bool) (R : List Road) wh
   rows_reversed ls i (a ∷ more) (n ∷ ns) =
       ap₂ (λ x y. x ++ y) (gather_ext _ _ n (each one n)) (rows_reversed ls (suc i) more ns)
     where
-      link_found : (o : Option (ℕ × EdgedLane)) → list_o (map_o turn_found o) (gap_row i (turn a)) ≡ list_o o (gap_row i a)
+      link_found : (o : Option (ℕ × EdgedLane))
+          → list_o (map_o turn_found o) (gap_row i (turn a)) ≡ list_o o (gap_row i a)
       link_found none = refl
       link_found (some b) = row_reversed i a b
 
       one : (k : ℕ)
-          → list_o (row_of_identity k 0 (map turn ls)) (gap_row i (turn a)) ≡ list_o (row_of_identity k 0 ls) (gap_row i a)
+          → list_o (row_of_identity k 0 (map turn ls)) (gap_row i (turn a))
+          ≡ list_o (row_of_identity k 0 ls) (gap_row i a)
       one k = ap (λ o. list_o o (gap_row i (turn a))) (row_of_reversed k 0 ls) ∙ link_found (row_of_identity k 0 ls)
 
   -- reversed lanes have the gap rows of the lanes, from any lists of successors

@@ -188,7 +188,8 @@ module _ (same : Span → Span → Bool) (A : Alike same) (mk : Span → Bool) (
 
     cross_reversed : (l : Lane) (o turned-link : Option ℕ) (t : Target)
         → (t.is_junction ≡ false → turned-link ≡ map_o (signed (mk t.name)) o) →
-        cross same over (reverse_lane same mk R l) turned-link (reverse_target mk t) ≡ map reverse_entry (cross same plain l o t)
+        cross same over (reverse_lane same mk R l) turned-link (reverse_target mk t)
+        ≡ map reverse_entry (cross same plain l o t)
     unfolding reverse_target reverse_lane over plain
     cross_reversed l o turned-link t h = go t.is_junction refl
       where
@@ -350,7 +351,8 @@ module _ (same : Span → Span → Bool) (A : Alike same) (mk : Span → Bool) (
         ids : (e : Bool) → map entry_id (map reverse_entry (X e)) ≡ map entry_id (X e)
         ids e = entry_id_reversed (X e)
 
-        kept : (xs : List Entry) → map entry_id (keep runs_away (map reverse_entry xs)) ≡ map entry_id (keep runs_away xs)
+        kept : (xs : List Entry)
+            → map entry_id (keep runs_away (map reverse_entry xs)) ≡ map entry_id (keep runs_away xs)
         kept xs =
             ap (map entry_id) (keep_map reverse_entry runs_away xs
             ∙ ap (map reverse_entry)

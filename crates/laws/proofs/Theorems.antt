@@ -98,7 +98,8 @@ empty_changes_nothing t admitted set empty = seq.empty_reversed t (fine t admitt
 -- predecessors, all lanes at once
 pub same_lists : (t : Tables) (marks lengths : List ℕ) → reversal_refusal t marks lengths ≡ none →
     (successor_lists (same t) (repaired_map (reversed_once_by marks t)) ≡ successor_lists (same t) (repaired_map t))
-    × (predecessor_lists (same t) (repaired_map (reversed_once_by marks t)) ≡ predecessor_lists (same t) (repaired_map t))
+    × (predecessor_lists (same t) (repaired_map (reversed_once_by marks t))
+    ≡ predecessor_lists (same t) (repaired_map t))
 same_lists t marks lengths accepted =
     (successors_over t marks lengths accepted, predecessors_over t marks lengths accepted)
 
@@ -190,7 +191,8 @@ contact_as_rust text o strict = (refl, given_there text o strict)
 
 -- one spelled loosely reads as an absent one: start, and not given
 pub loose_as_absent : (text : List ℕ) (o : Option Span) → (contact_of text o).loose ≡ true →
-    ((contact_of text o).contact ≡ (contact_of text none).contact) × ((contact_of text o).given ≡ (contact_of text none).given)
+    ((contact_of text o).contact ≡ (contact_of text none).contact)
+    × ((contact_of text o).given ≡ (contact_of text none).given)
 loose_as_absent text o loose = loose_reads text o loose
 
 -- so a target with such a contactPoint names no end of the road that it links to, and repair takes no notice of it
@@ -205,7 +207,8 @@ loose_names_no_end text r t read loose alike n = no_end text r t read loose alik
 -- specs/Renamed.antt says it part by part: the lists of every identity and the gap rows, on the map as it is and on
 -- the map repaired, what repair writes and its warnings.
 pub every_renaming : (of_roads of_junctions : Renaming) (t t' : Tables) → Renamed of_roads of_junctions t t'
-    → first_broken (table_rules t) ≡ none → first_broken (table_rules t') ≡ none → RenamedClaim of_roads of_junctions t t'
+    → first_broken (table_rules t) ≡ none → first_broken (table_rules t') ≡ none
+    → RenamedClaim of_roads of_junctions t t'
 every_renaming of_roads of_junctions t t' copied admitted copy-admitted =
     renamed_claim of_roads of_junctions t t' copied (fine t admitted) (fine t' copy-admitted)
 

@@ -117,7 +117,8 @@ module _ (N : Names) (names names' : List Span) where
       go direct = ended
       go virtual = ended
 
-  warn_over_lem : (i : ℕ) {js js' : List Junction} → InOrder (Junctions N) js js' → {rs rs' : List Road} → SoFar rs rs' →
+  warn_over_lem : (i : ℕ) {js js' : List Junction} → InOrder (Junctions N) js js' → {rs rs' : List Road}
+      → SoFar rs rs' →
       InOrder Warned (warn_over N.same i js rs) (warn_over N.same' i js' rs')
   warn_over_lem i ended h = ended
   warn_over_lem i (paired {x = j} {y = j'} k rest) {rs} {rs'} h =

@@ -378,7 +378,8 @@ module _ (text : List ℕ) (x : Model) (h : SoundModel text x) (marks : List ℕ
       (even_model text (named text x marks) (marked_steady (same_in text) (alike_in text) x.map.roads marks)
       x h)
 
-  pub call_rules_are : (lengths : List ℕ) → call_rules (words_of text x) marks lengths ≡ model_rules text x marks lengths
+  pub call_rules_are : (lengths : List ℕ)
+      → call_rules (words_of text x) marks lengths ≡ model_rules text x marks lengths
   unfolding call_rules mark_rules model_rules numbers_fine tables_of
   call_rules_are lengths = λ i.
       rule 12 (marks_form x.map.roads marks (length_roads x.map.roads) i)

@@ -7,7 +7,8 @@ use mathlib.Core.List.{List, [], ◌∷◌}
 use borrow.Author.Tests.{not-true}
 use Rattle.model.specs.Lists.{amend, bind_o, distinct, is_some, some?}
 use Rattle.model.specs.Records.{Connection, Road, Span, Target, target_at}
-use Rattle.model.specs.Repair.{back_end, link_at_end, linked, meets, missing_end, missing_link, names_junction, put_target}
+use Rattle.model.specs.Repair.{back_end, link_at_end, linked, meets, missing_end, missing_link, names_junction}
+use Rattle.model.specs.Repair.{put_target}
 use Rattle.model.specs.Repair.{road_of, vacant_end}
 use Rattle.laws.proofs.Basics.{no_some}
 use Rattle.laws.proofs.ListTests.{and_both, and_left, and_right, or_left, or_right}

@@ -9,7 +9,8 @@ use mathlib.Core.Logic.{◌⊎◌, inl, inr}
 use Rattle.model.specs.Lists.{bind_o, distinct, first, is_some, some?}
 use Rattle.model.specs.Records.{Connection, Junction, JunctionKind, Map, Road, Span, Target, common, direct, virtual}
 use Rattle.model.specs.Records.{target_at}
-use Rattle.model.specs.Repair.{drop_along, in_virtual, is_virtual, junctions_over, missing_link, missing_links, repair_roads}
+use Rattle.model.specs.Repair.{drop_along, in_virtual, is_virtual, junctions_over, missing_link, missing_links}
+use Rattle.model.specs.Repair.{repair_roads}
 use Rattle.model.specs.Repair.{roads_after, roads_over, start_roads, without_along}
 use Rattle.laws.proofs.Basics.{no_some}
 use Rattle.laws.proofs.ListTests.{and_both, and_left, and_right}
@@ -116,7 +117,8 @@ module _ (same : Span → Span → Bool) where
       other t there = made.other ∙ there
 
       new : (d : Bool) (t : Target) → target_at d r' ≡ some t → t.is_junction ≡ false → target_at d r ≡ some t
-      new d = at_end_lem (λ d. (t : Target) → target_at d r' ≡ some t → t.is_junction ≡ false → target_at d r ≡ some t) e d
+      new d =
+          at_end_lem (λ d. (t : Target) → target_at d r' ≡ some t → t.is_junction ≡ false → target_at d r ≡ some t) e d
           (λ t there kind. let same_target : some (to_junction n e) ≡ some t = sym made.target ∙ there in
           let is : to_junction n e ≡ t = cc in absurd (true≢false (ap (λ (x : Target). x.is_junction) is ∙ kind)))
           (λ t there kind. sym made.other ∙ there)

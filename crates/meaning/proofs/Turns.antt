@@ -8,7 +8,8 @@ use mathlib.Core.Logic.{◌↔◌}
 use borrow.Author.Tests.{not-true}
 use Rattle.model.specs.Lists.{bind_o, keep, some?}
 use Rattle.model.specs.Records.{Connection, Junction, JunctionKind, Pair, Road, Span, common, direct, virtual}
-use Rattle.model.specs.Repair.{back_at, back_of, connections_after, meeting_end, names_junction, repair_junction, reversed}
+use Rattle.model.specs.Repair.{back_at, back_of, connections_after, meeting_end, names_junction, repair_junction}
+use Rattle.model.specs.Repair.{reversed}
 use Rattle.model.specs.Repair.{road_of, runs_back, swapped}
 use Rattle.model.specs.Rules.{is_direct}
 use Rattle.laws.proofs.Basics.{no_some}

@@ -96,11 +96,13 @@ unfolding before gap_rows turned_edged warned
     succession_call succession_rules table_rules warning_row
     table written
     borne connection_parts_fit connection_worded edges_even edges_sized ids_once junction_worded lane_fine lane_worded
-    lanes_sized lanes_worded link_worded listed_in lists_fit lists_sized map_sized map_worded marks_fit names_direct_twice
+    lanes_sized lanes_worded link_worded listed_in lists_fit lists_sized map_sized map_worded marks_fit
+    names_direct_twice
     names_once names_twice numbers_fine one_ended_in pair_fine pair_parts_fit places_once road_worded same_key
     section_parts_fit sections_ascend sized target_worded
     all_connections all_pairs connection_in connection_row connection_words connections_in edge_row edge_words
-    edged_lanes_of junction_in junction_row junction_words junctions_in lane_in lane_row lane_words lanes_in map_of pair_in
+    edged_lanes_of junction_in junction_row junction_words junctions_in lane_in lane_row lane_words lanes_in map_of
+    pair_in
     pair_row pair_words pairs_in road_in road_row road_words roads_in section_words tables_of
     placed
 broken [] = []

@@ -28,7 +28,8 @@ from_ato_b = connection a b true (pair 1 1 ∷ []) ∷ []
 
 -- Rule 14 is needed: lane 20 runs on to 11, and to 10 once road a is reversed.
 pub both_ends_lem : (onward (repaired (two_ends (junction direct from_ato_b ∷ []))) ≡ [] ∷ (20 ∷ []) ∷ (11 ∷ []) ∷ [])
-    × (onward (repaired (turned marks_a (two_ends (junction direct from_ato_b ∷ [])))) ≡ [] ∷ (20 ∷ []) ∷ (10 ∷ []) ∷ [])
+    × (onward (repaired (turned marks_a (two_ends (junction direct from_ato_b ∷ [])))) ≡ [] ∷ (20 ∷ []) ∷ (10 ∷ [])
+    ∷ [])
 unfolding repaired turned onward
 both_ends_lem = (refl, refl)
 

@@ -68,7 +68,8 @@ least_of_both_ends = (refl, refl, refl, refl, refl)
 pub all_nan : (gap_between (along 7 Forward at0 at_nan) (along 9 Forward at0 at4) ≡ inf false)
     × (gap_rows (along 7 Forward at0 at_nan ∷ along 9 Forward at0 at4 ∷ []) ((9 ∷ []) ∷ [] ∷ [])
     ≡ row 0 1 0x7f80_0000 ∷ [])
-    × (gap_rows (along 7 Both at_nan at_nan ∷ along 9 Both at0 at4 ∷ []) ((9 ∷ []) ∷ [] ∷ []) ≡ row 0 1 0x7f80_0000 ∷ [])
+    × (gap_rows (along 7 Both at_nan at_nan ∷ along 9 Both at0 at4 ∷ []) ((9 ∷ []) ∷ [] ∷ []) ≡ row 0 1 0x7f80_0000
+    ∷ [])
 unfolding gap_rows
 all_nan = (refl, refl, refl)
 
@@ -101,7 +102,8 @@ abbrev edge : (x y z x' y' z' : ℕ) → List Float
 edge x y z x' y' z' = bits x ∷ bits y ∷ bits z ∷ bits x' ∷ bits y' ∷ bits z' ∷ []
 
 abbrev edged : ℕ → Direction → (start end : List Float) → EdgedLane
-edged identity direction start end = record { lane = lane identity a 0 1 direction none; at_start = start; at_end = end }
+edged identity direction start end =
+    record { lane = lane identity a 0 1 direction none; at_start = start; at_end = end }
 
 -- bits of 1/4, 1/2, 4096, 2 to the power 64, -0, -1 and -2
 abbrev quarter : ℕ

@@ -16,7 +16,7 @@ use Rattle.model.specs.ReadingCalls.{JunctionOutputs, junction_content, junction
 use Rattle.model.specs.ReadingCalls.{put_junctions, raw_junction_rules, raw_lane_content}
 use Rattle.model.specs.ReadingCalls.{raw_lane_rules, raw_parts_fit, raw_sized, raw_target_worded}
 use Rattle.model.specs.ReadingCalls.{read_junctions_call, read_lanes_call, read_targets_call}
-use Rattle.model.specs.ReadingCalls.{TargetOutputs, target_content, target_rules, two_to_aRoad}
+use Rattle.model.specs.ReadingCalls.{TargetOutputs, target_content, target_rules, two_to_a_road}
 use Rattle.model.specs.Reversal.{negated}
 use Rattle.model.specs.Rows.{table, written}
 use Rattle.model.specs.Rules.{sized}
@@ -50,7 +50,8 @@ near_end ds = (50 ∷ 49 ∷ 52 ∷ 55 ∷ 52 ∷ 56 ∷ 51 ∷ 54 ∷ []) ++ ds
 -- "2147483647", "-2147483648", and one past each
 pub ends_of_range : (lane_number (near_end (52 ∷ 55 ∷ [])) ≡ some 2147483647)
     × (lane_number (near_end (52 ∷ 56 ∷ [])) ≡ none)
-    × (lane_number (45 ∷ near_end (52 ∷ 56 ∷ [])) ≡ some 2147483648) × (lane_number (45 ∷ near_end (52 ∷ 57 ∷ [])) ≡ none)
+    × (lane_number (45 ∷ near_end (52 ∷ 56 ∷ [])) ≡ some 2147483648)
+    × (lane_number (45 ∷ near_end (52 ∷ 57 ∷ [])) ≡ none)
 unfolding lane_number negated
 ends_of_range = (refl, refl, refl, refl)
 
@@ -64,10 +65,11 @@ leading_zeros = (refl, refl, refl)
 -- a proof that unfolds it computes the calls
 unfoldable opened : ℕ
 unfolding lane_number negated connection_warnings junction_warnings kept_connections leads_into passed_over
-    read_connection read_junction read_junctions read_lane read_pair read_target read_warnings loose_target target_warnings
+    read_connection read_junction read_junctions read_lane read_pair read_target read_warnings loose_target
+    target_warnings
     junction_content junction_counts junction_lengths put_junctions raw_junction_rules raw_lane_content
     raw_lane_rules raw_parts_fit raw_sized raw_target_worded read_junctions_call read_lanes_call
-    read_targets_call target_content target_rules two_to_aRoad
+    read_targets_call target_content target_rules two_to_a_road
     table written sized all_connections all_pairs connection_row connection_words junction_row junction_words pair_row
     pair_words bytes_of placed same_in
     far_off length_call add lt neg of_bits of_fields round sub sum units

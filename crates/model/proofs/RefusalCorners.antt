@@ -55,7 +55,8 @@ abbrev for_repair : RepairOutputs
 for_repair = record { roads = room; junctions = room; connections = room; pairs = room; warnings = room }
 
 abbrev for_lists : ListOutputs
-for_lists = record { successor_offsets = room; successor_ids = room; predecessor_offsets = room; predecessor_ids = room }
+for_lists =
+    record { successor_offsets = room; successor_ids = room; predecessor_offsets = room; predecessor_ids = room }
 
 abbrev for_reversal : ReversalOutputs
 for_reversal =

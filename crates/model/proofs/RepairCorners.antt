@@ -128,7 +128,8 @@ warning_row_lem = refl
 
 -- ---- virtual junctions
 -- "Virtual: nothing"; and a direct junction adds no links either
-pub common_alone : Leaves (into_b virtual none none (to_road a true)) × Leaves (into_b direct none none (to_road a true))
+pub common_alone : Leaves (into_b virtual none none (to_road a true))
+    × Leaves (into_b direct none none (to_road a true))
 unfolding repaired warned
 common_alone = ((refl, refl), (refl, refl))
 

@@ -157,7 +157,8 @@ pub links_elsewhere : (lanes_after (only b) (end_of true true b) none (lane_at 0
     ≡ lane_at 0 1 Forward (some 1) none ∷ [])
     × (lanes_after (only a) (to_junction j) none (lane_at 0 1 Forward (some 1) none)
     ≡ lane_at 5 minus1 Backward none (some 1) ∷ [])
-    × (lanes_after (only a) none none (lane_at 5 1 Forward none (some 2)) ≡ lane_at 0 minus1 Backward (some 2) none ∷ [])
+    × (lanes_after (only a) none none (lane_at 5 1 Forward none (some 2)) ≡ lane_at 0 minus1 Backward (some 2) none
+    ∷ [])
 unfolding turned
 links_elsewhere = (refl, refl, refl)
 

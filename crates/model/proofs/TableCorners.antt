@@ -126,7 +126,8 @@ pub road_words_lem : (road_tests (0 ∷ 1 ∷ absent_start ∷ 0 ∷ []) 0 0 ≡
     × (road_tests (0 ∷ 6 ∷ absent_start ∷ 0 ∷ []) 0 0 ≡ false)
     × (road_tests (0 ∷ 1 ∷ absent_start ∷ 1 ∷ []) 0 0 ≡ false)
     × (road_tests (0 ∷ 1 ∷ 5 ∷ 1 ∷ []) 0 0 ≡ false)
-    × (road_tests (0 ∷ 1 ∷ absent_start ∷ 0 ∷ []) 2 0 ≡ false) × (road_tests (0 ∷ 1 ∷ absent_start ∷ 0 ∷ []) 0 2 ≡ false)
+    × (road_tests (0 ∷ 1 ∷ absent_start ∷ 0 ∷ []) 2 0 ≡ false)
+    × (road_tests (0 ∷ 1 ∷ absent_start ∷ 0 ∷ []) 0 2 ≡ false)
 unfolding broken
 road_words_lem = (refl, refl, refl, refl, refl, refl, refl, refl)
 

@@ -1,6 +1,7 @@
 -- "Attribute reading": lane numbers, targets, a lane's links, and junctions with their connections, pairs and
 -- warnings, from attributes as a file has them. Definitions only.
-use Rattle.std.specs.Prelude.{Bool, false, not, ◌&&◌, ◌||◌, cond, List, [], ◌∷◌, ◌++◌, map, ℕ, zero, suc, ◌+◌, ◌*◌, ◌-◌, ◌/◌, ◌%◌, eqb, leb, length, take, drop}
+use Rattle.std.specs.Prelude.{Bool, false, not, ◌&&◌, ◌||◌, cond, List, [], ◌∷◌, ◌++◌, map, ℕ, zero, suc, ◌+◌, ◌*◌, ◌-◌}
+use Rattle.std.specs.Prelude.{◌/◌, ◌%◌, eqb, leb, length, take, drop}
 use Rattle.std.proofs.Math.Option.{Option, none, some}
 use Rattle.model.specs.Lists.{pick, is_some, map_o, bind_o, list_o, gather}
 use Rattle.model.specs.Records.{Span, Target, JunctionKind, common, direct, virtual, Pair, Connection, Junction}
@@ -187,7 +188,8 @@ module _ (t : RawTables) where
 
   -- the pair of a lane link; none where it has not two numbers
   unfoldable pub read_pair : ℕ → Option Pair
-  read_pair l = pair_of (number_of t.text (name_in (raw_lane_link l) 0)) (number_of t.text (name_in (raw_lane_link l) 2))
+  read_pair l =
+      pair_of (number_of t.text (name_in (raw_lane_link l) 0)) (number_of t.text (name_in (raw_lane_link l) 2))
 
   -- is connection c of junction j passed over? `is_virtual && (c.attribute("type") == Some("virtual") ||
   -- from_main)` of `junctions`

@@ -73,12 +73,12 @@ target_writing = record {
 }
 
 -- "Raw targets stand two to a road": "an odd count is refusal 1"
-unfoldable pub two_to_aRoad : ℕ → Bool
-two_to_aRoad n = eqb (n / raw_target_width % 2) 0
+unfoldable pub two_to_a_road : ℕ → Bool
+two_to_a_road n = eqb (n / raw_target_width % 2) 0
 
 unfoldable pub target_rules : (text raw : List ℕ) → List Rule
 target_rules text raw =
-    rule 1 (raw_sized text raw_target_width (length raw) && two_to_aRoad (length raw))
+    rule 1 (raw_sized text raw_target_width (length raw) && two_to_a_road (length raw))
     ∷ rule 2 (every (raw_target_worded text) (table raw_target_width raw)) ∷ []
 
 -- the words of the targets read, and the warnings
@@ -102,7 +102,8 @@ raw_lane_content text raw = gather (read_lane text) (table raw_lane_width raw)
 
 -- THE READING OF LANES, ITS WHOLE OUTCOME
 unfoldable pub read_lanes_call : (text raw out : List ℕ) → Outcome (List ℕ)
-read_lanes_call text raw out = called (table_writing raw_lane_width) (raw_lane_rules text raw) (raw_lane_content text raw) out
+read_lanes_call text raw out =
+    called (table_writing raw_lane_width) (raw_lane_rules text raw) (raw_lane_content text raw) out
 
 -- ---- junctions
 pub record JunctionOutputs : Type 0 where

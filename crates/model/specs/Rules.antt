@@ -1,6 +1,7 @@
 -- "How each call refuses": one test for each number, true where the number does not apply. Each is over what it
 -- reads; the rule on the tables is its abbreviation. Definitions only.
-use Rattle.std.specs.Prelude.{Bool, true, false, not, ◌&&◌, ◌||◌, cond, List, [], ◌∷◌, ℕ, suc, ◌+◌, ◌*◌, ◌/◌, ◌%◌, eqb, leb, Float, length}
+use Rattle.std.specs.Prelude.{Bool, true, false, not, ◌&&◌, ◌||◌, cond, List, [], ◌∷◌, ℕ, suc, ◌+◌, ◌*◌, ◌/◌, ◌%◌, eqb}
+use Rattle.std.specs.Prelude.{leb, Float, length}
 use Rattle.std.proofs.Math.Option.{Option, none, some}
 use Rattle.geometry.specs.Root.{below_zero}
 use Rattle.model.specs.Lists.{every, distinct, ascends, member, some?}

@@ -1,5 +1,6 @@
 -- "The map tables": the lent words, the map that they mean, and the words of a map. Definitions only.
-use Rattle.std.specs.Prelude.{Bool, ◌&&◌, cond, List, [], ◌∷◌, ◌++◌, map, ℕ, zero, suc, ◌+◌, eqb, Float, length, take, drop}
+use Rattle.std.specs.Prelude.{Bool, ◌&&◌, cond, List, [], ◌∷◌, ◌++◌, map, ℕ, zero, suc, ◌+◌, eqb, Float, length, take}
+use Rattle.std.specs.Prelude.{drop}
 use Rattle.std.proofs.Math.Option.{Option, none, some}
 use Rattle.geometry.specs.declared.gap.Direction.{Direction}
 use Rattle.geometry.specs.declared.gap.Direction.TheVariants.{Forward, Backward, Both}

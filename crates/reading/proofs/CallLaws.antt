@@ -11,7 +11,8 @@ use borrow.Author.Tests.{leb-true}
 use Rattle.model.specs.Calls.{outcome, refused, written_or9, wrote}
 use Rattle.model.specs.Reading.{RawTables, read_junctions, read_warnings}
 use Rattle.model.specs.ReadingCalls.{JunctionOutputs, junction_content, junction_counts, junction_lengths}
-use Rattle.model.specs.ReadingCalls.{junction_writing, put_junctions, raw_junction_rules, raw_parts_fit, raw_sized, rows_named}
+use Rattle.model.specs.ReadingCalls.{junction_writing, put_junctions, raw_junction_rules, raw_parts_fit, raw_sized}
+use Rattle.model.specs.ReadingCalls.{rows_named}
 use Rattle.model.specs.Rows.{parts_fit, table}
 use Rattle.model.specs.Rules.{first_broken, fits, sized}
 use Rattle.model.specs.Tables.{all_connections, all_pairs, connection_words, junction_words, pair_words}

@@ -8,7 +8,8 @@ use native.Mathlib.Omega.{arith}
 use lib.ListN.{length, get_or}
 use Rattle.model.specs.Lists.{bind_o, gather, is_some, map_o, pick}
 use Rattle.model.specs.Reading.{ContactPoint, RawTables, ReadWarning, connection_dropped, connection_loose}
-use Rattle.model.specs.Reading.{connection_warnings, contact_of, contact_warnings, direct_text, kept_connections, kind_at}
+use Rattle.model.specs.Reading.{connection_warnings, contact_of, contact_warnings, direct_text, kept_connections}
+use Rattle.model.specs.Reading.{kind_at}
 use Rattle.model.specs.Reading.{kind_read, lane_link_warnings, lane_links_at, leads_into, part_rows, passed_over}
 use Rattle.model.specs.Reading.{read_connection, read_pair, reads, row_at, same_names, to_list}
 use Rattle.model.specs.Reading.{virtual_text}

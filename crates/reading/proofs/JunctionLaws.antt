@@ -45,7 +45,8 @@ module _ (text junctions connections links : List ℕ) (j : ℕ) where
 
   pub kind_word_lem : {kind : ℕ} → kind ≡ kind_word (kind_read text (name_in junctions (j * 8 + 2)))
       → kind ≡ kind_word (kind_at t j)
-  kind_word_lem e = e ∙ sym (ap (λ (n : Option Span). kind_word (kind_read text n)) (name_of 8 j junctions 2 (omega arith)))
+  kind_word_lem e =
+      e ∙ sym (ap (λ (n : Option Span). kind_word (kind_read text n)) (name_of 8 j junctions 2 (omega arith)))
 
   -- a junction by its name and its connections, and its warnings
   abbrev junction_by : List ℕ → Option Span → Option Junction
@@ -79,10 +80,12 @@ module _ (text junctions connections links : List ℕ) (j : ℕ) where
     read_as named r =
         let name_is = first_name ∙ named in
         let part = part_is in
-        junctions_as r (sym (λ z. to_list (junction_by (part z) (name_is z)))) (sym (λ z. warned_by (part z) (name_is z)))
+        junctions_as r (sym (λ z. to_list (junction_by (part z) (name_is z))))
+        (sym (λ z. warned_by (part z) (name_is z)))
 
     module _ {jo co po wo : List ℕ} {m n p w : ℕ} where
-      pub read_unnamed : {after : List ℕ} → is_absent (get_or junctions (j * 8) 0) (get_or junctions (j * 8 + 1) 0) ≡ true
+      pub read_unnamed : {after : List ℕ}
+          → is_absent (get_or junctions (j * 8) 0) (get_or junctions (j * 8 + 1) 0) ≡ true
           → Run 4 (gather (dropped j) (part_rows first count)) count (output wo w) (output after (w + count))
           → JunctionsRead (to_list (read_junction t j)) (junction_warnings t j) (junction_outs jo m co n po p wo w)
           (junction_outs jo m co n po p after (w + count))

@@ -17,7 +17,8 @@ use Rattle.words.specs.Rows.{all, span}
 use Rattle.words.proofs.Scans.{all_same, every_rows}
 
 -- ---- an attribute that is absent, and one that is there
-pub name_absent : (ws : List ℕ) (at : ℕ) → is_absent (get_or ws at 0) (get_or ws (at + 1) 0) ≡ true → name_in ws at ≡ none
+pub name_absent : (ws : List ℕ) (at : ℕ) → is_absent (get_or ws at 0) (get_or ws (at + 1) 0) ≡ true
+    → name_in ws at ≡ none
 name_absent ws at e = ap (λ (b : Bool). cond b none (some (span_in ws at))) e
 
 pub name_there : (ws : List ℕ) (at : ℕ) {s n : ℕ} → is_absent (get_or ws at 0) (get_or ws (at + 1) 0) ≡ false
@@ -25,7 +26,8 @@ pub name_there : (ws : List ℕ) (at : ℕ) {s n : ℕ} → is_absent (get_or ws
 name_there ws at e f g =
     ap (λ (b : Bool). cond b none (some (span_in ws at))) e ∙ ap₂ (λ (s n : ℕ). some (span s n)) (sym f) (sym g)
 
-pub there_is : (ws : List ℕ) (at : ℕ) → not (is_absent (get_or ws at 0) (get_or ws (at + 1) 0)) ≡ is_some (name_in ws at)
+pub there_is : (ws : List ℕ) (at : ℕ)
+    → not (is_absent (get_or ws at 0) (get_or ws (at + 1) 0)) ≡ is_some (name_in ws at)
 there_is ws at = go (is_absent (get_or ws at 0) (get_or ws (at + 1) 0))
   where
     go : (b : Bool) → not b ≡ is_some (cond b none (some (span_in ws at)))

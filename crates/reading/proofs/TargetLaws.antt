@@ -16,7 +16,7 @@ use Rattle.model.specs.Reading.{contact_of, junction_text, loose_target, part_ro
 use Rattle.model.specs.Reading.{ReadWarning, connection_dropped, connection_loose, lane_link_dropped, read_warning_row}
 use Rattle.model.specs.Reading.{target_loose, target_warnings, target_warnings_at}
 use Rattle.model.specs.ReadingCalls.{TargetOutputs, names_worded, raw_sized, raw_target_worded, target_content}
-use Rattle.model.specs.ReadingCalls.{target_rules, target_writing, two_to_aRoad}
+use Rattle.model.specs.ReadingCalls.{target_rules, target_writing, two_to_a_road}
 use Rattle.model.specs.Records.{Span, Target}
 use Rattle.model.specs.Rows.{table, written}
 use Rattle.model.specs.Rules.{first_broken, fits, sized}
@@ -167,17 +167,17 @@ module _ (text raw : List ℕ) where
   sizes = raw_sized text 9 (length raw) && eqb (length raw / 9 % 2) 0
 
   pub targets_1 : sizes ≡ false → some 1 ≡ first_broken (target_rules text raw)
-  unfolding target_rules two_to_aRoad
+  unfolding target_rules two_to_a_road
   targets_1 a = rw a
 
   pub targets_2 : sizes ≡ true → every (raw_target_worded text) (table 9 raw) ≡ false
       → some 2 ≡ first_broken (target_rules text raw)
-  unfolding target_rules two_to_aRoad
+  unfolding target_rules two_to_a_road
   targets_2 a b = rw (a, b)
 
   pub targets_0 : sizes ≡ true → every (raw_target_worded text) (table 9 raw) ≡ true
       → none ≡ first_broken (target_rules text raw)
-  unfolding target_rules two_to_aRoad
+  unfolding target_rules two_to_a_road
   targets_0 a b = rw (a, b)
 
   pub targets_few : none ≡ first_broken (target_rules text raw) → length raw / 9 ≤ 16384
@@ -186,7 +186,7 @@ module _ (text raw : List ℕ) where
       let passed = (all_pass (target_rules text raw) (sym e)).0 in
       sized_few 9 16384 (length raw)
       (right_on (leb (length text) 1048576) (sized 9 16384 (length raw))
-      (left_on (raw_sized text 9 (length raw)) (two_to_aRoad (length raw)) passed))
+      (left_on (raw_sized text 9 (length raw)) (two_to_a_road (length raw)) passed))
 
 -- ---- its warnings
 pub at_most_four : (v : ReadWarning) → length (read_warning_row v) ≤ 4

@@ -2,7 +2,8 @@
 -- an output has room for them. Definitions only.
 use Rattle.std.specs.Prelude.{◌≡◌, Bool, List, [], ◌∷◌, ℕ, ◌+◌, ◌*◌, ◌/◌, ◌≤◌, ◌<◌, length, get_or}
 use Rattle.model.specs.Lists.{gather}
-use Rattle.model.specs.Reading.{RawTables, ReadWarning, kind_at, lane_link_warnings, read_pair, read_warning_row, to_list}
+use Rattle.model.specs.Reading.{RawTables, ReadWarning, kind_at, lane_link_warnings, read_pair, read_warning_row}
+use Rattle.model.specs.Reading.{to_list}
 use Rattle.model.specs.Records.{Connection, Junction, Pair}
 use Rattle.model.specs.Rows.{rows_from}
 use Rattle.model.specs.Tables.{bit, connection_row, junction_row, kind_word, pair_row}
@@ -59,7 +60,8 @@ junction_outs jo m co n po p wo w = record { junctions = output jo m; rest = con
 -- and `count` pairs from row `first` on
 abbrev pub connection_read : List ℕ → (at k : ℕ) → Bool → (first count : ℕ) → List ℕ
 connection_read connections at k contact first count =
-    get_or connections (at + 4) 0 ∷ get_or connections (at + 4 + 1) 0 ∷ get_or connections k 0 ∷ get_or connections (k + 1) 0
+    get_or connections (at + 4) 0 ∷ get_or connections (at + 4 + 1) 0 ∷ get_or connections k 0
+    ∷ get_or connections (k + 1) 0
     ∷ bit contact ∷ first ∷ count ∷ []
 
 -- ---- what a run of reading leaves: from the outputs `old` to the outputs `new`

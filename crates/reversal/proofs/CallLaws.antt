@@ -17,7 +17,8 @@ use Rattle.model.specs.Rows.{parts_fit, rows_from, table}
 use Rattle.model.specs.Rules.{connection_parts_fit, connection_worded, edges_even, edges_sized, first_broken, fits}
 use Rattle.model.specs.Rules.{junction_worded, lane_worded, lanes_sized, lanes_worded, map_sized, map_worded}
 use Rattle.model.specs.Rules.{pair_parts_fit, road_worded, section_parts_fit, sections_ascend}
-use Rattle.model.specs.Tables.{Tables, all_pairs, connection_row, connection_words, edge_words, edged_lanes_of, junctions_of}
+use Rattle.model.specs.Tables.{Tables, all_pairs, connection_row, connection_words, edge_words, edged_lanes_of}
+use Rattle.model.specs.Tables.{junctions_of}
 use Rattle.model.specs.Tables.{lane_words, lanes_in, map_of, pair_row, pair_words, road_words, roads_in, roads_of}
 use Rattle.model.specs.Tables.{section_words}
 use Rattle.model.specs.Text.{same_in}
@@ -182,7 +183,8 @@ module _ (t : Tables) (marks : List ℕ) (f : Facts t marks) {heads next owner k
   -- WHAT THE LOOPS WRITE is what reversal has to write
   pub content_is : reversal_content t marks
       ≡ turned_tables t.text t.roads t.sections t.connections t.pairs t.lanes t.edges marks owner
-  unfolding reversal_content reverse_map map_of content_by connection_words pair_words all_pairs edged_lanes_of turned_tables
+  unfolding reversal_content reverse_map map_of content_by connection_words pair_words all_pairs edged_lanes_of
+      turned_tables
   content_is =
       let mk = mark_of t.text t.roads marks in
       let turned = all_turned t.text mk t.pairs t.connections t.junctions f.whole f.words_of_junctions

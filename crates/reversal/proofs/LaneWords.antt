@@ -10,7 +10,8 @@ use lib.Dec.{eqb, leb, ltb}
 use lib.ListN.{length, get_or, drop}
 use lib.Seq.{get_or-drop}
 use borrow.Author.Tests.{eqb-true, eq-eqb, ne_eqb, leb-true, le-leb, le-ltb, ltb-false}
-use Rattle.model.specs.Lists.{ascends, bind_o, every, final, first, gather, head_or, last_or, map_o, member, or_else, pick}
+use Rattle.model.specs.Lists.{ascends, bind_o, every, final, first, gather, head_or, last_or, map_o, member, or_else}
+use Rattle.model.specs.Lists.{pick}
 use Rattle.model.specs.Records.{Lane, Road, Span, target_at, link_at}
 use Rattle.model.specs.Repair.{road_of}
 use Rattle.model.specs.Reversal.{leads_by, leads_to, mirror, negated, reverse_direction, reverse_lane}

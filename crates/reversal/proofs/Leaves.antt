@@ -171,7 +171,8 @@ contact_is text roads marks a found turned = turned ∙ ap (λ b. turn_bit b (ge
 
 -- the road, marked or not, with the contacts of its predecessor and its successor
 module _ (text roads marks : List ℕ) (i : ℕ) {p q : ℕ} {row : List ℕ}
-    (before : p ≡ contact_at text roads marks (i * 20 + 4)) (after : q ≡ contact_at text roads marks (i * 20 + 11)) where
+    (before : p ≡ contact_at text roads marks (i * 20 + 4)) (after : q ≡ contact_at text roads marks (i * 20 + 11))
+    where
   pub road_marked : eqb (get_or marks i 0) 1 ≡ true
       → row ≡ road_with roads (i * 20) (i * 20 + 11) (i * 20 + 4) q p → row ≡ turned_road text roads marks i
   unfolding turned_road

@@ -1,5 +1,6 @@
 -- What reversal writes, by row numbers. proofs/ has it as the model's. Definitions only.
-use Rattle.std.specs.Prelude.{ℕ, zero, suc, ◌+◌, ◌*◌, ◌-◌, ◌/◌, ◌<◌, ◌≤◌, Bool, true, false, ◌&&◌, cond, List, [], ◌∷◌, ◌++◌, ◌≡◌, eqb, Float, length, get_or}
+use Rattle.std.specs.Prelude.{ℕ, zero, suc, ◌+◌, ◌*◌, ◌-◌, ◌/◌, ◌<◌, ◌≤◌, Bool, true, false, ◌&&◌, cond, List, [], ◌∷◌}
+use Rattle.std.specs.Prelude.{◌++◌, ◌≡◌, eqb, Float, length, get_or}
 use Rattle.std.specs.Float.{nan}
 use Rattle.geometry.specs.Edges.{ends_at}
 use Rattle.geometry.specs.Gap.{start_of, end_of, swapped}
@@ -82,7 +83,8 @@ connection_with ws at contact =
 
 unfoldable pub turned_connection : (text roads marks connections : List ℕ) → ℕ → List ℕ
 turned_connection text roads marks ws i =
-    connection_with ws (i * 7) (turn_bit (mark_of text roads marks (name_from ws (i * 7 + 2))) (get_or ws (i * 7 + 4) 0))
+    connection_with ws (i * 7)
+    (turn_bit (mark_of text roads marks (name_from ws (i * 7 + 2))) (get_or ws (i * 7 + 4) 0))
 
 -- pair p, where the incoming and the connecting road are marked or not
 unfoldable pub turned_pair : Bool → Bool → List ℕ → ℕ → List ℕ

@@ -51,7 +51,8 @@ pub link_off : (ws : List ℕ) (at : ℕ) {r : Bool} → (get_or ws at 0 ≡ 1 �
 unfolding link_worded
 link_off ws at h f = f ∙ rw (ne_eqb (get_or ws at 0) 1 h)
 
-pub road_absent : (text ws : List ℕ) (at : ℕ) {r : Bool} → is_absent (get_or ws (at + 2) 0) (get_or ws (at + 3) 0) ≡ true
+pub road_absent : (text ws : List ℕ) (at : ℕ) {r : Bool}
+    → is_absent (get_or ws (at + 2) 0) (get_or ws (at + 3) 0) ≡ true
     → r ≡ placed_at text ws at && target_fits text ws (at + 4) && target_fits text ws (at + 11)
     → r ≡ road_worded text (drop at ws)
 road_absent text ws at e f =
@@ -65,7 +66,8 @@ road_absent text ws at e f =
     one true b c = refl
     one false b c = refl
 
-pub road_named_lem : (text ws : List ℕ) (at : ℕ) {r : Bool} → is_absent (get_or ws (at + 2) 0) (get_or ws (at + 3) 0) ≡ false
+pub road_named_lem : (text ws : List ℕ) (at : ℕ) {r : Bool}
+    → is_absent (get_or ws (at + 2) 0) (get_or ws (at + 3) 0) ≡ false
     → r ≡ placed_at text ws at && placed_at text ws (at + 2)
     && target_fits text ws (at + 4) && target_fits text ws (at + 11)
     → r ≡ road_worded text (drop at ws)

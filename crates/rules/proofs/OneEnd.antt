@@ -100,7 +100,8 @@ pairwise text P S N D a b = go (equal_bytes (bytes_of text P) (bytes_of text N))
         (sym (sym (equal_sym (bytes_of text P) (bytes_of text N)) ∙ e))
     go false e =
         ap (λ u. D && ((a && u) && (b && equal_bytes (bytes_of text S) (bytes_of text N)))) e
-        ∙ none_of D a b (equal_bytes (bytes_of text S) (bytes_of text N)) (equal_bytes (bytes_of text S) (bytes_of text P))
+        ∙ none_of D a b (equal_bytes (bytes_of text S) (bytes_of text N))
+        (equal_bytes (bytes_of text S) (bytes_of text P))
         ∙ ap (λ u. ((a && b) && equal_bytes (bytes_of text S) (bytes_of text P)) && (D && u))
         (sym (sym (equal_sym (bytes_of text P) (bytes_of text N)) ∙ e))
 

@@ -81,7 +81,8 @@ module _ (text roads sections lanes owner : List ℕ)
       (ap₂ eqb (get_or-drop (j * 10) lanes 4 0) (get_or-drop (i * 10) lanes 4 0))
 
   -- rule 8
-  pub keys_once_lem : places_once (same_in text) (lanes_in lanes) ≡ not (any (length lanes / 10) (key_before lanes owner))
+  pub keys_once_lem : places_once (same_in text) (lanes_in lanes)
+      ≡ not (any (length lanes / 10) (key_before lanes owner))
   unfolding places_once lanes_in key_before
   keys_once_lem =
       ap (distinct (same_key (same_in text))) (lanes_tab lanes)

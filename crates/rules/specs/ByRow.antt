@@ -1,6 +1,7 @@
 -- The rules by row numbers: what the code's loops and indexes answer. proofs/ has each as the rule of the
 -- model. Definitions only.
-use Rattle.std.specs.Prelude.{ℕ, zero, suc, ◌+◌, ◌*◌, ◌/◌, ◌<◌, ◌≤◌, ◌≡◌, List, Bool, false, not, ◌&&◌, length, get_or, eqb}
+use Rattle.std.specs.Prelude.{ℕ, zero, suc, ◌+◌, ◌*◌, ◌/◌, ◌<◌, ◌≤◌, ◌≡◌, List, Bool, false, not, ◌&&◌, length, get_or}
+use Rattle.std.specs.Prelude.{eqb}
 use Rattle.model.specs.Lists.{member}
 use Rattle.model.specs.Records.{Span}
 use Rattle.model.specs.Text.{same_in, placed}
@@ -34,7 +35,8 @@ known_in text roads sections n s = member s (sections_of (same_in text) (roads_i
 
 -- is lane i's section listed in its road?
 abbrev pub listed_at : List ℕ → List ℕ → List ℕ → List ℕ → ℕ → Bool
-listed_at text roads sections lanes i = known_in text roads sections (name_at 10 1 lanes i) (get_or lanes (i * 10 + 3) 0)
+listed_at text roads sections lanes i =
+    known_in text roads sections (name_at 10 1 lanes i) (get_or lanes (i * 10 + 3) 0)
 
 -- is it listed in the road with that row plus 1?
 abbrev pub listed_by : List ℕ → List ℕ → ℕ → ℕ → Bool

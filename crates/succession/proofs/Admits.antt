@@ -62,7 +62,8 @@ ascend_rise (x ∷ xs) e (suc i) (suc j) a b =
 
 -- ---- what a target names lies in its table
 module _ (text roads junctions : List ℕ) (a : ℕ) where
-  pub target_road_low : eqb (get_or roads (a + 1) 0) 1 ≡ false → target_row_of text roads junctions a ≤ length roads / 20
+  pub target_road_low : eqb (get_or roads (a + 1) 0) 1 ≡ false
+      → target_row_of text roads junctions a ≤ length roads / 20
   unfolding target_row_of road_row_of
   target_road_low e = go (eqb (get_or roads a 0) 1) (eqb (get_or roads (a + 1) 0) 1) e
     where

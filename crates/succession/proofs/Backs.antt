@@ -35,7 +35,8 @@ both_word zero = refl
 both_word (suc zero) = refl
 both_word (suc (suc w)) = lt-ltb 1 (suc (suc w)) (omega arith)
 
-pub two_way_row_lem : (lanes : List ℕ) (f : ℕ) → (f ≡ 0 → ⊥) → ltb 1 (get_or lanes ((f - 1) * 10 + 5) 0) ≡ two_way_row lanes f
+pub two_way_row_lem : (lanes : List ℕ) (f : ℕ) → (f ≡ 0 → ⊥)
+    → ltb 1 (get_or lanes ((f - 1) * 10 + 5) 0) ≡ two_way_row lanes f
 two_way_row_lem lanes zero n = absurd (n refl)
 two_way_row_lem lanes (suc r) n =
     both_word (get_or lanes ((suc r - 1) * 10 + 5) 0)

@@ -1,5 +1,6 @@
 -- All lanes' lists, from what each finds by its own links and from who finds it. Definitions only.
-use Rattle.std.specs.Prelude.{ℕ, zero, suc, ◌+◌, ◌*◌, ◌/◌, ◌≤◌, ◌≡◌, Bool, true, false, not, ◌&&◌, cond, List, [], ◌∷◌, length, get_or, take}
+use Rattle.std.specs.Prelude.{ℕ, zero, suc, ◌+◌, ◌*◌, ◌/◌, ◌≤◌, ◌≡◌, Bool, true, false, not, ◌&&◌, cond, List, [], ◌∷◌}
+use Rattle.std.specs.Prelude.{length, get_or, take}
 use Rattle.model.specs.Lists.{insert, member}
 use Rattle.model.specs.Lookup.{list_part}
 use Rattle.model.specs.Rows.{written}

@@ -1,5 +1,6 @@
 -- The connections of a junction that come in from a road, chained by the two. Definitions only.
-use Rattle.std.specs.Prelude.{ℕ, ◌+◌, ◌-◌, ◌*◌, ◌/◌, ◌%◌, ◌<◌, ◌≤◌, ◌≡◌, Bool, ◌&&◌, cond, List, [], eqb, leb, ltb, length, get_or}
+use Rattle.std.specs.Prelude.{ℕ, ◌+◌, ◌-◌, ◌*◌, ◌/◌, ◌%◌, ◌<◌, ◌≤◌, ◌≡◌, Bool, ◌&&◌, cond, List, [], eqb, leb, ltb}
+use Rattle.std.specs.Prelude.{length, get_or}
 use Rattle.model.specs.Succession.{Entry}
 use Rattle.words.specs.Chain.{Chained}
 use Rattle.words.specs.Rows.{last_of}
@@ -36,7 +37,8 @@ meeting_hash j w = (j * 1009 + w) % 16384
 
 -- connections counted back from the last of n: a chain falls, and so meets them in row order
 unfoldable pub connection_hash : (junctions sides : List ℕ) → ℕ → ℕ → ℕ
-connection_hash junctions sides n i = meeting_hash (home_of junctions (n - (i + 1))) (get_or sides ((n - (i + 1)) * 2) 0)
+connection_hash junctions sides n i =
+    meeting_hash (home_of junctions (n - (i + 1))) (get_or sides ((n - (i + 1)) * 2) 0)
 
 -- every part's connections have their junction as home
 abbrev pub Homes : List ℕ → Type 0

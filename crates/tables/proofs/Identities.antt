@@ -76,7 +76,8 @@ module _ (lanes : List ℕ) (edges : List Float) (once : any (length lanes / 10)
   none_before : (k r j : ℕ) → r < length lanes / 10 → is_id lanes k r ≡ true → j < r → is_id lanes k j ≡ false
   unfolding is_id id_before
   none_before k r j in_table bears below =
-      let unmet = any_at (length lanes / 10) r (λ p. any p (λ q. eqb (get_or lanes (q * 10) 0) (get_or lanes (p * 10) 0)))
+      let unmet =
+      any_at (length lanes / 10) r (λ p. any p (λ q. eqb (get_or lanes (q * 10) 0) (get_or lanes (p * 10) 0)))
       once in_table in
       subst (λ (m : ℕ). eqb (get_or lanes (j * 10) 0) m ≡ false) (eqb-true (get_or lanes (r * 10) 0) k bears)
       (any_at r j (λ q. eqb (get_or lanes (q * 10) 0) (get_or lanes (r * 10) 0)) unmet below)

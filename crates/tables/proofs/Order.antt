@@ -45,9 +45,10 @@ passes_at k rules none-broken = go k rules (all_pass rules (sym none-broken))
 
 -- ---- rules after others
 -- a refusal by the first of them stays
-pub first_stays : (xs ys : List Rule) (o : Option ℕ) → (o ≡ none → ⊥) → o ≡ first_broken xs → o ≡ first_broken (xs ++ ys)
-first_stays [] ys o Some-number first = absurd (Some-number first)
-first_stays (x ∷ xs) ys o Some-number first = go x.passes first (first_stays xs ys o Some-number)
+pub first_stays : (xs ys : List Rule) (o : Option ℕ) → (o ≡ none → ⊥) → o ≡ first_broken xs
+    → o ≡ first_broken (xs ++ ys)
+first_stays [] ys o some-number first = absurd (some-number first)
+first_stays (x ∷ xs) ys o some-number first = go x.passes first (first_stays xs ys o some-number)
   where
     go : (b : Bool) → o ≡ cond b (first_broken xs) (some x.number)
         → (o ≡ first_broken xs → o ≡ first_broken (xs ++ ys))

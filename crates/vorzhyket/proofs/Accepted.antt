@@ -12,11 +12,13 @@ use borrow.Author.Tests.{ltb-true}
 use Rattle.model.specs.Calls.{ListOutputs, RepairOutputs, ReversalOutputs, Writing, called, gap_call, gap_content}
 use Rattle.model.specs.Calls.{gap_rules, gap_width, lane_rules, list_content, list_lengths, list_writing, long_enough}
 use Rattle.model.specs.Calls.{mark_rules, repair_call, repair_content, repair_counts, repair_rules, repair_writing}
-use Rattle.model.specs.Calls.{reversal_call, reversal_content, reversal_counts, reversal_rules, reversal_writing, rules_to5}
+use Rattle.model.specs.Calls.{reversal_call, reversal_content, reversal_counts, reversal_rules, reversal_writing}
+use Rattle.model.specs.Calls.{rules_to5}
 use Rattle.model.specs.Calls.{settled, succession_call, succession_rules, table_rules, table_writing, wrote}
 use Rattle.model.specs.Lists.{every}
 use Rattle.model.specs.Reading.{RawTables}
-use Rattle.model.specs.ReadingCalls.{JunctionOutputs, TargetOutputs, junction_content, junction_counts, junction_writing}
+use Rattle.model.specs.ReadingCalls.{JunctionOutputs, TargetOutputs, junction_content, junction_counts}
+use Rattle.model.specs.ReadingCalls.{junction_writing}
 use Rattle.model.specs.ReadingCalls.{raw_junction_rules, raw_lane_content, raw_lane_rules, read_junctions_call}
 use Rattle.model.specs.ReadingCalls.{read_lanes_call, read_targets_call, target_content, target_rules, target_writing}
 use Rattle.model.specs.Rules.{Rule, first_broken}
@@ -86,7 +88,8 @@ unfolding repair_call repair_rules rules_to5 above_zero
 repair_accepted t o before = zero_accepted repair_writing (repair_rules t) (repair_content t) o refl before
 
 pub succession_accepted : (t : Tables) (o : ListOutputs) (before : List ℕ)
-    → (exported (succession_call t o) before).0.0 ≡ 0 → (succession_call t o).answer ≡ wrote (list_lengths (list_content t))
+    → (exported (succession_call t o) before).0.0 ≡ 0
+    → (succession_call t o).answer ≡ wrote (list_lengths (list_content t))
 unfolding succession_call succession_rules rules_to5 lane_rules above_zero
 succession_accepted t o before = zero_accepted list_writing (succession_rules t) (list_content t) o refl before
 

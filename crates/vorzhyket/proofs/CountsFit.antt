@@ -124,7 +124,8 @@ pub gaps_counted : (t : Tables) (offsets ids o : List ℕ) {y : Answer} {after :
     → outcome y after ≡ gap_call t offsets ids o → Counted y
 unfolding gap_call
 gaps_counted t offsets ids o e =
-    counted (table_writing gap_width) (gap_rules t offsets ids) (gap_content t offsets ids) o e (gap_words_lem t offsets ids)
+    counted (table_writing gap_width) (gap_rules t offsets ids) (gap_content t offsets ids) o e
+    (gap_words_lem t offsets ids)
 
 -- ---- reversal
 reversal_words : (t : Tables) (marks : List ℕ) → first_broken (reversal_rules t marks) ≡ none

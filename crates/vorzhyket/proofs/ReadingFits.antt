@@ -10,13 +10,16 @@ use lib.ListN.{length, length-append, length-map}
 use Rattle.model.specs.Calls.{Answer, outcome, table_writing}
 use Rattle.model.specs.Lists.{bind_o, gather, is_some, map_o}
 use Rattle.model.specs.Reading.{RawTables, ReadWarning, connection_dropped, connection_loose, connection_warnings}
-use Rattle.model.specs.Reading.{connections_at, contact_at, contact_warnings, junction_warnings, kept_connections, kind_at}
-use Rattle.model.specs.Reading.{lane_link_dropped, lane_link_warnings, lane_links_at, leads_into, part_rows, passed_over}
+use Rattle.model.specs.Reading.{connections_at, contact_at, contact_warnings, junction_warnings, kept_connections}
+use Rattle.model.specs.Reading.{kind_at}
+use Rattle.model.specs.Reading.{lane_link_dropped, lane_link_warnings, lane_links_at, leads_into, part_rows}
+use Rattle.model.specs.Reading.{passed_over}
 use Rattle.model.specs.Reading.{raw_connection, raw_junction, read_connection, read_junction, read_junctions, read_pair}
 use Rattle.model.specs.Reading.{read_warning_row, read_warnings, to_list}
 use Rattle.model.specs.ReadingCalls.{JunctionOutputs, TargetOutputs, junction_content, junction_counts}
 use Rattle.model.specs.ReadingCalls.{junction_writing, raw_junction_rules, raw_lane_content, raw_lane_rules}
-use Rattle.model.specs.ReadingCalls.{read_junctions_call, read_lanes_call, read_targets_call, target_content, target_rules}
+use Rattle.model.specs.ReadingCalls.{read_junctions_call, read_lanes_call, read_targets_call, target_content}
+use Rattle.model.specs.ReadingCalls.{target_rules}
 use Rattle.model.specs.ReadingCalls.{target_writing}
 use Rattle.model.specs.Records.{Connection, Junction, Pair, Span}
 use Rattle.model.specs.Rows.{word}
@@ -290,4 +293,5 @@ words_of_junctions t unbroken =
 pub junctions_counted : (t : RawTables) (o : JunctionOutputs) {y : Answer} {after : JunctionOutputs}
     → outcome y after ≡ read_junctions_call t o → Counted y
 unfolding read_junctions_call
-junctions_counted t o e = counted junction_writing (raw_junction_rules t) (junction_content t) o e (words_of_junctions t)
+junctions_counted t o e =
+    counted junction_writing (raw_junction_rules t) (junction_content t) o e (words_of_junctions t)

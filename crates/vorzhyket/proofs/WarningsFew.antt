@@ -8,7 +8,8 @@ use lib.ListN.{length, length-append}
 use Rattle.model.specs.Lists.{gather, list_o}
 use Rattle.model.specs.Records.{Connection, Junction, JunctionKind, Map, Road, Span, common, direct, virtual}
 use Rattle.model.specs.Repair.{Warning, connections_after, junctions_over, missing_end, missing_link, repair}
-use Rattle.model.specs.Repair.{repair_junction, repair_roads, start_roads, warn_after, warn_all, warn_one, warn_over, warnings}
+use Rattle.model.specs.Repair.{repair_junction, repair_roads, start_roads, warn_after, warn_all, warn_one, warn_over}
+use Rattle.model.specs.Repair.{warnings}
 use Rattle.model.specs.Tables.{all_connections}
 
 module _ (same : Span → Span → Bool) where

@@ -165,7 +165,8 @@ module _ (lanes owner : List ℕ) (w s k r : ℕ) where
       sym (ap (λ b. b && eqb (get_or lanes (r * 10 + 3) 0) s && eqb (get_or lanes (r * 10 + 4) 0) k)
       (ne_eqb (get_or owner r 0) w n))
 
-  pub key_other_section : get_or owner r 0 ≡ w → (get_or lanes (r * 10 + 3) 0 ≡ s → ⊥) → false ≡ is_key lanes owner w s k r
+  pub key_other_section : get_or owner r 0 ≡ w → (get_or lanes (r * 10 + 3) 0 ≡ s → ⊥)
+      → false ≡ is_key lanes owner w s k r
   unfolding is_key
   key_other_section e n =
       sym (ap₂ (λ a b. a && b && eqb (get_or lanes (r * 10 + 4) 0) k) (eq-eqb (get_or owner r 0) w e)

@@ -122,7 +122,8 @@ module _ {ℓ} {A : Type ℓ} where
   pub tab_get_d : (l : List A) (d : A) → tab (length l) (λ i. get_or l i d) ≡ l
   tab_get_d l d =
       let e = tab_length (length l) (λ i. get_or l i d) in
-      ext_get_or d (tab (length l) (λ i. get_or l i d)) l e (λ i h. tab_at (length l) (λ k. get_or l k d) i d (rw e at h))
+      ext_get_or d (tab (length l) (λ i. get_or l i d)) l e
+      (λ i h. tab_at (length l) (λ k. get_or l k d) i d (rw e at h))
 
 -- map of a tab
 module _ {A B : Type 0} (g : A → B) where

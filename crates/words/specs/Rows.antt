@@ -1,5 +1,6 @@
 -- Rows by their numbers: what a loop over rows has seen, and what a writer has put. Definitions only.
-use Rattle.std.specs.Prelude.{ℕ, zero, suc, ◌+◌, ◌*◌, List, [], ◌∷◌, ◌++◌, Bool, true, false, ◌&&◌, ◌||◌, cond, length, get_or, drop, take}
+use Rattle.std.specs.Prelude.{ℕ, zero, suc, ◌+◌, ◌*◌, List, [], ◌∷◌, ◌++◌, Bool, true, false, ◌&&◌, ◌||◌, cond, length}
+use Rattle.std.specs.Prelude.{get_or, drop, take}
 use Rattle.model.specs.Records.{Span}
 
 -- does p hold of some number below n?
