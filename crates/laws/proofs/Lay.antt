@@ -24,8 +24,9 @@ module _ {A : Type 0} where
   gather_rows w (suc n) ws =
       ap (λ (l : List A). take w ws ++ l) (gather_rows w n (drop w ws))
       ∙ sym (take-add w (n * w) ws)
-      ∙ (let one-row-more = suc-mul n w in let words : w + n * w
-      ≡ suc n * w = omega arith in ap (λ (k : ℕ). take k ws) words)
+      ∙ (let one-row-more = suc-mul n w in
+      let words : w + n * w ≡ suc n * w = omega arith in
+      ap (λ (k : ℕ). take k ws) words)
 
   pub gather_table : (w : ℕ) (ws : List A) → length ws % w ≡ 0 → gather (λ r. r) (table w ws) ≡ ws
   unfolding table

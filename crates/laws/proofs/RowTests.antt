@@ -30,8 +30,9 @@ module _ {A : Type 0} where
   rows_at w (suc n) ws (suc r) h =
       rows_at w n (drop w ws) r (le_of_suc-le-suc h)
       ∙ ap (take w) (drop-drop (r * w) w ws
-      ∙ (let one-row-more = suc-mul r w in let words : w + r * w
-      ≡ suc r * w = omega arith in ap (λ (k : ℕ). drop k ws) words))
+      ∙ (let one-row-more = suc-mul r w in
+      let words : w + r * w ≡ suc r * w = omega arith in
+      ap (λ (k : ℕ). drop k ws) words))
 
   pub table_at : (w : ℕ) (ws : List A) (r : ℕ) → r < length ws / w → get_or (table w ws) r [] ≡ take w (drop (r * w) ws)
   unfolding table
