@@ -1,5 +1,6 @@
 // 10, 12, 13 and 14: what reversal asks of edges, marks, numbers and roads.
-ghost use Rattle.std.specs.Prelude.{◌≡◌, true, false, not, ◌&&◌, map, ◌+◌, ◌*◌, ◌/◌, ◌≤◌, ◌<◌, length, get_or, drop, eqb, leb};
+ghost use Rattle.std.specs.Prelude.{◌≡◌, true, false, not, ◌&&◌, map, ◌+◌, ◌*◌, ◌/◌, ◌≤◌, ◌<◌, length, get_or, drop};
+ghost use Rattle.std.specs.Prelude.{eqb, leb};
 ghost use Rattle.model.specs.Lists.{every};
 ghost use Rattle.model.specs.Rows.{table};
 ghost use Rattle.model.specs.Tables.{lane_in, pair_in, link_of};

@@ -28,7 +28,8 @@ fn link(heads: &mut [u32], next: &mut [u32], h: usize, r: usize)
     heads[h] = (r + 1) as u32;
 }
 
-// The last of the first n rows (of w words, the name in words k and k + 1) that bears the name, plus 1; 0 where none does.
+// The last of the first n rows (of w words, the name in words k and k + 1) that bears the name, plus 1; 0 where none
+// does.
 pub fn find_name(
     text: &[u8],
     ws: &[u32],
@@ -155,7 +156,8 @@ pub fn find_key(
     section: u32,
     number: u32,
 ) -> usize
-    requires n_in_bounds { (n * 10 ≤ length lanes.now) × (n ≤ 16384) × (n ≤ length owner.now) × (length heads.now ≡ 16384)
+    requires n_in_bounds { (n * 10 ≤ length lanes.now) × (n ≤ 16384) × (n ≤ length owner.now)
+        × (length heads.now ≡ 16384)
         × (n ≤ length next.now) × (road < 4294967296) }
     requires chained { Chained (lane_hash lanes.now owner.now) n heads.now next.now }
     ensures { result ≡ last_of n (is_key lanes.now owner.now road section number) }
@@ -220,7 +222,8 @@ pub fn find_direct(
     start: usize,
     size: usize,
 ) -> usize
-    requires n_in_bounds { (n * 5 ≤ length junctions.now) × (n ≤ 16384) × (length heads.now ≡ 16384) × (n ≤ length next.now)
+    requires n_in_bounds { (n * 5 ≤ length junctions.now) × (n ≤ 16384) × (length heads.now ≡ 16384)
+        × (n ≤ length next.now)
         × (start < 4294967296) × (size < 4294967296) }
     requires chained { Chained (name_hash text.now 5 0 junctions.now) n heads.now next.now }
     ensures { result ≡ last_of n (is_direct_of text.now junctions.now (span start size)) }

@@ -8,13 +8,15 @@ pub chosen-requires : goal.chosen-requires
 chosen-requires c = ((near_plain c.args.exit (start_of c.args.to) c.nearest.ensures).no_sign, c.requires)
 
 pub chosen-requires-in-Backward : goal.chosen-requires-in-Backward
-chosen-requires-in-Backward c = ((near_plain c.args.exit (end_of c.args.to) c.nearest-in-Backward.ensures).no_sign, c.requires)
+chosen-requires-in-Backward c =
+    ((near_plain c.args.exit (end_of c.args.to) c.nearest-in-Backward.ensures).no_sign, c.requires)
 
 pub chosen-b-requires : goal.chosen-b-requires
 chosen-b-requires c = ((near_plain c.args.exit (end_of c.args.to) c.nearest-in-Both.ensures).no_sign, c.requires)
 
 pub chosen-requires-in-Both : goal.chosen-requires-in-Both
-chosen-requires-in-Both c = let no_sign = (near_plain c.args.exit (start_of c.args.to) c.nearest-in-Both-2.ensures).no_sign in
+chosen-requires-in-Both c =
+    let no_sign = (near_plain c.args.exit (start_of c.args.to) c.nearest-in-Both-2.ensures).no_sign in
     (no_sign, c.chosen-b.ensures.1)
 
 pub returns-in-Forward : goal.returns-in-Forward

@@ -17,7 +17,8 @@ returns-in-Forward-enters-2 c = rw (c.in-Backward.is, c.in-Forward-enters-2.is) 
 
 pub returns-in-Backward-enters-2 : goal.returns-in-Backward-enters-2
 unfolding closest_ends
-returns-in-Backward-enters-2 c = rw (c.in-Backward.is, c.in-Backward-enters-2.is) c.only_pair-in-Backward-enters-2.ensures
+returns-in-Backward-enters-2 c =
+    rw (c.in-Backward.is, c.in-Backward-enters-2.is) c.only_pair-in-Backward-enters-2.ensures
 
 pub returns : goal.returns
 returns c = c.seen_of.ensures ∙ ap seen_of c.closest_ends.ensures.0

@@ -17,16 +17,23 @@ use Rattle.rules.proofs.lanes.lanes_listed.Reads as reads
 use Rattle.rules.proofs.lanes.lanes_listed.Goals as goal
 
 abbrev Start : Type 0
-Start = lts.Start tie.the-claims reads.Pre reads.Post goal.the-invariant-loop-i goal.the-decreases-loop-i tie.handed_clauses
+Start =
+    lts.Start tie.the-claims reads.Pre reads.Post goal.the-invariant-loop-i goal.the-decreases-loop-i tie.handed_clauses
 
 abbrev At-loop-i : Type 0
-At-loop-i = lts.At-loop tie.the-claims reads.Pre reads.Post goal.the-invariant-loop-i goal.the-decreases-loop-i tie.handed_clauses
+At-loop-i =
+    lts.At-loop tie.the-claims reads.Pre reads.Post goal.the-invariant-loop-i goal.the-decreases-loop-i
+    tie.handed_clauses
 
 abbrev In-loop-i : Type 0
-In-loop-i = lts.In-loop tie.the-claims reads.Pre reads.Post goal.the-invariant-loop-i goal.the-decreases-loop-i tie.handed_clauses
+In-loop-i =
+    lts.In-loop tie.the-claims reads.Pre reads.Post goal.the-invariant-loop-i goal.the-decreases-loop-i
+    tie.handed_clauses
 
 abbrev After-lane_road-f : Type 0
-After-lane_road-f = lts.After-lane_road tie.the-claims reads.Pre reads.Post goal.the-invariant-loop-i goal.the-decreases-loop-i tie.handed_clauses
+After-lane_road-f =
+    lts.After-lane_road tie.the-claims reads.Pre reads.Post goal.the-invariant-loop-i goal.the-decreases-loop-i
+    tie.handed_clauses
 
 -- ---- what is asked
 module _ (start : Start) where

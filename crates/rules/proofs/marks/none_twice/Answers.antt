@@ -10,19 +10,28 @@ use Rattle.rules.proofs.marks.none_twice.Reads as reads
 use Rattle.rules.proofs.marks.none_twice.Goals as goal
 
 abbrev Start : Type 0
-Start = lts.Start tie.the-claims reads.Pre reads.Post goal.the-invariant-loop-i goal.the-decreases-loop-i tie.handed_clauses
+Start =
+    lts.Start tie.the-claims reads.Pre reads.Post goal.the-invariant-loop-i goal.the-decreases-loop-i tie.handed_clauses
 
 abbrev At-loop-i : Type 0
-At-loop-i = lts.At-loop tie.the-claims reads.Pre reads.Post goal.the-invariant-loop-i goal.the-decreases-loop-i tie.handed_clauses
+At-loop-i =
+    lts.At-loop tie.the-claims reads.Pre reads.Post goal.the-invariant-loop-i goal.the-decreases-loop-i
+    tie.handed_clauses
 
 abbrev After-both : Type 0
-After-both = lts.After-both tie.the-claims reads.Pre reads.Post goal.the-invariant-loop-i goal.the-decreases-loop-i tie.handed_clauses
+After-both =
+    lts.After-both tie.the-claims reads.Pre reads.Post goal.the-invariant-loop-i goal.the-decreases-loop-i
+    tie.handed_clauses
 
 abbrev After-twice_named-twice : Type 0
-After-twice_named-twice = lts.After-twice_named tie.the-claims reads.Pre reads.Post goal.the-invariant-loop-i goal.the-decreases-loop-i tie.handed_clauses
+After-twice_named-twice =
+    lts.After-twice_named tie.the-claims reads.Pre reads.Post goal.the-invariant-loop-i goal.the-decreases-loop-i
+    tie.handed_clauses
 
 abbrev After-is-marked : Type 0
-After-is-marked = lts.After-is tie.the-claims reads.Pre reads.Post goal.the-invariant-loop-i goal.the-decreases-loop-i tie.handed_clauses
+After-is-marked =
+    lts.After-is tie.the-claims reads.Pre reads.Post goal.the-invariant-loop-i goal.the-decreases-loop-i
+    tie.handed_clauses
 
 -- ---- a turn
 module _ (judged : After-both) where
@@ -64,7 +73,8 @@ pub loop-i-smaller : goal.loop-i-smaller
 loop-i-smaller c = omega arith
 
 pub loop-i-preserved : goal.loop-i-preserved
-loop-i-preserved c = passing_more c.loop-i.invariant c.loop-i-test.true (sym (judged_is (search)) ∙ ap not c.if-both.false)
+loop-i-preserved c =
+    passing_more c.loop-i.invariant c.loop-i-test.true (sym (judged_is (search)) ∙ ap not c.if-both.false)
 
 pub returns : goal.returns
 returns c = all_pass c.loop-i.invariant c.loop-i-test.false

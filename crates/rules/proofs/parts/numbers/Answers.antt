@@ -6,7 +6,8 @@ use Rattle.rules.proofs.Fits.{part_in}
 use Rattle.rules.proofs.parts.numbers.Goals as goal
 
 pub slice_bounds-result-end : goal.slice_bounds-result-end
-slice_bounds-result-end c = let inside = part_in 20 18 19 _ _ (omega arith) (omega arith) c.requires.roads_value _ c.requires.r_in_bounds in
+slice_bounds-result-end c =
+    let inside = part_in 20 18 19 _ _ (omega arith) (omega arith) c.requires.roads_value _ c.requires.r_in_bounds in
     omega (arith, inside, c.word-first.ensures.0, c.word-count.ensures.0)
 
 pub returns : goal.returns

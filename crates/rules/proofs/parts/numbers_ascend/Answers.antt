@@ -10,16 +10,23 @@ use Rattle.rules.proofs.parts.numbers_ascend.Reads as reads
 use Rattle.rules.proofs.parts.numbers_ascend.Goals as goal
 
 abbrev Start : Type 0
-Start = lts.Start tie.the-claims reads.Pre reads.Post goal.the-invariant-loop-i goal.the-decreases-loop-i tie.handed_clauses
+Start =
+    lts.Start tie.the-claims reads.Pre reads.Post goal.the-invariant-loop-i goal.the-decreases-loop-i tie.handed_clauses
 
 abbrev At-loop-i : Type 0
-At-loop-i = lts.At-loop tie.the-claims reads.Pre reads.Post goal.the-invariant-loop-i goal.the-decreases-loop-i tie.handed_clauses
+At-loop-i =
+    lts.At-loop tie.the-claims reads.Pre reads.Post goal.the-invariant-loop-i goal.the-decreases-loop-i
+    tie.handed_clauses
 
 abbrev After-ascending : Type 0
-After-ascending = lts.After-ascending tie.the-claims reads.Pre reads.Post goal.the-invariant-loop-i goal.the-decreases-loop-i tie.handed_clauses
+After-ascending =
+    lts.After-ascending tie.the-claims reads.Pre reads.Post goal.the-invariant-loop-i goal.the-decreases-loop-i
+    tie.handed_clauses
 
 abbrev After-numbers : Type 0
-After-numbers = lts.After-numbers tie.the-claims reads.Pre reads.Post goal.the-invariant-loop-i goal.the-decreases-loop-i tie.handed_clauses
+After-numbers =
+    lts.After-numbers tie.the-claims reads.Pre reads.Post goal.the-invariant-loop-i goal.the-decreases-loop-i
+    tie.handed_clauses
 
 -- ---- a turn
 module _ (judged : After-ascending) where
@@ -46,7 +53,8 @@ numbers-requires c = record {
 }
 
 pub returns-then-not-ascending : goal.returns-then-not-ascending
-returns-then-not-ascending c = one_fails c.loop-i.invariant c.loop-i-test.true (sym (judged_is (search)) ∙ not-true _ c.if-not-ascending.true-raw)
+returns-then-not-ascending c =
+    one_fails c.loop-i.invariant c.loop-i-test.true (sym (judged_is (search)) ∙ not-true _ c.if-not-ascending.true-raw)
 
 pub overflow_add-i : goal.overflow_add-i
 overflow_add-i c = omega arith
@@ -55,7 +63,9 @@ pub loop-i-smaller : goal.loop-i-smaller
 loop-i-smaller c = omega arith
 
 pub loop-i-preserved : goal.loop-i-preserved
-loop-i-preserved c = passing_more c.loop-i.invariant c.loop-i-test.true (sym (judged_is (search)) ∙ not-false _ c.if-not-ascending.false-raw)
+loop-i-preserved c =
+    passing_more c.loop-i.invariant c.loop-i-test.true
+    (sym (judged_is (search)) ∙ not-false _ c.if-not-ascending.false-raw)
 
 pub returns : goal.returns
 returns c = all_pass c.loop-i.invariant c.loop-i-test.false

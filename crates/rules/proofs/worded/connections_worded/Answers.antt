@@ -12,7 +12,8 @@ pub connection_worded-requires : goal.connection_worded-requires
 connection_worded-requires c = omega arith
 
 pub returns-then-not-connection_worded : goal.returns-then-not-connection_worded
-returns-then-not-connection_worded c = let fails = sym c.connection_worded.ensures ∙ not-true _ c.if-not-connection_worded.true-raw in
+returns-then-not-connection_worded c =
+    let fails = sym c.connection_worded.ensures ∙ not-true _ c.if-not-connection_worded.true-raw in
     row_fails 7 _ (connection_local _) c.loop-i.invariant c.loop-i-test.true fails
 
 pub overflow_add-i : goal.overflow_add-i

@@ -12,7 +12,8 @@ pub junction_worded-requires : goal.junction_worded-requires
 junction_worded-requires c = omega arith
 
 pub returns-then-not-junction_worded : goal.returns-then-not-junction_worded
-returns-then-not-junction_worded c = let fails = sym c.junction_worded.ensures ∙ not-true _ c.if-not-junction_worded.true-raw in
+returns-then-not-junction_worded c =
+    let fails = sym c.junction_worded.ensures ∙ not-true _ c.if-not-junction_worded.true-raw in
     row_fails 5 _ (junction_local _) c.loop-i.invariant c.loop-i-test.true fails
 
 pub overflow_add-i : goal.overflow_add-i

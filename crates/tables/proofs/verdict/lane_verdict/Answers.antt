@@ -185,7 +185,8 @@ lanes_listed-requires c = let past : Else-not-admitted = search in
 pub returns-then-not-lanes_listed : goal.returns-then-not-lanes_listed
 unfolding lane_rules
 returns-then-not-lanes_listed c = let past : Else-not-admitted = search in
-    let unlisted = lanes_listed_lem _ _ _ _ ∙ sym c.lanes_listed.ensures.value ∙ not-true _ c.if-not-lanes_listed.true-raw in
+    let unlisted = lanes_listed_lem _ _ _ _ ∙ sym c.lanes_listed.ensures.value
+    ∙ not-true _ c.if-not-lanes_listed.true-raw in
     record {
       result_value = later past (broken_at 1 (from_6 past) (identified (search), tt) unlisted);
       linked = refused 7;

@@ -111,7 +111,8 @@ pub returns-then-not-sections_fit : goal.returns-then-not-sections_fit
 unfolding rules_to5
 returns-then-not-sections_fit c = let unfit = sym c.sections_fit.ensures ∙ not-true _ c.if-not-sections_fit.true-raw in
     record {
-      result_value = broken_at 3 (rule_list (start (search))) (sized (search), (worded (search), (once (search), tt))) unfit;
+      result_value =
+          broken_at 3 (rule_list (start (search))) (sized (search), (worded (search), (once (search), tt))) unfit;
       chained = refused 4;
     }
 
@@ -120,7 +121,8 @@ connections_fit-requires c = ((few (search)).few_connections, (few (search)).few
 
 pub returns-then-not-connections_fit : goal.returns-then-not-connections_fit
 unfolding rules_to5
-returns-then-not-connections_fit c = let unfit = sym c.connections_fit.ensures ∙ not-true _ c.if-not-connections_fit.true-raw in
+returns-then-not-connections_fit c =
+    let unfit = sym c.connections_fit.ensures ∙ not-true _ c.if-not-connections_fit.true-raw in
     record {
       result_value = broken_at 4 (rule_list (start (search)))
           (sized (search), (worded (search), (once (search), (sections_fit_lem (search), tt)))) unfit;

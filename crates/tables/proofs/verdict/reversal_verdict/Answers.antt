@@ -8,7 +8,8 @@ use mathlib.Core.Option.{Option, none}
 use mathlib.Core.Path.{◌≡◌, sym, ap₂, ◌∙◌}
 use Prim.Native.Nat.{ℕ, ◌/◌}
 use Rattle.model.specs.Calls.{lane_rules, mark_rules, reversal_rules, rules_to5, table_rules}
-use Rattle.model.specs.Rules.{Rule, edges_fit, edges_sized, first_broken, lanes_sized, lanes_worded, map_sized, map_worded}
+use Rattle.model.specs.Rules.{Rule, edges_fit, edges_sized, first_broken, lanes_sized, lanes_worded, map_sized}
+use Rattle.model.specs.Rules.{map_worded}
 use Rattle.model.specs.Rules.{marks_fit, numbers_fine, numbers_turn, one_ended, rule}
 use Rattle.model.specs.Tables.{Tables, all_tables, lanes_in, pairs_in}
 use Rattle.laws.proofs.RulesReversed.{pass_all}

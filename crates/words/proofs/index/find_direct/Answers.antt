@@ -12,7 +12,9 @@ use Rattle.words.proofs.index.find_direct.Reads as reads
 use Rattle.words.proofs.index.find_direct.Goals as goal
 
 abbrev Start : Type 0
-Start = lts.Start tie.the-claims reads.Pre reads.Post goal.the-invariant-loop-at goal.the-decreases-loop-at tie.handed_clauses
+Start =
+    lts.Start tie.the-claims reads.Pre reads.Post goal.the-invariant-loop-at goal.the-decreases-loop-at
+    tie.handed_clauses
 
 -- ---- what is asked
 module _ (start : Start) where
@@ -64,7 +66,8 @@ is_direct-requires c = let start : Start = search in
     )
 
 pub returns-then-is_direct : goal.returns-then-is_direct
-returns-then-is_direct c = look_hit c.loop-at.invariant c.loop-at-test.true (sym c.is_direct.ensures ∙ c.if-is_direct.true)
+returns-then-is_direct c =
+    look_hit c.loop-at.invariant c.loop-at-test.true (sym c.is_direct.ensures ∙ c.if-is_direct.true)
 
 pub word-at-requires-in-loop-at : goal.word-at-requires-in-loop-at
 word-at-requires-in-loop-at c = let start : Start = search in

@@ -13,13 +13,19 @@ use Rattle.words.proofs.index.find_id.Reads as reads
 use Rattle.words.proofs.index.find_id.Goals as goal
 
 abbrev Start : Type 0
-Start = lts.Start tie.the-claims reads.Pre reads.Post goal.the-invariant-loop-at goal.the-decreases-loop-at tie.handed_clauses
+Start =
+    lts.Start tie.the-claims reads.Pre reads.Post goal.the-invariant-loop-at goal.the-decreases-loop-at
+    tie.handed_clauses
 
 abbrev At-loop-at : Type 0
-At-loop-at = lts.At-loop tie.the-claims reads.Pre reads.Post goal.the-invariant-loop-at goal.the-decreases-loop-at tie.handed_clauses
+At-loop-at =
+    lts.At-loop tie.the-claims reads.Pre reads.Post goal.the-invariant-loop-at goal.the-decreases-loop-at
+    tie.handed_clauses
 
 abbrev In-loop-at : Type 0
-In-loop-at = lts.In-loop tie.the-claims reads.Pre reads.Post goal.the-invariant-loop-at goal.the-decreases-loop-at tie.handed_clauses
+In-loop-at =
+    lts.In-loop tie.the-claims reads.Pre reads.Post goal.the-invariant-loop-at goal.the-decreases-loop-at
+    tie.handed_clauses
 
 -- ---- what is asked
 module _ (start : Start) where
@@ -45,7 +51,8 @@ module _ (turn : In-loop-at) where
   start = search
 
   row_fits : (head.loop-at.at - 1) * 10 + 9 < length start.args.lanes.now
-  row_fits = row_in _ 10 9 _ _ (look_row head.loop-at.invariant turn.loop-at-test.true) (rows_inside start) (omega arith)
+  row_fits =
+      row_in _ 10 9 _ _ (look_row head.loop-at.invariant turn.loop-at-test.true) (rows_inside start) (omega arith)
 
 pub overflow_cast-id : goal.overflow_cast-id
 overflow_cast-id c = omega arith
@@ -80,7 +87,8 @@ loop-at-smaller c = look_less c.loop-at.invariant c.loop-at-test.true c.word-at-
 
 pub loop-at-preserved : goal.loop-at-preserved
 unfolding is_id
-loop-at-preserved c = look_on c.loop-at.invariant c.loop-at-test.true c.word-at-in-loop-at.ensures.0 (ne_eqb _ _ c.if-lanes-r.false)
+loop-at-preserved c =
+    look_on c.loop-at.invariant c.loop-at-test.true c.word-at-in-loop-at.ensures.0 (ne_eqb _ _ c.if-lanes-r.false)
 
 pub returns : goal.returns
 returns c = look_none c.loop-at.invariant c.loop-at-test.false

@@ -12,7 +12,9 @@ use Rattle.words.proofs.index.find_key.Reads as reads
 use Rattle.words.proofs.index.find_key.Goals as goal
 
 abbrev Start : Type 0
-Start = lts.Start tie.the-claims reads.Pre reads.Post goal.the-invariant-loop-at goal.the-decreases-loop-at tie.handed_clauses
+Start =
+    lts.Start tie.the-claims reads.Pre reads.Post goal.the-invariant-loop-at goal.the-decreases-loop-at
+    tie.handed_clauses
 
 -- ---- what is asked
 module _ (start : Start) where

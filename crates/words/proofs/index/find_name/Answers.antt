@@ -12,13 +12,19 @@ use Rattle.words.proofs.index.find_name.Reads as reads
 use Rattle.words.proofs.index.find_name.Goals as goal
 
 abbrev Start : Type 0
-Start = lts.Start tie.the-claims reads.Pre reads.Post goal.the-invariant-loop-last goal.the-decreases-loop-last tie.handed_clauses
+Start =
+    lts.Start tie.the-claims reads.Pre reads.Post goal.the-invariant-loop-last goal.the-decreases-loop-last
+    tie.handed_clauses
 
 abbrev At-loop-last : Type 0
-At-loop-last = lts.At-loop tie.the-claims reads.Pre reads.Post goal.the-invariant-loop-last goal.the-decreases-loop-last tie.handed_clauses
+At-loop-last =
+    lts.At-loop tie.the-claims reads.Pre reads.Post goal.the-invariant-loop-last goal.the-decreases-loop-last
+    tie.handed_clauses
 
 abbrev In-loop-last : Type 0
-In-loop-last = lts.In-loop tie.the-claims reads.Pre reads.Post goal.the-invariant-loop-last goal.the-decreases-loop-last tie.handed_clauses
+In-loop-last =
+    lts.In-loop tie.the-claims reads.Pre reads.Post goal.the-invariant-loop-last goal.the-decreases-loop-last
+    tie.handed_clauses
 
 -- ---- what is asked
 module _ (start : Start) where
@@ -54,7 +60,8 @@ module _ (turn : In-loop-last) where
 
   row_fits : (head.loop-last.last - 1) * start.args.w + (start.args.k + 1) < length start.args.ws.now
   row_fits =
-      row_in _ _ _ _ _ (look_row head.loop-last.invariant turn.loop-last-test.true) (rows_inside start) (name_inside start)
+      row_in _ _ _ _ _ (look_row head.loop-last.invariant turn.loop-last-test.true) (rows_inside start)
+      (name_inside start)
 
 pub bucket-requires : goal.bucket-requires
 bucket-requires c = let start : Start = search in

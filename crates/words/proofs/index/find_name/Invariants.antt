@@ -5,7 +5,9 @@ use Rattle.words.proofs.Loops.{Lookup}
 use Rattle.words.proofs.index.find_name.Given as goal
 
 abbrev pub invariant-loop-last : goal.invariant-loop-last
-invariant-loop-last l = Lookup (name_hash l.text l.w l.k l.ws) (bears l.text l.w l.k l.ws (span l.start l.size)) (hash_name l.text (span l.start l.size)) l.n
+invariant-loop-last l =
+    Lookup (name_hash l.text l.w l.k l.ws) (bears l.text l.w l.k l.ws (span l.start l.size))
+    (hash_name l.text (span l.start l.size)) l.n
     l.heads l.next l.last
 
 abbrev pub decreases-loop-last : goal.decreases-loop-last

@@ -12,13 +12,18 @@ use Rattle.words.proofs.index.link_ids.Reads as reads
 use Rattle.words.proofs.index.link_ids.Goals as goal
 
 abbrev Start : Type 0
-Start = lts.Start tie.the-claims reads.Pre reads.Post goal.the-invariant-loop-i goal.the-decreases-loop-i tie.handed_clauses
+Start =
+    lts.Start tie.the-claims reads.Pre reads.Post goal.the-invariant-loop-i goal.the-decreases-loop-i tie.handed_clauses
 
 abbrev At-loop-i : Type 0
-At-loop-i = lts.At-loop tie.the-claims reads.Pre reads.Post goal.the-invariant-loop-i goal.the-decreases-loop-i tie.handed_clauses
+At-loop-i =
+    lts.At-loop tie.the-claims reads.Pre reads.Post goal.the-invariant-loop-i goal.the-decreases-loop-i
+    tie.handed_clauses
 
 abbrev In-loop-i : Type 0
-In-loop-i = lts.In-loop tie.the-claims reads.Pre reads.Post goal.the-invariant-loop-i goal.the-decreases-loop-i tie.handed_clauses
+In-loop-i =
+    lts.In-loop tie.the-claims reads.Pre reads.Post goal.the-invariant-loop-i goal.the-decreases-loop-i
+    tie.handed_clauses
 
 -- ---- what is asked
 module _ (start : Start) where
@@ -56,7 +61,8 @@ pub find_id-f-requires : goal.find_id-f-requires
 find_id-f-requires c = let start : Start = search in
     let inv = c.loop-i.invariant in
     record {
-      n_in_bounds = (rows_le _ _ _ _ inv.below (rows_inside start), inv.buckets, omega (arith, few start, inv.rows, inv.below));
+      n_in_bounds =
+          (rows_le _ _ _ _ inv.below (rows_inside start), inv.buckets, omega (arith, few start, inv.rows, inv.below));
       chained = inv.chains;
     }
 

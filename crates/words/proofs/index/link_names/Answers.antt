@@ -15,13 +15,18 @@ use Rattle.words.proofs.index.link_names.Reads as reads
 use Rattle.words.proofs.index.link_names.Goals as goal
 
 abbrev Start : Type 0
-Start = lts.Start tie.the-claims reads.Pre reads.Post goal.the-invariant-loop-i goal.the-decreases-loop-i tie.handed_clauses
+Start =
+    lts.Start tie.the-claims reads.Pre reads.Post goal.the-invariant-loop-i goal.the-decreases-loop-i tie.handed_clauses
 
 abbrev At-loop-i : Type 0
-At-loop-i = lts.At-loop tie.the-claims reads.Pre reads.Post goal.the-invariant-loop-i goal.the-decreases-loop-i tie.handed_clauses
+At-loop-i =
+    lts.At-loop tie.the-claims reads.Pre reads.Post goal.the-invariant-loop-i goal.the-decreases-loop-i
+    tie.handed_clauses
 
 abbrev In-loop-i : Type 0
-In-loop-i = lts.In-loop tie.the-claims reads.Pre reads.Post goal.the-invariant-loop-i goal.the-decreases-loop-i tie.handed_clauses
+In-loop-i =
+    lts.In-loop tie.the-claims reads.Pre reads.Post goal.the-invariant-loop-i goal.the-decreases-loop-i
+    tie.handed_clauses
 
 -- ---- what is asked
 module _ (start : Start) where

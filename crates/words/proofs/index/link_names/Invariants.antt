@@ -6,7 +6,8 @@ use Rattle.words.proofs.Loops.{Linking}
 use Rattle.words.proofs.index.link_names.Given as goal
 
 abbrev pub invariant-loop-i : goal.invariant-loop-i
-invariant-loop-i l = Linking (name_hash l.text l.w l.k l.ws) (name_before l.text l.w l.k l.ws) l.n l.heads l.next l.twice l.i
+invariant-loop-i l =
+    Linking (name_hash l.text l.w l.k l.ws) (name_before l.text l.w l.k l.ws) l.n l.heads l.next l.twice l.i
 
 abbrev pub decreases-loop-i : goal.decreases-loop-i
 decreases-loop-i l = l.n - l.i
