@@ -15,13 +15,13 @@ link_names-requires c = record {
     }
 
 pub mark_roads-requires : goal.mark_roads-requires
-mark_roads-requires c = let kept = (c.link_names.auto.heads, c.link_names.auto.next) in (
+mark_roads-requires c = (
       c.requires.roads_len_bound.0,
       c.requires.roads_len_bound.2,
       record {
         few = c.requires.roads_len_bound.1;
-        heads_long = kept.0 ∙ length-replicate {A = ℕ} 16384 0;
-        next_long = kept.1.0 ∙ length-replicate {A = ℕ} 16384 0;
+        heads_long = c.link_names.auto.heads ∙ length-replicate {A = ℕ} 16384 0;
+        next_long = c.link_names.auto.next ∙ length-replicate {A = ℕ} 16384 0;
         chained = c.link_names.ensures.chained;
       },
     )

@@ -44,8 +44,8 @@ module _ (tried : After-fit) where
   abbrev lent : RepairOutputs
   lent =
       let args = start.args in
-      outputs args.roads-out.now args.junctions-out.now args.connections-out.now
-      args.pairs-out.now args.warnings-out.now
+      outputs args.roads_out.now args.junctions_out.now args.connections_out.now
+      args.pairs_out.now args.warnings_out.now
 
   whole : InRows content road_count junction_count start.args.n start.args.p start.args.w
   whole =
@@ -67,11 +67,11 @@ module _ (past : Else-not-fit) where
   abbrev given : Start
   given = start tried
 
-  fitting : (road_count tried * 20 ≤ length given.args.roads-out.now)
-      × (junction_count tried * 5 ≤ length given.args.junctions-out.now)
-      × (given.args.n * 7 ≤ length given.args.connections-out.now)
-      × (given.args.p * 2 ≤ length given.args.pairs-out.now)
-      × (given.args.w * 4 ≤ length given.args.warnings-out.now)
+  fitting : (road_count tried * 20 ≤ length given.args.roads_out.now)
+      × (junction_count tried * 5 ≤ length given.args.junctions_out.now)
+      × (given.args.n * 7 ≤ length given.args.connections_out.now)
+      × (given.args.p * 2 ≤ length given.args.pairs_out.now)
+      × (given.args.w * 4 ≤ length given.args.warnings_out.now)
   fitting = fits_five _ _ _ _ _ _ _ _ _ _ (sym tried.fit.ensures ∙ not-false _ past.if-not-fit.false-raw)
 
 pub returns-then-not-fit : goal.returns-then-not-fit

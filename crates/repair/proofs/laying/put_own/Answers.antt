@@ -55,7 +55,7 @@ pub overflow_add-n : goal.overflow_add-n
 overflow_add-n c = let turn : In-loop-i = search in omega (arith, (room turn).rows)
 
 pub put_connection-at-requires : goal.put_connection-at-requires
-put_connection-at-requires c = let turn : In-loop-i = search in ((start turn).requires.small.0, room turn, (head turn).loop-i.invariant.long)
+put_connection-at-requires c = let turn : In-loop-i = search in record { small = ((start turn).requires.small.0, room turn, (head turn).loop-i.invariant.long) }
 
 pub overflow_add-i : goal.overflow_add-i
 overflow_add-i c = let turn : In-loop-i = search in omega (arith, (room turn).rows)
@@ -68,15 +68,15 @@ loop-i-preserved c = let laid : After-put_connection-at = search in
     let args = c.args in
     let held = c.loop-i.invariant in
     let i = c.loop-i.i in
-    let kept = (laid.put_connection-at.auto.cs, laid.put_connection-at.auto.ps) in
+    let kept = laid.put_connection-at.auto in
     let next = pairs_next args.connections.now args.first i in
     let row_on : args.n + i + 1 ≡ args.n + (i + 1) = omega arith in
     record {
       turns = omega (arith, c.loop-i-test.true);
       counted = omega (arith, next, laid.put_connection-at.ensures.value, held.counted);
       long = record {
-        connections_long = kept.0 ∙ held.long.connections_long;
-        pairs_long = kept.1.0 ∙ held.long.pairs_long;
+        connections_long = kept.cs ∙ held.long.connections_long;
+        pairs_long = kept.ps ∙ held.long.pairs_long;
       };
       laid = laid_rows row_on (laid_own _ i held.laid laid.put_connection-at.ensures.laid);
     }

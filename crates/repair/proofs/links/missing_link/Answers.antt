@@ -115,7 +115,7 @@ overflow_cast-id c = let known : Else-f-eq0 = search in omega (arith, row_few kn
 
 pub missing_end-e-requires : goal.missing_end-e-requires
 missing_end-e-requires c = let known : Else-f-eq0 = search in
-    let due = (start (found known)).requires.link_due in (row_few known, due.junction_few, due.connection_few, due.known)
+    let due = (start (found known)).requires.link_due in record { road_bound = (row_few known, due.junction_few, due.connection_few, due.known) }
 
 pub shape_of-ends-then-e-eq0 : goal.shape_of-ends-then-e-eq0
 shape_of-ends-then-e-eq0 c = omega arith

@@ -95,7 +95,7 @@ pub overflow_cast-id : goal.overflow_cast-id
 overflow_cast-id c = let known : Else-f-eq0 = search in omega (arith, row_few known)
 
 pub meeting_end-requires : goal.meeting_end-requires
-meeting_end-requires c = let known : Else-f-eq0 = search in (row_few known, (start (ran (found known))).requires.contact_due.junction_few)
+meeting_end-requires c = let known : Else-f-eq0 = search in record { in_bounds = (row_few known, (start (ran (found known))).requires.contact_due.junction_few) }
 
 pub returns : goal.returns
 returns c = let known : Else-f-eq0 = search in

@@ -73,11 +73,13 @@ pub back_contact-b-requires : goal.back_contact-b-requires
 back_contact-b-requires c = let turn : In-loop-i = search in
     let due = c.requires.back_due in
     record {
-      junction_few = due.junction_few;
-      connection_few = omega (arith, (room turn 0 (omega arith)).inside, due.small.few);
-      inside = due.room.inside;
-      known = due.known;
-      chain = due.chain;
+      contact_due = record {
+        junction_few = due.junction_few;
+        connection_few = omega (arith, (room turn 0 (omega arith)).inside, due.small.few);
+        inside = due.room.inside;
+        known = due.known;
+        chain = due.chain;
+      };
     }
 
 pub overflow_add-first-in-loop-i : goal.overflow_add-first-in-loop-i
@@ -88,7 +90,10 @@ overflow_add-first-in-loop-i c = let turn : In-loop-i = search in
 pub put_back-q-requires : goal.put_back-q-requires
 put_back-q-requires c = let turn : In-loop-i = search in
     let head : At-loop-i = search in
-    ((start head).requires.back_due.small, room turn _ c.back_contact-b.ensures.upper_bound, head.loop-i.invariant.long)
+    record {
+      small =
+          ((start head).requires.back_due.small, room turn _ c.back_contact-b.ensures.upper_bound, head.loop-i.invariant.long);
+    }
 
 pub overflow_add-i : goal.overflow_add-i
 overflow_add-i c = let head : At-loop-i = search in
@@ -103,15 +108,15 @@ loop-i-preserved c = let laid : After-put_back-q = search in
     let args = (start head).args in
     let held = head.loop-i.invariant in
     let i = head.loop-i.i in
-    let kept = (laid.put_back-q.auto.cs, laid.put_back-q.auto.ps) in
+    let kept = laid.put_back-q.auto in
     let next = pairs_next args.connections.now args.first i in
     record {
       turns = omega (arith, c.loop-i-test.true);
       rows = omega (arith, laid.put_back-q.ensures.connections_bound.0, held.rows);
       pair_rows = omega (arith, laid.put_back-q.ensures.connections_bound.1, held.pair_rows, next);
       long = record {
-        connections_long = kept.0 ∙ held.long.connections_long;
-        pairs_long = kept.1.0 ∙ held.long.pairs_long;
+        connections_long = kept.cs ∙ held.long.connections_long;
+        pairs_long = kept.ps ∙ held.long.pairs_long;
       };
       laid = λ ss.
           laid_more (gives head ss) (λ j. row_connection (tables head ss) (args.first + j)) i (held.laid ss)
@@ -138,12 +143,6 @@ returns c = let head : At-loop-i = search in
     ap (λ (i : ℕ). gather (gives head ss) (tab i (λ j. row_connection (tables head ss) (args.first + j)))) past in
     record {
       connections_bound = omega (arith, held.rows, past);
-      first_bound = ((
-        rw past at held.pair_rows,
-        λ ss. laid_same (all ss ∙ reversed_is _ _ _ _) (held.laid ss),
-      )).0;
-      by_index = ((
-        rw past at held.pair_rows,
-        λ ss. laid_same (all ss ∙ reversed_is _ _ _ _) (held.laid ss),
-      )).1;
+      first_bound = rw past at held.pair_rows;
+      by_index = λ ss. laid_same (all ss ∙ reversed_is _ _ _ _) (held.laid ss);
     }
