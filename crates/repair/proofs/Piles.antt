@@ -126,7 +126,8 @@ module _ (pairs ws : List ℕ) (s : Small pairs ws) (c : ℕ) (h : c < length ws
   first_word : get_or (drop (c * 7) ws) 0 0 ≡ get_or ws (c * 7) 0
   first_word = get_or-drop (c * 7) ws 0 0 ∙ ap (λ (k : ℕ). get_or ws k 0) (add-zero (c * 7))
 
-  turned_row : (b p : ℕ) → b ≤ 2 → connection_row p (turned_connection b (connection_at pairs ws c)) ≡ row_words b ws c p
+  turned_row : (b p : ℕ) → b ≤ 2
+      → connection_row p (turned_connection b (connection_at pairs ws c)) ≡ row_words b ws c p
   unfolding connection_row connection_at connection_in back_at
   turned_row zero p l =
       λ i.

@@ -59,13 +59,16 @@ pub row_words_lem : (roads junctions ends : List ℕ) (r : ℕ) {w0 w1 w2 w3 w18
     → w0 ≡ get_or roads (r * 20) 0 → w1 ≡ get_or roads (r * 20 + 1) 0 → w2 ≡ get_or roads (r * 20 + 2) 0
     → w3 ≡ get_or roads (r * 20 + 3) 0 → a ≡ words_now roads junctions ends r 0 → b ≡ words_now roads junctions ends r 1
     → w18 ≡ get_or roads (r * 20 + 18) 0 → w19 ≡ get_or roads (r * 20 + 19) 0
-    → w0 ∷ w1 ∷ w2 ∷ w3 ∷ get_or a 0 0 ∷ get_or a 1 0 ∷ get_or a 2 0 ∷ get_or a 3 0 ∷ get_or a 4 0 ∷ get_or a 5 0 ∷ get_or a 6 0
-    ∷ get_or b 0 0 ∷ get_or b 1 0 ∷ get_or b 2 0 ∷ get_or b 3 0 ∷ get_or b 4 0 ∷ get_or b 5 0 ∷ get_or b 6 0 ∷ w18 ∷ w19 ∷ []
+    → w0 ∷ w1 ∷ w2 ∷ w3
+    ∷ get_or a 0 0 ∷ get_or a 1 0 ∷ get_or a 2 0 ∷ get_or a 3 0 ∷ get_or a 4 0 ∷ get_or a 5 0 ∷ get_or a 6 0
+    ∷ get_or b 0 0 ∷ get_or b 1 0 ∷ get_or b 2 0 ∷ get_or b 3 0 ∷ get_or b 4 0 ∷ get_or b 5 0 ∷ get_or b 6 0
+    ∷ w18 ∷ w19 ∷ []
     ≡ road_now_words roads junctions ends r
 unfolding road_now_words
 row_words_lem roads junctions ends r {w0} {w1} {w2} {w3} {w18} {w19} a b p0 p1 p2 p3 at_start_lem at_end_lem p18 p19 =
     ap (λ (l : List ℕ).
-    w0 ∷ w1 ∷ w2 ∷ w3 ∷ get_or a 0 0 ∷ get_or a 1 0 ∷ get_or a 2 0 ∷ get_or a 3 0 ∷ get_or a 4 0 ∷ get_or a 5 0 ∷ get_or a 6 0 ∷ l)
+    w0 ∷ w1 ∷ w2 ∷ w3
+    ∷ get_or a 0 0 ∷ get_or a 1 0 ∷ get_or a 2 0 ∷ get_or a 3 0 ∷ get_or a 4 0 ∷ get_or a 5 0 ∷ get_or a 6 0 ∷ l)
     (seven (get_or ends (r * 2 + 1) 0) roads junctions (r * 20 + 4 + 1 * 7) 1 b (w18 ∷ w19 ∷ []) at_end_lem)
     ∙ ap (λ (l : List ℕ). w0 ∷ w1 ∷ w2 ∷ w3 ∷ l)
     (seven (get_or ends (r * 2 + 0) 0) roads junctions (r * 20 + 4 + 0 * 7) 0 a

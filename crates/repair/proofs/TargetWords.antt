@@ -42,8 +42,8 @@ module _ (ws : List ℕ) (a k : ℕ) where
   shift : (j : ℕ) → get_or ws (a + k + j) 0 ≡ get_or (drop a ws) (k + j) 0
   shift j = ap (λ (m : ℕ). get_or ws m 0) (add_assoc a k j) ∙ sym (get_or-drop a ws (k + j) 0)
 
-  as_read : target_of (get_or ws (a + k) 0) (get_or ws (a + k + 1) 0) (get_or ws (a + k + 2) 0) (get_or ws (a + k + 3) 0)
-      (get_or ws (a + k + 4) 0) (get_or ws (a + k + 5) 0) (get_or ws (a + k + 6) 0) ≡ target_in (drop a ws) k
+  as_read : target_of (get_or ws (a + k) 0) (get_or ws (a + k + 1) 0) (get_or ws (a + k + 2) 0)
+      (get_or ws (a + k + 3) 0) (get_or ws (a + k + 4) 0) (get_or ws (a + k + 5) 0) (get_or ws (a + k + 6) 0) ≡ target_in (drop a ws) k
   as_read =
       λ i.
       target_of (sym (get_or-drop a ws k 0) i) (shift 1 i) (shift 2 i) (shift 3 i) (shift 4 i) (shift 5 i)
@@ -178,7 +178,8 @@ present_is p k s n c g a = go (eqb p 1)
 
 pub present_of : (ws : List ℕ) → is_some (target_in ws 0) ≡ eqb (get_or ws 0 0) 1
 present_of ws =
-    present_is (get_or ws 0 0) (get_or ws 1 0) (get_or ws 2 0) (get_or ws 3 0) (get_or ws 4 0) (get_or ws 5 0) (get_or ws 6 0)
+    present_is (get_or ws 0 0) (get_or ws 1 0) (get_or ws 2 0) (get_or ws 3 0) (get_or ws 4 0) (get_or ws 5 0)
+    (get_or ws 6 0)
 
 -- the target at an end of a road now
 pub at_end_lem : (ss roads junctions ends : List ℕ) (r : ℕ) (e : Bool)

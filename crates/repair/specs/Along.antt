@@ -1,5 +1,6 @@
 -- The roads in virtual junctions, and the words that a road's row has after repair. Definitions only.
-use Rattle.std.specs.Prelude.{◌≡◌, Bool, not, ◌&&◌, List, [], ◌∷◌, ◌++◌, map, ℕ, ◌+◌, ◌*◌, ◌/◌, ◌≤◌, ◌<◌, length, get_or, eqb, leb}
+use Rattle.std.specs.Prelude.{◌≡◌, Bool, not, ◌&&◌, List, [], ◌∷◌, ◌++◌, map, ℕ, ◌+◌, ◌*◌, ◌/◌, ◌≤◌, ◌<◌, length}
+use Rattle.std.specs.Prelude.{get_or, eqb, leb}
 use Rattle.model.specs.Lists.{gather, pick}
 use Rattle.model.specs.Records.{Road, Span}
 use Rattle.model.specs.Repair.{without_along}

@@ -1,5 +1,6 @@
 -- What is laid into the local arrays, and what the functions that lay it may count on. Definitions only.
-use Rattle.std.specs.Prelude.{◌≡◌, Bool, true, ◌&&◌, cond, not, List, [], ◌∷◌, ◌++◌, ℕ, zero, suc, ◌+◌, ◌*◌, ◌/◌, ◌≤◌, ◌<◌, length, get_or, take, eqb, leb, ltb}
+use Rattle.std.specs.Prelude.{◌≡◌, Bool, true, ◌&&◌, cond, not, List, [], ◌∷◌, ◌++◌, ℕ, zero, suc, ◌+◌}
+use Rattle.std.specs.Prelude.{◌*◌, ◌/◌, ◌≤◌, ◌<◌, length, get_or, take, eqb, leb, ltb}
 use Rattle.std.proofs.Math.Option.{Option, none}
 use Rattle.model.specs.Calls.{warning_row}
 use Rattle.model.specs.Lists.{bind_o, every, gather, list_o, some?}

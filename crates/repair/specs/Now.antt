@@ -1,7 +1,8 @@
 -- The roads as repaired so far, and the rows of connections and junctions, by row numbers. Definitions only.
 -- `ends` has a word for each end of a road, at twice its row, plus 1 for its end: 0 as read, 1 made absent, k +
 -- 2 given junction row k.
-use Rattle.std.specs.Prelude.{◌≡◌, Bool, true, false, List, [], ◌∷◌, ℕ, zero, suc, ◌+◌, ◌*◌, ◌/◌, ◌≤◌, length, get_or, eqb}
+use Rattle.std.specs.Prelude.{◌≡◌, Bool, true, false, List, [], ◌∷◌, ℕ, zero, suc, ◌+◌, ◌*◌, ◌/◌, ◌≤◌, length}
+use Rattle.std.specs.Prelude.{get_or, eqb}
 use Rattle.std.proofs.Math.Option.{Option, none, some}
 use Rattle.model.specs.Lists.{pick}
 use Rattle.model.specs.Records.{Span, Target, Road, Connection, Junction}

@@ -34,9 +34,9 @@ module _ (repaired : After-junctions-q) where
 
 pub link_names-requires : goal.link_names-requires
 link_names-requires c = record {
-      w_bound = (omega arith, omega arith, rows_in _ 7, omega (arith, c.requires.mend_due.small.few));
-      empty = fresh;
-    }
+  w_bound = (omega arith, omega arith, rows_in _ 7, omega (arith, c.requires.mend_due.small.few));
+  empty = fresh;
+}
 
 pub junctions-q-requires : goal.junctions-q-requires
 junctions-q-requires c = let pre = c.requires.mend_due in
@@ -97,5 +97,6 @@ returns c = let repaired : After-junctions-q = search in
     map_tables args.text.now args.roads.now sections args.junctions.now args.connections.now
     args.pairs.now in
     let content_is =
-    content_is tables start.requires.mend_due.joined start.requires.mend_due.worded begun (repaired.junctions-q.ensures.by_index sections) in
+    content_is tables start.requires.mend_due.joined start.requires.mend_due.worded begun
+    (repaired.junctions-q.ensures.by_index sections) in
     c.write.ensures ∙ ap (λ (content : RepairOutputs). written_or9 repair_writing content lent) content_is

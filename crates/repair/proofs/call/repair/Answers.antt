@@ -7,7 +7,6 @@ use Rattle.tables.proofs.Order.{is_none}
 use Rattle.tables.specs.Verdicts.{admits, refusal_of}
 use Rattle.model.specs.Calls.{RepairOutputs, repair_call, repair_content, repair_rules, repair_writing}
 use Rattle.model.specs.Tables.{Tables, map_tables}
-use borrow.Author.Tests.{not-true, not-false}
 use lib.ListN.{length-replicate}
 use Prim.Native.Nat.{ℕ}
 use mathlib.Core.Bool.{true}
@@ -53,7 +52,7 @@ module _ (past : Else-not-admitted) where
   judged = search
 
   free : admits judged.repair_verdict-v.result ≡ true
-  free = let asked : After-admitted = search in sym asked.admitted.ensures ∙ not-false _ past.if-not-admitted.false-raw
+  free = let asked : After-admitted = search in sym asked.admitted.ensures ∙ past.if-not-admitted.false
 
   no_refusal : refusal_of judged.repair_verdict-v.result ≡ none
   no_refusal = is_none _ free
@@ -67,7 +66,7 @@ repair_verdict-v-requires c = record { empty = fresh }
 pub returns-then-not-admitted : goal.returns-then-not-admitted
 unfolding repair_call
 returns-then-not-admitted c = let judged : After-repair_verdict-v = search in
-    let barred = sym c.admitted.ensures ∙ not-true _ c.if-not-admitted.true-raw in
+    let barred = sym c.admitted.ensures ∙ c.if-not-admitted.true in
     call_refused repair_writing (repair_rules (tables judged)) (repair_content (tables judged)) (lent judged)
     judged.repair_verdict-v.result barred judged.repair_verdict-v.ensures.result_value
 

@@ -10,10 +10,14 @@ use Rattle.repair.proofs.junctions.junctions.Reads as reads
 use Rattle.repair.proofs.junctions.junctions.Goals as goal
 
 abbrev Start : Type 0
-Start = lts.Start tie.the-claims reads.Pre reads.Post goal.the-invariant-loop-k goal.the-decreases-loop-k tie.handed_clauses
+Start =
+    lts.Start tie.the-claims reads.Pre reads.Post
+    goal.the-invariant-loop-k goal.the-decreases-loop-k tie.handed_clauses
 
 abbrev At-loop-k : Type 0
-At-loop-k = lts.At-loop tie.the-claims reads.Pre reads.Post goal.the-invariant-loop-k goal.the-decreases-loop-k tie.handed_clauses
+At-loop-k =
+    lts.At-loop tie.the-claims reads.Pre reads.Post
+    goal.the-invariant-loop-k goal.the-decreases-loop-k tie.handed_clauses
 
 module _ (head : At-loop-k) where
   abbrev start : Start
@@ -21,13 +25,13 @@ module _ (head : At-loop-k) where
 
 pub loop-k-init : goal.loop-k-init
 loop-k-init c = record {
-      turns = omega arith;
-      twice = record { rows = omega arith; pair_rows = omega arith };
-      warnings = omega arith;
-      ends_long = c.requires.ends_len.0;
-      arrays = c.requires.ends_len.1;
-      over = λ ss. over_none _ _ _ _ _ _;
-    }
+  turns = omega arith;
+  twice = record { rows = omega arith; pair_rows = omega arith };
+  warnings = omega arith;
+  ends_long = c.requires.ends_len.0;
+  arrays = c.requires.ends_len.1;
+  over = λ ss. over_none _ _ _ _ _ _;
+}
 
 pub repair_junction-q-requires : goal.repair_junction-q-requires
 repair_junction-q-requires c = let head : At-loop-k = search in

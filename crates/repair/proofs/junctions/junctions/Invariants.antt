@@ -18,8 +18,9 @@ pub record Held (t : (ss : List ℕ) → Tables) (junctions connections ends₀ 
   pub over : (ss : List ℕ) → Over (t ss) k ends₀ cs₀ ps₀ (state ends js (pile x y cs ps) w warn)
 
 abbrev pub invariant-loop-k : goal.invariant-loop-k
-invariant-loop-k l = Held (λ ss. map_tables l.text l.roads ss l.table l.connections l.pairs) l.table l.connections l.initial.ends l.initial.cs l.initial.ps l.ends l.warn l.js l.cs
-    l.ps l.x l.y l.w l.k
+invariant-loop-k l =
+    Held (λ ss. map_tables l.text l.roads ss l.table l.connections l.pairs) l.table l.connections l.initial.ends
+    l.initial.cs l.initial.ps l.ends l.warn l.js l.cs l.ps l.x l.y l.w l.k
 
 abbrev pub decreases-loop-k : goal.decreases-loop-k
 decreases-loop-k l = length l.table / 5 - l.k

@@ -9,17 +9,19 @@ use Rattle.repair.proofs.links.missing_links.Reads as reads
 use Rattle.repair.proofs.links.missing_links.Goals as goal
 
 abbrev After-missing_link-at : Type 0
-After-missing_link-at = lts.After-missing_link tie.the-claims reads.Pre reads.Post goal.the-invariant-loop-i goal.the-decreases-loop-i tie.handed_clauses
+After-missing_link-at =
+    lts.After-missing_link tie.the-claims reads.Pre reads.Post
+    goal.the-invariant-loop-i goal.the-decreases-loop-i tie.handed_clauses
 
 pub loop-i-init : goal.loop-i-init
 unfolding tab
 loop-i-init c = record {
-      turns = omega arith;
-      warnings = omega arith;
-      ends_long = c.requires.links_due.ends_long;
-      warnings_long = c.requires.links_due.warnings_long;
-      linked = λ ss ps. linked_start _ _ _ _ _;
-    }
+  turns = omega arith;
+  warnings = omega arith;
+  ends_long = c.requires.links_due.ends_long;
+  warnings_long = c.requires.links_due.warnings_long;
+  linked = λ ss ps. linked_start _ _ _ _ _;
+}
 
 pub overflow_add-first : goal.overflow_add-first
 overflow_add-first c = omega (arith, c.loop-i-test.true, c.requires.links_due.connections_few)

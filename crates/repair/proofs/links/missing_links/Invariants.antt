@@ -20,7 +20,9 @@ pub record Held (t : (ss ps : List ℕ) → Tables) (k first m w : ℕ) (ends₀
         → Linked (t ss ps) k (tab i (λ j. row_connection (t ss ps) (first + j))) ends₀ ends w at warn₀ warn
 
 abbrev pub invariant-loop-i : goal.invariant-loop-i
-invariant-loop-i l = Held (λ ss ps. map_tables l.text l.roads ss l.junctions l.connections ps) l.k l.first l.m l.w l.initial.ends l.ends l.initial.warn l.warn l.at l.i
+invariant-loop-i l =
+    Held (λ ss ps. map_tables l.text l.roads ss l.junctions l.connections ps) l.k l.first l.m l.w l.initial.ends l.ends
+    l.initial.warn l.warn l.at l.i
 
 abbrev pub decreases-loop-i : goal.decreases-loop-i
 decreases-loop-i l = l.m - l.i

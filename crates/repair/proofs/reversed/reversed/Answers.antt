@@ -17,16 +17,24 @@ use Rattle.repair.proofs.reversed.reversed.Reads as reads
 use Rattle.repair.proofs.reversed.reversed.Goals as goal
 
 abbrev Start : Type 0
-Start = lts.Start tie.the-claims reads.Pre reads.Post goal.the-invariant-loop-i goal.the-decreases-loop-i tie.handed_clauses
+Start =
+    lts.Start tie.the-claims reads.Pre reads.Post
+    goal.the-invariant-loop-i goal.the-decreases-loop-i tie.handed_clauses
 
 abbrev In-loop-i : Type 0
-In-loop-i = lts.In-loop tie.the-claims reads.Pre reads.Post goal.the-invariant-loop-i goal.the-decreases-loop-i tie.handed_clauses
+In-loop-i =
+    lts.In-loop tie.the-claims reads.Pre reads.Post
+    goal.the-invariant-loop-i goal.the-decreases-loop-i tie.handed_clauses
 
 abbrev At-loop-i : Type 0
-At-loop-i = lts.At-loop tie.the-claims reads.Pre reads.Post goal.the-invariant-loop-i goal.the-decreases-loop-i tie.handed_clauses
+At-loop-i =
+    lts.At-loop tie.the-claims reads.Pre reads.Post
+    goal.the-invariant-loop-i goal.the-decreases-loop-i tie.handed_clauses
 
 abbrev After-put_back-q : Type 0
-After-put_back-q = lts.After-put_back tie.the-claims reads.Pre reads.Post goal.the-invariant-loop-i goal.the-decreases-loop-i tie.handed_clauses
+After-put_back-q =
+    lts.After-put_back tie.the-claims reads.Pre reads.Post
+    goal.the-invariant-loop-i goal.the-decreases-loop-i tie.handed_clauses
 
 module _ (head : At-loop-i) where
   abbrev start : Start
@@ -90,10 +98,9 @@ overflow_add-first-in-loop-i c = let turn : In-loop-i = search in
 pub put_back-q-requires : goal.put_back-q-requires
 put_back-q-requires c = let turn : In-loop-i = search in
     let head : At-loop-i = search in
-    record {
-      small =
-          ((start head).requires.back_due.small, room turn _ c.back_contact-b.ensures.upper_bound, head.loop-i.invariant.long);
-    }
+    let small = (start head).requires.back_due.small in
+    let room = room turn _ c.back_contact-b.ensures.upper_bound in
+    record { small = (small, room, head.loop-i.invariant.long) }
 
 pub overflow_add-i : goal.overflow_add-i
 overflow_add-i c = let head : At-loop-i = search in
