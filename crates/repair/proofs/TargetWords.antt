@@ -43,7 +43,8 @@ module _ (ws : List ℕ) (a k : ℕ) where
   shift j = ap (λ (m : ℕ). get_or ws m 0) (add_assoc a k j) ∙ sym (get_or-drop a ws (k + j) 0)
 
   as_read : target_of (get_or ws (a + k) 0) (get_or ws (a + k + 1) 0) (get_or ws (a + k + 2) 0)
-      (get_or ws (a + k + 3) 0) (get_or ws (a + k + 4) 0) (get_or ws (a + k + 5) 0) (get_or ws (a + k + 6) 0) ≡ target_in (drop a ws) k
+      (get_or ws (a + k + 3) 0) (get_or ws (a + k + 4) 0) (get_or ws (a + k + 5) 0) (get_or ws (a + k + 6) 0)
+      ≡ target_in (drop a ws) k
   as_read =
       λ i.
       target_of (sym (get_or-drop a ws k 0) i) (shift 1 i) (shift 2 i) (shift 3 i) (shift 4 i) (shift 5 i)
