@@ -10,16 +10,24 @@ use Rattle.repair.proofs.along.mark_roads.Reads as reads
 use Rattle.repair.proofs.along.mark_roads.Goals as goal
 
 abbrev Start : Type 0
-Start = lts.Start tie.the-claims reads.Pre reads.Post goal.the-invariant-loop-r goal.the-decreases-loop-r
+Start =
+    lts.Start tie.the-claims reads.Pre reads.Post
+    goal.the-invariant-loop-r goal.the-decreases-loop-r tie.handed_clauses
 
 abbrev In-loop-r : Type 0
-In-loop-r = lts.In-loop tie.the-claims reads.Pre reads.Post goal.the-invariant-loop-r goal.the-decreases-loop-r
+In-loop-r =
+    lts.In-loop tie.the-claims reads.Pre reads.Post
+    goal.the-invariant-loop-r goal.the-decreases-loop-r tie.handed_clauses
 
 abbrev After-mark_road : Type 0
-After-mark_road = lts.After-mark_road tie.the-claims reads.Pre reads.Post goal.the-invariant-loop-r goal.the-decreases-loop-r
+After-mark_road =
+    lts.After-mark_road tie.the-claims reads.Pre reads.Post
+    goal.the-invariant-loop-r goal.the-decreases-loop-r tie.handed_clauses
 
 abbrev At-loop-r : Type 0
-At-loop-r = lts.At-loop tie.the-claims reads.Pre reads.Post goal.the-invariant-loop-r goal.the-decreases-loop-r
+At-loop-r =
+    lts.At-loop tie.the-claims reads.Pre reads.Post
+    goal.the-invariant-loop-r goal.the-decreases-loop-r tie.handed_clauses
 
 module _ (turn : In-loop-r) where
   abbrev head : At-loop-r
@@ -33,16 +41,17 @@ module _ (turn : In-loop-r) where
 
 pub loop-r-init : goal.loop-r-init
 loop-r-init c = record {
-      turns = omega arith;
-      long = c.requires.1;
-      marked = record { at = λ k lt b. absurd (not-suc-le-zero lt) };
-    }
+  turns = omega arith;
+  long = c.requires.1;
+  marked = record { at = λ k lt b. absurd (not-suc-le-zero lt) };
+}
 
 pub overflow_cast-id : goal.overflow_cast-id
 overflow_cast-id c = let turn : In-loop-r = search in omega (arith, row_few turn)
 
 pub mark_road-requires : goal.mark_road-requires
-mark_road-requires c = let turn : In-loop-r = search in (row_few turn, (head turn).loop-r.invariant.long, (start turn).requires.2)
+mark_road-requires c = let turn : In-loop-r = search in
+    record { road_bound = (row_few turn, (head turn).loop-r.invariant.long, (start turn).requires.2) }
 
 pub overflow_add-r : goal.overflow_add-r
 overflow_add-r c = let turn : In-loop-r = search in omega (arith, row_few turn)

@@ -8,9 +8,9 @@ use Rattle.repair.proofs.along.mark_roads.Given as goal
 
 -- before turn r the first r roads' ends are marked
 pub record Held (text roads junctions ends : List ℕ) (r : ℕ) : Type 0 where
-  turns : r ≤ length roads / 20
-  long : length ends ≡ 32768
-  marked : Marked text roads junctions r ends
+  pub turns : r ≤ length roads / 20
+  pub long : length ends ≡ 32768
+  pub marked : Marked text roads junctions r ends
 
 abbrev pub invariant-loop-r : goal.invariant-loop-r
 invariant-loop-r l = Held l.text l.roads l.junctions l.ends l.r

@@ -34,13 +34,12 @@ module _ (repaired : After-junctions-q) where
 
 pub link_names-requires : goal.link_names-requires
 link_names-requires c = record {
-      w_bound = (omega arith, omega arith, rows_in _ 7, omega (arith, c.requires.mend_due.small.few));
-      empty = fresh;
-    }
+  w_bound = (omega arith, omega arith, rows_in _ 7, omega (arith, c.requires.mend_due.small.few));
+  empty = fresh;
+}
 
 pub junctions-q-requires : goal.junctions-q-requires
 junctions-q-requires c = let pre = c.requires.mend_due in
-    let kept = (c.link_names.auto.heads, c.link_names.auto.next) in
     record {
       ruled = record {
         small = pre.small;
@@ -48,8 +47,8 @@ junctions-q-requires c = let pre = c.requires.mend_due in
         known = pre.known;
         chain = record {
           few = pre.small.few;
-          heads_long = kept.0 ∙ length-replicate {A = ℕ} 16384 0;
-          next_long = kept.1.0 ∙ length-replicate {A = ℕ} 16384 0;
+          heads_long = c.link_names.auto.heads ∙ length-replicate {A = ℕ} 16384 0;
+          next_long = c.link_names.auto.next ∙ length-replicate {A = ℕ} 16384 0;
           chained = c.link_names.ensures.chained;
         };
       };
@@ -69,18 +68,20 @@ junctions-q-requires c = let pre = c.requires.mend_due in
 pub write-requires : goal.write-requires
 write-requires c = let repaired : After-junctions-q = search in
     let pre = (start (linked repaired)).requires.mend_due in
-    let kept = (repaired.junctions-q.auto.warn, repaired.junctions-q.auto.js, repaired.junctions-q.auto.cs, repaired.junctions-q.auto.ps) in
+    let kept = repaired.junctions-q.auto in
     record {
-      roads_few = pre.known.few;
-      junctions_few = pre.joined.few;
-      within = repaired.junctions-q.ensures.within;
-      arrays = record {
-        junctions_long = kept.1.0 ∙ length-replicate {A = ℕ} 81920 0;
-        long = record {
-          connections_long = kept.1.1.0 ∙ length-replicate {A = ℕ} 114688 0;
-          pairs_long = kept.1.1.1.0 ∙ length-replicate {A = ℕ} 32768 0;
+      write_due = record {
+        roads_few = pre.known.few;
+        junctions_few = pre.joined.few;
+        within = repaired.junctions-q.ensures.within;
+        arrays = record {
+          junctions_long = kept.js ∙ length-replicate {A = ℕ} 81920 0;
+          long = record {
+            connections_long = kept.cs ∙ length-replicate {A = ℕ} 114688 0;
+            pairs_long = kept.ps ∙ length-replicate {A = ℕ} 32768 0;
+          };
+          warnings_long = kept.warn ∙ length-replicate {A = ℕ} 32768 0;
         };
-        warnings_long = kept.0 ∙ length-replicate {A = ℕ} 32768 0;
       };
     }
 
@@ -89,12 +90,13 @@ returns c = let repaired : After-junctions-q = search in
     let start = start (linked repaired) in
     let args = start.args in
     let lent =
-    outputs args.roads-out.now args.junctions-out.now args.connections-out.now
-    args.pairs-out.now args.warnings-out.now in
+    outputs args.roads_out.now args.junctions_out.now args.connections_out.now
+    args.pairs_out.now args.warnings_out.now in
     λ sections begun.
     let tables =
     map_tables args.text.now args.roads.now sections args.junctions.now args.connections.now
     args.pairs.now in
     let content_is =
-    content_is tables start.requires.mend_due.joined start.requires.mend_due.worded begun (repaired.junctions-q.ensures.by_index sections) in
+    content_is tables start.requires.mend_due.joined start.requires.mend_due.worded begun
+    (repaired.junctions-q.ensures.by_index sections) in
     c.write.ensures ∙ ap (λ (content : RepairOutputs). written_or9 repair_writing content lent) content_is

@@ -7,7 +7,6 @@ use Rattle.tables.proofs.Order.{is_none}
 use Rattle.tables.specs.Verdicts.{admits, refusal_of}
 use Rattle.model.specs.Calls.{RepairOutputs, repair_call, repair_content, repair_rules, repair_writing}
 use Rattle.model.specs.Tables.{Tables, map_tables}
-use borrow.Author.Tests.{not-true, not-false}
 use lib.ListN.{length-replicate}
 use Prim.Native.Nat.{ℕ}
 use mathlib.Core.Bool.{true}
@@ -44,8 +43,8 @@ module _ (judged : After-repair_verdict-v) where
   abbrev lent : RepairOutputs
   lent =
       let args = start.args in
-      outputs args.roads-out.now args.junctions-out.now args.connections-out.now
-      args.pairs-out.now args.warnings-out.now
+      outputs args.roads_out.now args.junctions_out.now args.connections_out.now
+      args.pairs_out.now args.warnings_out.now
 
 -- ---- admitted
 module _ (past : Else-not-admitted) where
@@ -53,7 +52,7 @@ module _ (past : Else-not-admitted) where
   judged = search
 
   free : admits judged.repair_verdict-v.result ≡ true
-  free = let asked : After-admitted = search in sym asked.admitted.ensures ∙ not-false _ past.if-not-admitted.false-raw
+  free = let asked : After-admitted = search in sym asked.admitted.ensures ∙ past.if-not-admitted.false
 
   no_refusal : refusal_of judged.repair_verdict-v.result ≡ none
   no_refusal = is_none _ free
@@ -62,35 +61,39 @@ module _ (past : Else-not-admitted) where
   ready_for = ready _ (sym no_refusal ∙ judged.repair_verdict-v.ensures.result_value)
 
 pub repair_verdict-v-requires : goal.repair_verdict-v-requires
-repair_verdict-v-requires c = fresh
+repair_verdict-v-requires c = record { empty = fresh }
 
 pub returns-then-not-admitted : goal.returns-then-not-admitted
 unfolding repair_call
 returns-then-not-admitted c = let judged : After-repair_verdict-v = search in
-    let barred = sym c.admitted.ensures ∙ not-true _ c.if-not-admitted.true-raw in
+    let barred = sym c.admitted.ensures ∙ c.if-not-admitted.true in
     call_refused repair_writing (repair_rules (tables judged)) (repair_content (tables judged)) (lent judged)
     judged.repair_verdict-v.result barred judged.repair_verdict-v.ensures.result_value
 
 pub without_along-requires : goal.without_along-requires
 without_along-requires c = let past : Else-not-admitted = search in
-    ((ready_for past).few_roads, (ready_for past).joined.few, length-replicate {A = ℕ} 32768 0)
+    record {
+      roads_len_bound = ((ready_for past).few_roads, (ready_for past).joined.few, length-replicate {A = ℕ} 32768 0);
+    }
 
 pub mend-requires : goal.mend-requires
 mend-requires c = let past : Else-not-admitted = search in
     let known = ready_for past in
-    let kept = (judged past).repair_verdict-v.auto.1.1.1.1.1.1 in
+    let kept = (judged past).repair_verdict-v.auto in
     record {
-      small = known.small;
-      joined = known.joined;
-      known = record {
-        few = known.few_roads;
-        heads_long = kept.0 ∙ length-replicate {A = ℕ} 16384 0;
-        next_long = kept.1.0 ∙ length-replicate {A = ℕ} 16384 0;
-        chained = (judged past).repair_verdict-v.ensures.chained (no_refusal past);
-        once = known.once;
+      mend_due = record {
+        small = known.small;
+        joined = known.joined;
+        known = record {
+          few = known.few_roads;
+          heads_long = kept.heads ∙ length-replicate {A = ℕ} 16384 0;
+          next_long = kept.next ∙ length-replicate {A = ℕ} 16384 0;
+          chained = (judged past).repair_verdict-v.ensures.chained (no_refusal past);
+          once = known.once;
+        };
+        worded = known.worded;
+        ends_long = c.without_along.auto.ends ∙ length-replicate {A = ℕ} 32768 0;
       };
-      worded = known.worded;
-      ends_long = c.without_along.auto.ends ∙ length-replicate {A = ℕ} 32768 0;
     }
 
 pub returns : goal.returns

@@ -4,7 +4,6 @@ use Rattle.repair.proofs.RoadWords.{roads_width}
 use Rattle.repair.specs.Answers.{content_now, outputs}
 use Rattle.tables.proofs.Called.{all_written, too_short}
 use Rattle.model.specs.Calls.{RepairOutputs, repair_writing}
-use borrow.Author.Tests.{not-true, not-false}
 use lib.Seq.{length-take-le}
 use lib.ListN.{length}
 use Prim.Native.Nat.{ℕ, ◌*◌, ◌/◌, ◌≤◌}
@@ -44,8 +43,8 @@ module _ (tried : After-fit) where
   abbrev lent : RepairOutputs
   lent =
       let args = start.args in
-      outputs args.roads-out.now args.junctions-out.now args.connections-out.now
-      args.pairs-out.now args.warnings-out.now
+      outputs args.roads_out.now args.junctions_out.now args.connections_out.now
+      args.pairs_out.now args.warnings_out.now
 
   whole : InRows content road_count junction_count start.args.n start.args.p start.args.w
   whole =
@@ -53,7 +52,8 @@ module _ (tried : After-fit) where
       let arrays = start.requires.write_due.arrays in
       record {
         road_words_lem = roads_width _ _ _ _;
-        words_of_junctions = length-take-le _ _ (omega (arith, start.requires.write_due.junctions_few, arrays.junctions_long));
+        words_of_junctions =
+            length-take-le _ _ (omega (arith, start.requires.write_due.junctions_few, arrays.junctions_long));
         connection_words_lem = length-take-le _ _ (omega (arith, few.connections_few, arrays.long.connections_long));
         words_of_pairs = length-take-le _ _ (omega (arith, few.pairs_few, arrays.long.pairs_long));
         warning_words = length-take-le _ _ (omega (arith, few.warnings_few, arrays.warnings_long));
@@ -67,16 +67,16 @@ module _ (past : Else-not-fit) where
   abbrev given : Start
   given = start tried
 
-  fitting : (road_count tried * 20 ≤ length given.args.roads-out.now)
-      × (junction_count tried * 5 ≤ length given.args.junctions-out.now)
-      × (given.args.n * 7 ≤ length given.args.connections-out.now)
-      × (given.args.p * 2 ≤ length given.args.pairs-out.now)
-      × (given.args.w * 4 ≤ length given.args.warnings-out.now)
-  fitting = fits_five _ _ _ _ _ _ _ _ _ _ (sym tried.fit.ensures ∙ not-false _ past.if-not-fit.false-raw)
+  fitting : (road_count tried * 20 ≤ length given.args.roads_out.now)
+      × (junction_count tried * 5 ≤ length given.args.junctions_out.now)
+      × (given.args.n * 7 ≤ length given.args.connections_out.now)
+      × (given.args.p * 2 ≤ length given.args.pairs_out.now)
+      × (given.args.w * 4 ≤ length given.args.warnings_out.now)
+  fitting = fits_five _ _ _ _ _ _ _ _ _ _ (sym tried.fit.ensures ∙ past.if-not-fit.false)
 
 pub returns-then-not-fit : goal.returns-then-not-fit
 returns-then-not-fit c = let tried : After-fit = search in
-    let short = sym tried.fit.ensures ∙ not-true _ c.if-not-fit.true-raw in
+    let short = sym tried.fit.ensures ∙ c.if-not-fit.true in
     too_short repair_writing (content tried) (lent tried) (room_is _ _ _ _ _ _ (whole tried) (lent tried) short)
 
 pub put_roads-requires : goal.put_roads-requires
@@ -117,7 +117,7 @@ copy_part-requires-4 c = let past : Else-not-fit = search in
 
 pub returns : goal.returns
 returns c = let tried : After-fit = search in
-    let fit = sym tried.fit.ensures ∙ not-false _ c.if-not-fit.false-raw in
+    let fit = sym tried.fit.ensures ∙ c.if-not-fit.false in
     all_written repair_writing (content tried) (lent tried)
     (room_is _ _ _ _ _ _ (whole tried) (lent tried) fit)
     (rows_are _ _ _ _ _ _ (whole tried))

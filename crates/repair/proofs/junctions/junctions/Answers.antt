@@ -10,10 +10,14 @@ use Rattle.repair.proofs.junctions.junctions.Reads as reads
 use Rattle.repair.proofs.junctions.junctions.Goals as goal
 
 abbrev Start : Type 0
-Start = lts.Start tie.the-claims reads.Pre reads.Post goal.the-invariant-loop-k goal.the-decreases-loop-k tie.handed_clauses
+Start =
+    lts.Start tie.the-claims reads.Pre reads.Post
+    goal.the-invariant-loop-k goal.the-decreases-loop-k tie.handed_clauses
 
 abbrev At-loop-k : Type 0
-At-loop-k = lts.At-loop tie.the-claims reads.Pre reads.Post goal.the-invariant-loop-k goal.the-decreases-loop-k tie.handed_clauses
+At-loop-k =
+    lts.At-loop tie.the-claims reads.Pre reads.Post
+    goal.the-invariant-loop-k goal.the-decreases-loop-k tie.handed_clauses
 
 module _ (head : At-loop-k) where
   abbrev start : Start
@@ -21,13 +25,13 @@ module _ (head : At-loop-k) where
 
 pub loop-k-init : goal.loop-k-init
 loop-k-init c = record {
-      turns = omega arith;
-      twice = record { rows = omega arith; pair_rows = omega arith };
-      warnings = omega arith;
-      ends_long = c.requires.ends_len.0;
-      arrays = c.requires.ends_len.1;
-      over = λ ss. over_none _ _ _ _ _ _;
-    }
+  turns = omega arith;
+  twice = record { rows = omega arith; pair_rows = omega arith };
+  warnings = omega arith;
+  ends_long = c.requires.ends_len.0;
+  arrays = c.requires.ends_len.1;
+  over = λ ss. over_none _ _ _ _ _ _;
+}
 
 pub repair_junction-q-requires : goal.repair_junction-q-requires
 repair_junction-q-requires c = let head : At-loop-k = search in
@@ -52,23 +56,22 @@ loop-k-smaller c = omega (arith, c.loop-k-test.true)
 
 pub loop-k-preserved : goal.loop-k-preserved
 loop-k-preserved c = let held = c.loop-k.invariant in
-    let step = (c.repair_junction-q.ensures.twice, c.repair_junction-q.ensures.warnings_bound, c.repair_junction-q.ensures.by_index) in
-    let kept = (c.repair_junction-q.auto.ends, c.repair_junction-q.auto.warn, c.repair_junction-q.auto.js, c.repair_junction-q.auto.cs, c.repair_junction-q.auto.ps) in
-    let laid = kept.1.1.1.1.1.1 in
+    let step = c.repair_junction-q.ensures in
+    let kept = c.repair_junction-q.auto in
     record {
       turns = omega (arith, c.loop-k-test.true);
-      twice = step.0;
-      warnings = step.1.0;
-      ends_long = kept.0 ∙ held.ends_long;
+      twice = step.twice;
+      warnings = step.warnings_bound;
+      ends_long = kept.ends ∙ held.ends_long;
       arrays = record {
-        junctions_long = laid.0 ∙ held.arrays.junctions_long;
+        junctions_long = kept.js ∙ held.arrays.junctions_long;
         long = record {
-          connections_long = laid.1.0 ∙ held.arrays.long.connections_long;
-          pairs_long = laid.1.1.0 ∙ held.arrays.long.pairs_long;
+          connections_long = kept.cs ∙ held.arrays.long.connections_long;
+          pairs_long = kept.ps ∙ held.arrays.long.pairs_long;
         };
-        warnings_long = kept.1.0 ∙ held.arrays.warnings_long;
+        warnings_long = kept.warn ∙ held.arrays.warnings_long;
       };
-      over = λ ss. over_more _ _ _ _ _ (held.over ss) (step.1.1 ss);
+      over = λ ss. over_more _ _ _ _ _ (held.over ss) (step.by_index ss);
     }
 
 pub shape_of-ends : goal.shape_of-ends

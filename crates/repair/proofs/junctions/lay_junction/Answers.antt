@@ -63,7 +63,7 @@ pub put_own-y-requires : goal.put_own-y-requires
 put_own-y-requires c = let counted : After-index_at-m = search in
     let ruled = (given counted).requires.ruled in
     let twice = (given counted).requires.lay_due.twice in
-    (ruled.small, room_own ruled.small (part counted) twice, (given counted).requires.lay_due.long)
+    record { small = (ruled.small, room_own ruled.small (part counted) twice, (given counted).requires.lay_due.long) }
 
 pub overflow_add-n : goal.overflow_add-n
 overflow_add-n c = let counted : After-index_at-m = search in
@@ -73,27 +73,28 @@ overflow_add-n c = let counted : After-index_at-m = search in
 pub reversed-requires : goal.reversed-requires
 reversed-requires c = let counted : After-index_at-m = search in
     let pre = (given counted).requires in
-    let ruled = pre.0 in
-    let kept = (c.put_own-y.auto.cs, c.put_own-y.auto.ps) in
+    let ruled = pre.ruled in
     let long : Long _ _ = record {
-      connections_long = kept.0 ∙ pre.1.long.connections_long;
-      pairs_long = kept.1.0 ∙ pre.1.long.pairs_long;
+      connections_long = c.put_own-y.auto.cs ∙ pre.lay_due.long.connections_long;
+      pairs_long = c.put_own-y.auto.ps ∙ pre.lay_due.long.pairs_long;
     } in
     record {
-      junction_few = omega (arith, pre.1.inside, ruled.joined.few);
-      small = ruled.small;
-      known = ruled.known;
-      chain = ruled.chain;
-      room = room_back ruled.small (part counted) pre.1.twice _ _ c.only-d.ensures.1
-          c.put_own-y.ensures.first_value;
-      long = long;
+      back_due = record {
+        junction_few = omega (arith, pre.lay_due.inside, ruled.joined.few);
+        small = ruled.small;
+        known = ruled.known;
+        chain = ruled.chain;
+        room = room_back ruled.small (part counted) pre.lay_due.twice _ _ c.only-d.ensures.1
+            c.put_own-y.ensures.first_value;
+        long = long;
+      };
     }
 
 pub returns : goal.returns
 returns c = let counted : After-index_at-m = search in
     let pre = (given counted).requires in
     record {
-      twice = twice_more pre.0.small (part counted) pre.1.twice _ _ c.only-d.ensures.1
+      twice = twice_more pre.ruled.small (part counted) pre.lay_due.twice _ _ c.only-d.ensures.1
           c.put_own-y.ensures.first_value c.reversed.ensures.connections_bound c.reversed.ensures.first_bound;
       by_index = λ ss.
           laid_same (junction_connections (tables counted ss) _ (read counted) c.only-d.ensures.0)

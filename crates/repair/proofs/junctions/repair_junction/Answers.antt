@@ -66,8 +66,8 @@ pub lay_junction-x-requires : goal.lay_junction-x-requires
 lay_junction-x-requires c = let counted : After-index_at-m = search in
     let pre = (given counted).requires in
     record {
-      ruled = pre.0;
-      lay_due = record { inside = pre.1.inside; twice = pre.1.twice; long = pre.1.arrays.long };
+      ruled = pre.ruled;
+      lay_due = record { inside = pre.step_due.inside; twice = pre.step_due.twice; long = pre.step_due.arrays.long };
     }
 
 pub overflow_sub-y : goal.overflow_sub-y
@@ -77,12 +77,12 @@ pub put_junction-requires : goal.put_junction-requires
 put_junction-requires c = let counted : After-index_at-m = search in
     let pre = (given counted).requires in
     let part = part counted in
-    let few = pre.0.small.few in
+    let few = pre.ruled.small.few in
     let twice = c.lay_junction-x.ensures.twice in (
-      omega (arith, pre.1.inside, pre.0.joined.few),
-      omega (arith, pre.1.twice.rows, part.begins, part.inside, few),
+      omega (arith, pre.step_due.inside, pre.ruled.joined.few),
+      omega (arith, pre.step_due.twice.rows, part.begins, part.inside, few),
       omega (arith, twice.rows, part.finish, part.inside, few),
-      pre.1.arrays.junctions_long,
+      pre.step_due.arrays.junctions_long,
     )
 
 pub missing_links-z-requires : goal.missing_links-z-requires
@@ -90,12 +90,14 @@ missing_links-z-requires c = let counted : After-index_at-m = search in
     let pre = (given counted).requires in
     let part = part counted in
     record {
-      junction_few = omega (arith, pre.1.inside, pre.0.joined.few);
-      connections_few = omega (arith, part.inside, pre.0.small.few, c.only-d.ensures.1);
-      warnings_few = omega (arith, part.begins, pre.1.warnings);
-      ends_long = pre.1.ends_long;
-      warnings_long = pre.1.arrays.warnings_long;
-      known = pre.0.known;
+      links_due = record {
+        junction_few = omega (arith, pre.step_due.inside, pre.ruled.joined.few);
+        connections_few = omega (arith, part.inside, pre.ruled.small.few, c.only-d.ensures.1);
+        warnings_few = omega (arith, part.begins, pre.step_due.warnings);
+        ends_long = pre.step_due.ends_long;
+        warnings_long = pre.step_due.arrays.warnings_long;
+        known = pre.ruled.known;
+      };
     }
 
 pub returns : goal.returns
@@ -108,54 +110,27 @@ returns c = let laid : After-lay_junction-x = search in
     let only = c.only-d.ensures.0 in
     record {
       twice = laid.lay_junction-x.ensures.twice;
-      warnings_bound = ((
-        omega (
-          arith,
-          c.missing_links-z.ensures.upper_bound,
-          c.only-d.ensures.1,
-          part.begins,
-          part.finish,
-          pre.1.warnings,
-        ),
-        λ ss.
-            let t = tables counted ss in
-            let step = c.missing_links-z.ensures.by_index ss args.pairs.now in
-            let own = laid.lay_junction-x.ensures.by_index ss in
-            record {
-              roads = step.roads ∙ junction_roads t _ read only;
-              row = c.put_junction.ensures
-                  ∙ ap (λ (l : List ℕ). take (args.k * 5) args.js.now ++ l)
-                  (junction_row_lem t _ args.k args.n (pre.0.joined.kinds args.k pre.1.inside)
-                  (omega (arith, own.rows)));
-              laid = own;
-              warned = step.warned
-                  ∙ ap (λ (l : List Warning). take (args.w * 4) args.warn.now ++ gather (warning_row t) l)
-                  (junction_warned t _ read only);
-            },
-      )).0;
-      by_index = ((
-        omega (
-          arith,
-          c.missing_links-z.ensures.upper_bound,
-          c.only-d.ensures.1,
-          part.begins,
-          part.finish,
-          pre.1.warnings,
-        ),
-        λ ss.
-            let t = tables counted ss in
-            let step = c.missing_links-z.ensures.by_index ss args.pairs.now in
-            let own = laid.lay_junction-x.ensures.by_index ss in
-            record {
-              roads = step.roads ∙ junction_roads t _ read only;
-              row = c.put_junction.ensures
-                  ∙ ap (λ (l : List ℕ). take (args.k * 5) args.js.now ++ l)
-                  (junction_row_lem t _ args.k args.n (pre.0.joined.kinds args.k pre.1.inside)
-                  (omega (arith, own.rows)));
-              laid = own;
-              warned = step.warned
-                  ∙ ap (λ (l : List Warning). take (args.w * 4) args.warn.now ++ gather (warning_row t) l)
-                  (junction_warned t _ read only);
-            },
-      )).1;
+      warnings_bound = omega (
+        arith,
+        c.missing_links-z.ensures.upper_bound,
+        c.only-d.ensures.1,
+        part.begins,
+        part.finish,
+        pre.step_due.warnings,
+      );
+      by_index = λ ss.
+          let t = tables counted ss in
+          let step = c.missing_links-z.ensures.by_index ss args.pairs.now in
+          let own = laid.lay_junction-x.ensures.by_index ss in
+          record {
+            roads = step.roads ∙ junction_roads t _ read only;
+            row = c.put_junction.ensures
+                ∙ ap (λ (l : List ℕ). take (args.k * 5) args.js.now ++ l)
+                (junction_row_lem t _ args.k args.n (pre.ruled.joined.kinds args.k pre.step_due.inside)
+                (omega (arith, own.rows)));
+            laid = own;
+            warned = step.warned
+                ∙ ap (λ (l : List Warning). take (args.w * 4) args.warn.now ++ gather (warning_row t) l)
+                (junction_warned t _ read only);
+          };
     }

@@ -18,6 +18,6 @@ returns-then-b-eq0 c = let args = c.args in
 
 pub returns : goal.returns
 returns c = record {
-      connections_bound = (omega arith, omega (arith, c.put_connection-q.ensures.value));
-      laid = laid_same (back_list_lem _ _ c.if-b-eq0.false) c.put_connection-q.ensures.laid;
-    }
+  connections_bound = (omega arith, omega (arith, c.put_connection-q.ensures.value));
+  laid = laid_same (back_list_lem _ _ c.if-b-eq0.false) c.put_connection-q.ensures.laid;
+}

@@ -11,16 +11,24 @@ use Rattle.repair.proofs.laying.put_own.Reads as reads
 use Rattle.repair.proofs.laying.put_own.Goals as goal
 
 abbrev Start : Type 0
-Start = lts.Start tie.the-claims reads.Pre reads.Post goal.the-invariant-loop-i goal.the-decreases-loop-i tie.handed_clauses
+Start =
+    lts.Start tie.the-claims reads.Pre reads.Post
+    goal.the-invariant-loop-i goal.the-decreases-loop-i tie.handed_clauses
 
 abbrev In-loop-i : Type 0
-In-loop-i = lts.In-loop tie.the-claims reads.Pre reads.Post goal.the-invariant-loop-i goal.the-decreases-loop-i tie.handed_clauses
+In-loop-i =
+    lts.In-loop tie.the-claims reads.Pre reads.Post
+    goal.the-invariant-loop-i goal.the-decreases-loop-i tie.handed_clauses
 
 abbrev After-put_connection-at : Type 0
-After-put_connection-at = lts.After-put_connection tie.the-claims reads.Pre reads.Post goal.the-invariant-loop-i goal.the-decreases-loop-i tie.handed_clauses
+After-put_connection-at =
+    lts.After-put_connection tie.the-claims reads.Pre reads.Post
+    goal.the-invariant-loop-i goal.the-decreases-loop-i tie.handed_clauses
 
 abbrev At-loop-i : Type 0
-At-loop-i = lts.At-loop tie.the-claims reads.Pre reads.Post goal.the-invariant-loop-i goal.the-decreases-loop-i tie.handed_clauses
+At-loop-i =
+    lts.At-loop tie.the-claims reads.Pre reads.Post
+    goal.the-invariant-loop-i goal.the-decreases-loop-i tie.handed_clauses
 
 -- ---- a turn's connection has room
 module _ (turn : In-loop-i) where
@@ -33,8 +41,8 @@ module _ (turn : In-loop-i) where
   room : RoomFor start.args.connections.now (start.args.first + head.loop-i.i) 0
       (start.args.n + head.loop-i.i) head.loop-i.at
   room =
-      room_at start.requires.small.1 _ _ _ 0 turn.loop-i-test.true (omega arith) (omega (arith, head.loop-i.invariant.counted))
-      (omega arith)
+      room_at start.requires.small.1 _ _ _ 0 turn.loop-i-test.true (omega arith)
+      (omega (arith, head.loop-i.invariant.counted)) (omega arith)
 
 pub loop-i-init : goal.loop-i-init
 unfolding tab
@@ -55,7 +63,8 @@ pub overflow_add-n : goal.overflow_add-n
 overflow_add-n c = let turn : In-loop-i = search in omega (arith, (room turn).rows)
 
 pub put_connection-at-requires : goal.put_connection-at-requires
-put_connection-at-requires c = let turn : In-loop-i = search in ((start turn).requires.small.0, room turn, (head turn).loop-i.invariant.long)
+put_connection-at-requires c = let turn : In-loop-i = search in
+    record { small = ((start turn).requires.small.0, room turn, (head turn).loop-i.invariant.long) }
 
 pub overflow_add-i : goal.overflow_add-i
 overflow_add-i c = let turn : In-loop-i = search in omega (arith, (room turn).rows)
@@ -68,15 +77,15 @@ loop-i-preserved c = let laid : After-put_connection-at = search in
     let args = c.args in
     let held = c.loop-i.invariant in
     let i = c.loop-i.i in
-    let kept = (laid.put_connection-at.auto.cs, laid.put_connection-at.auto.ps) in
+    let kept = laid.put_connection-at.auto in
     let next = pairs_next args.connections.now args.first i in
     let row_on : args.n + i + 1 ≡ args.n + (i + 1) = omega arith in
     record {
       turns = omega (arith, c.loop-i-test.true);
       counted = omega (arith, next, laid.put_connection-at.ensures.value, held.counted);
       long = record {
-        connections_long = kept.0 ∙ held.long.connections_long;
-        pairs_long = kept.1.0 ∙ held.long.pairs_long;
+        connections_long = kept.cs ∙ held.long.connections_long;
+        pairs_long = kept.ps ∙ held.long.pairs_long;
       };
       laid = laid_rows row_on (laid_own _ i held.laid laid.put_connection-at.ensures.laid);
     }

@@ -9,10 +9,10 @@ use Rattle.repair.proofs.laying.put_own.Given as goal
 
 -- before turn i the first i connections are laid, and `at` counts the pairs
 pub record Held (connections pairs : List ℕ) (first m n p : ℕ) (cs₀ ps₀ cs ps : List ℕ) (at i : ℕ) : Type 0 where
-  turns : i ≤ m
-  counted : at + pairs_before connections first ≡ p + pairs_before connections (first + i)
-  long : Long cs ps
-  laid : Laid (tab i (λ j. connection_at pairs connections (first + j))) (pile n p cs₀ ps₀) (pile (n + i) at cs ps)
+  pub turns : i ≤ m
+  pub counted : at + pairs_before connections first ≡ p + pairs_before connections (first + i)
+  pub long : Long cs ps
+  pub laid : Laid (tab i (λ j. connection_at pairs connections (first + j))) (pile n p cs₀ ps₀) (pile (n + i) at cs ps)
 
 abbrev pub invariant-loop-i : goal.invariant-loop-i
 invariant-loop-i l = Held l.connections l.pairs l.first l.m l.n l.p l.initial.cs l.initial.ps l.cs l.ps l.at l.i

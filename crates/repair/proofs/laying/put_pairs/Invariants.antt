@@ -12,9 +12,9 @@ use Rattle.repair.proofs.laying.put_pairs.Given as goal
 
 -- before turn i the first i pairs are laid
 pub record Held (f : ℕ → Pair) (m p : ℕ) (ps₀ ps : List ℕ) (i : ℕ) : Type 0 where
-  turns : i ≤ m
-  long : length ps ≡ 32768
-  laid : take ((p + i) * 2) ps ≡ take (p * 2) ps₀ ++ gather pair_row (tab i f)
+  pub turns : i ≤ m
+  pub long : length ps ≡ 32768
+  pub laid : take ((p + i) * 2) ps ≡ take (p * 2) ps₀ ++ gather pair_row (tab i f)
 
 abbrev pub invariant-loop-i : goal.invariant-loop-i
 invariant-loop-i l = Held (λ j. turned_pair l.b (pair_at l.pairs (l.first + j))) l.m l.p l.initial.ps l.ps l.i

@@ -73,11 +73,11 @@ module _ (tested : After-both) where
 
 pub returns-then-both : goal.returns-then-both
 returns-then-both c = let tested : After-both = search in (
-      omega (arith, c.one.ensures.1),
-      ap (λ (k : ℕ). end_opt (1 + k)) c.one.ensures.0
-          ∙ end_one (get_or (start tested).args.words 4 0)
-          ∙ back_there _ _ (start tested).args.words (sym (test_is tested) ∙ c.if-both.true),
-    )
+  omega (arith, c.one.ensures.1),
+  ap (λ (k : ℕ). end_opt (1 + k)) c.one.ensures.0
+      ∙ end_one (get_or (start tested).args.words 4 0)
+      ∙ back_there _ _ (start tested).args.words (sym (test_is tested) ∙ c.if-both.true),
+)
 
 pub returns : goal.returns
 returns c = let tested : After-both = search in

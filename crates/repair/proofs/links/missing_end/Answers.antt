@@ -78,7 +78,9 @@ module _ (known : Else-g-eq0) where
   row = found.road_of-g.result - 1
 
   row_few : row < 16384
-  row_few = omega (arith, found.road_of-g.ensures.upper_bound, (start (met found)).requires.road_bound.3.few, known.if-g-eq0.false)
+  row_few =
+      let few = (start (met found)).requires.road_bound.3.few in
+      omega (arith, found.road_of-g.ensures.upper_bound, few, known.if-g-eq0.false)
 
 -- ---- its target at the connection's contact
 module _ (read : After-target-t) where

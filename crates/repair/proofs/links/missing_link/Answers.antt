@@ -58,7 +58,9 @@ module _ (known : Else-f-eq0) where
       up ∙ found.road_of-f.ensures.value
 
   row_few : row < 16384
-  row_few = omega (arith, found.road_of-f.ensures.upper_bound, (start found).requires.link_due.known.few, known.if-f-eq0.false)
+  row_few =
+      let few = (start found).requires.link_due.known.few in
+      omega (arith, found.road_of-f.ensures.upper_bound, few, known.if-f-eq0.false)
 
 -- ---- and `missing_end` says what the connection shows
 module _ (asked : After-missing_end-e) where
@@ -72,8 +74,8 @@ module _ (asked : After-missing_end-e) where
       (row_connection (tables (found known) ss ps) (start (found known)).args.c)
       ≡ end_opt asked.missing_end-e.result
   shown ss ps =
-      end_known (tables (found known) ss ps) _ (start (found known)).requires.link_due.known.once _ _ _ (row_found_lem known)
-      (asked.missing_end-e.ensures.by_index ss ps)
+      end_known (tables (found known) ss ps) _ (start (found known)).requires.link_due.known.once _ _ _
+      (row_found_lem known) (asked.missing_end-e.ensures.by_index ss ps)
 
 -- ---- there is such an end
 module _ (there : Else-e-eq0) where
@@ -115,7 +117,8 @@ overflow_cast-id c = let known : Else-f-eq0 = search in omega (arith, row_few kn
 
 pub missing_end-e-requires : goal.missing_end-e-requires
 missing_end-e-requires c = let known : Else-f-eq0 = search in
-    let due = (start (found known)).requires.link_due in (row_few known, due.junction_few, due.connection_few, due.known)
+    let due = (start (found known)).requires.link_due in
+    record { road_bound = (row_few known, due.junction_few, due.connection_few, due.known) }
 
 pub shape_of-ends-then-e-eq0 : goal.shape_of-ends-then-e-eq0
 shape_of-ends-then-e-eq0 c = omega arith

@@ -12,15 +12,17 @@ use Rattle.repair.proofs.links.missing_links.Given as goal
 -- before turn i the first i connections are gone through, and there are `at` warnings
 pub record Held (t : (ss ps : List ℕ) → Tables) (k first m w : ℕ) (ends₀ ends warn₀ warn : List ℕ) (at i : ℕ) : Type 0
   where
-    turns : i ≤ m
-    warnings : at ≤ w + i
-    ends_long : length ends ≡ 32768
-    warnings_long : length warn ≡ 32768
-    linked : (ss ps : List ℕ)
+    pub turns : i ≤ m
+    pub warnings : at ≤ w + i
+    pub ends_long : length ends ≡ 32768
+    pub warnings_long : length warn ≡ 32768
+    pub linked : (ss ps : List ℕ)
         → Linked (t ss ps) k (tab i (λ j. row_connection (t ss ps) (first + j))) ends₀ ends w at warn₀ warn
 
 abbrev pub invariant-loop-i : goal.invariant-loop-i
-invariant-loop-i l = Held (λ ss ps. map_tables l.text l.roads ss l.junctions l.connections ps) l.k l.first l.m l.w l.initial.ends l.ends l.initial.warn l.warn l.at l.i
+invariant-loop-i l =
+    Held (λ ss ps. map_tables l.text l.roads ss l.junctions l.connections ps) l.k l.first l.m l.w l.initial.ends l.ends
+    l.initial.warn l.warn l.at l.i
 
 abbrev pub decreases-loop-i : goal.decreases-loop-i
 decreases-loop-i l = l.m - l.i

@@ -53,5 +53,7 @@ returns-then-t-eq1 c = let read : After-target-t = search in
 
 pub returns : goal.returns
 returns c = let read : After-target-t = search in
-    let free = present read ∙ ne_eqb _ 1 c.if-t-eq1.false in
-    ((start read).requires.in_bounds.1, λ ss. ap end_opt (sym (some_end read)) ∙ vacant_is ss _ _ _ _ _ _ _ (some_end read) free)
+    let free = present read ∙ ne_eqb _ 1 c.if-t-eq1.false in (
+      (start read).requires.in_bounds.1,
+      λ ss. ap end_opt (sym (some_end read)) ∙ vacant_is ss _ _ _ _ _ _ _ (some_end read) free,
+    )

@@ -71,7 +71,9 @@ module _ (known : Else-f-eq0) where
   row = found.road_of-f.result - 1
 
   row_few : row < 16384
-  row_few = omega (arith, found.road_of-f.ensures.upper_bound, (start (ran found)).requires.contact_due.known.few, known.if-f-eq0.false)
+  row_few =
+      let few = (start (ran found)).requires.contact_due.known.few in
+      omega (arith, found.road_of-f.ensures.upper_bound, few, known.if-f-eq0.false)
 
 pub returns-then-runs_back : goal.returns-then-runs_back
 returns-then-runs_back c = let ran : After-runs_back = search in
@@ -95,7 +97,8 @@ pub overflow_cast-id : goal.overflow_cast-id
 overflow_cast-id c = let known : Else-f-eq0 = search in omega (arith, row_few known)
 
 pub meeting_end-requires : goal.meeting_end-requires
-meeting_end-requires c = let known : Else-f-eq0 = search in (row_few known, (start (ran (found known))).requires.contact_due.junction_few)
+meeting_end-requires c = let known : Else-f-eq0 = search in
+    record { in_bounds = (row_few known, (start (ran (found known))).requires.contact_due.junction_few) }
 
 pub returns : goal.returns
 returns c = let known : Else-f-eq0 = search in

@@ -17,16 +17,24 @@ use Rattle.repair.proofs.reversed.reversed.Reads as reads
 use Rattle.repair.proofs.reversed.reversed.Goals as goal
 
 abbrev Start : Type 0
-Start = lts.Start tie.the-claims reads.Pre reads.Post goal.the-invariant-loop-i goal.the-decreases-loop-i tie.handed_clauses
+Start =
+    lts.Start tie.the-claims reads.Pre reads.Post
+    goal.the-invariant-loop-i goal.the-decreases-loop-i tie.handed_clauses
 
 abbrev In-loop-i : Type 0
-In-loop-i = lts.In-loop tie.the-claims reads.Pre reads.Post goal.the-invariant-loop-i goal.the-decreases-loop-i tie.handed_clauses
+In-loop-i =
+    lts.In-loop tie.the-claims reads.Pre reads.Post
+    goal.the-invariant-loop-i goal.the-decreases-loop-i tie.handed_clauses
 
 abbrev At-loop-i : Type 0
-At-loop-i = lts.At-loop tie.the-claims reads.Pre reads.Post goal.the-invariant-loop-i goal.the-decreases-loop-i tie.handed_clauses
+At-loop-i =
+    lts.At-loop tie.the-claims reads.Pre reads.Post
+    goal.the-invariant-loop-i goal.the-decreases-loop-i tie.handed_clauses
 
 abbrev After-put_back-q : Type 0
-After-put_back-q = lts.After-put_back tie.the-claims reads.Pre reads.Post goal.the-invariant-loop-i goal.the-decreases-loop-i tie.handed_clauses
+After-put_back-q =
+    lts.After-put_back tie.the-claims reads.Pre reads.Post
+    goal.the-invariant-loop-i goal.the-decreases-loop-i tie.handed_clauses
 
 module _ (head : At-loop-i) where
   abbrev start : Start
@@ -73,11 +81,13 @@ pub back_contact-b-requires : goal.back_contact-b-requires
 back_contact-b-requires c = let turn : In-loop-i = search in
     let due = c.requires.back_due in
     record {
-      junction_few = due.junction_few;
-      connection_few = omega (arith, (room turn 0 (omega arith)).inside, due.small.few);
-      inside = due.room.inside;
-      known = due.known;
-      chain = due.chain;
+      contact_due = record {
+        junction_few = due.junction_few;
+        connection_few = omega (arith, (room turn 0 (omega arith)).inside, due.small.few);
+        inside = due.room.inside;
+        known = due.known;
+        chain = due.chain;
+      };
     }
 
 pub overflow_add-first-in-loop-i : goal.overflow_add-first-in-loop-i
@@ -88,7 +98,9 @@ overflow_add-first-in-loop-i c = let turn : In-loop-i = search in
 pub put_back-q-requires : goal.put_back-q-requires
 put_back-q-requires c = let turn : In-loop-i = search in
     let head : At-loop-i = search in
-    ((start head).requires.back_due.small, room turn _ c.back_contact-b.ensures.upper_bound, head.loop-i.invariant.long)
+    let small = (start head).requires.back_due.small in
+    let room = room turn _ c.back_contact-b.ensures.upper_bound in
+    record { small = (small, room, head.loop-i.invariant.long) }
 
 pub overflow_add-i : goal.overflow_add-i
 overflow_add-i c = let head : At-loop-i = search in
@@ -103,15 +115,15 @@ loop-i-preserved c = let laid : After-put_back-q = search in
     let args = (start head).args in
     let held = head.loop-i.invariant in
     let i = head.loop-i.i in
-    let kept = (laid.put_back-q.auto.cs, laid.put_back-q.auto.ps) in
+    let kept = laid.put_back-q.auto in
     let next = pairs_next args.connections.now args.first i in
     record {
       turns = omega (arith, c.loop-i-test.true);
       rows = omega (arith, laid.put_back-q.ensures.connections_bound.0, held.rows);
       pair_rows = omega (arith, laid.put_back-q.ensures.connections_bound.1, held.pair_rows, next);
       long = record {
-        connections_long = kept.0 ∙ held.long.connections_long;
-        pairs_long = kept.1.0 ∙ held.long.pairs_long;
+        connections_long = kept.cs ∙ held.long.connections_long;
+        pairs_long = kept.ps ∙ held.long.pairs_long;
       };
       laid = λ ss.
           laid_more (gives head ss) (λ j. row_connection (tables head ss) (args.first + j)) i (held.laid ss)
@@ -138,12 +150,6 @@ returns c = let head : At-loop-i = search in
     ap (λ (i : ℕ). gather (gives head ss) (tab i (λ j. row_connection (tables head ss) (args.first + j)))) past in
     record {
       connections_bound = omega (arith, held.rows, past);
-      first_bound = ((
-        rw past at held.pair_rows,
-        λ ss. laid_same (all ss ∙ reversed_is _ _ _ _) (held.laid ss),
-      )).0;
-      by_index = ((
-        rw past at held.pair_rows,
-        λ ss. laid_same (all ss ∙ reversed_is _ _ _ _) (held.laid ss),
-      )).1;
+      first_bound = rw past at held.pair_rows;
+      by_index = λ ss. laid_same (all ss ∙ reversed_is _ _ _ _) (held.laid ss);
     }

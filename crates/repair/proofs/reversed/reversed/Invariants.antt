@@ -12,11 +12,11 @@ use Rattle.repair.proofs.reversed.reversed.Given as goal
 -- before turn i there is laid what the first i connections give: x connections, y pairs
 pub record Held (connections : List ℕ) (given : (ss : List ℕ) → List Connection) (first m n p : ℕ)
     (cs₀ ps₀ cs ps : List ℕ) (x y i : ℕ) : Type 0 where
-  turns : i ≤ m
-  rows : x ≤ n + i
-  pair_rows : y + pairs_before connections first ≤ p + pairs_before connections (first + i)
-  long : Long cs ps
-  laid : (ss : List ℕ) → Laid (given ss) (pile n p cs₀ ps₀) (pile x y cs ps)
+  pub turns : i ≤ m
+  pub rows : x ≤ n + i
+  pub pair_rows : y + pairs_before connections first ≤ p + pairs_before connections (first + i)
+  pub long : Long cs ps
+  pub laid : (ss : List ℕ) → Laid (given ss) (pile n p cs₀ ps₀) (pile x y cs ps)
 
 abbrev pub invariant-loop-i : goal.invariant-loop-i
 invariant-loop-i l = Held l.connections

@@ -11,9 +11,9 @@ use Rattle.repair.proofs.roads.put_roads.Given as goal
 
 -- before turn r the first r roads are written
 pub record Held (words : ℕ → List ℕ) (n : ℕ) (out₀ out : List ℕ) (r : ℕ) : Type 0 where
-  turns : r ≤ n
-  long : length out ≡ length out₀
-  put : out ≡ written (gather words (tab r (λ r. r))) out₀
+  pub turns : r ≤ n
+  pub long : length out ≡ length out₀
+  pub put : out ≡ written (gather words (tab r (λ r. r))) out₀
 
 abbrev pub invariant-loop-r : goal.invariant-loop-r
 invariant-loop-r l = Held (road_now_words l.roads l.junctions l.ends) l.n l.initial.out l.out l.r

@@ -76,7 +76,8 @@ pub returns-then-names_junction : goal.returns-then-names_junction
 returns-then-names_junction c = let tested : After-names_junction = search in
     record {
       at_most = omega arith;
-      end = λ ss. meeting tested ss {b = names tested false} (sym (at_successor tested) ∙ c.if-names_junction.true) refl;
+      end = λ ss.
+          meeting tested ss {b = names tested false} (sym (at_successor tested) ∙ c.if-names_junction.true) refl;
     }
 
 pub returns-then-names_junction-2 : goal.returns-then-names_junction-2
