@@ -75,7 +75,8 @@ fn mark_road(
     ends: &mut [u32],
     road: RoadId,
 )
-    requires road_bound { (road.0 < 16384) × (length ends.old ≡ 32768) × Named text.now junctions.now heads.now next.now }
+    requires road_bound { (road.0 < 16384) × (length ends.old ≡ 32768)
+        × Named text.now junctions.now heads.now next.now }
     ensures { let word : Bool → ℕ = along_word text.now roads.now junctions.now road.0 in
         ends.new
         ≡ set (set ends.old (road.0 * 2 + 0) (word false)) (road.0 * 2 + 1) (word true) }
@@ -98,7 +99,8 @@ fn mark_roads(
     next: &[u32],
     ends: &mut [u32],
 )
-    requires { (length roads.now / 20 ≤ 16384) × (length ends.old ≡ 32768) × Named text.now junctions.now heads.now next.now }
+    requires { (length roads.now / 20 ≤ 16384) × (length ends.old ≡ 32768)
+        × Named text.now junctions.now heads.now next.now }
     ensures { Marked text.now roads.now junctions.now
         (length roads.now / 20) ends.new }
 {
@@ -112,8 +114,10 @@ fn mark_roads(
 
 // The roads before the first junction.
 pub fn without_along(text: &[u8], roads: &[u32], junctions: &[u32], ends: &mut [u32])
-    requires roads_len_bound { (length roads.now / 20 ≤ 16384) × (length junctions.now / 5 ≤ 16384) × (length ends.old ≡ 32768) }
-    ensures { let t : List ℕ → List ℕ → List ℕ → Tables = (λ sections connections pairs. map_tables text.now roads.now sections junctions.now connections pairs) in
+    requires roads_len_bound { (length roads.now / 20 ≤ 16384) × (length junctions.now / 5 ≤ 16384)
+        × (length ends.old ≡ 32768) }
+    ensures { let t : List ℕ → List ℕ → List ℕ → Tables =
+        (λ sections connections pairs. map_tables text.now roads.now sections junctions.now connections pairs) in
         (sections connections pairs : List ℕ) →
         roads_with (t sections connections pairs) ends.new ≡ roads_begun (t sections connections pairs) }
 {

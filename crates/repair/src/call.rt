@@ -80,7 +80,8 @@ fn write(
     warnings_out: &mut [u32],
 ) -> Repaired
     requires write_due { WriteDue roads.now junctions.now js.now cs.now ps.now warn.now n p w }
-    ensures { let content : RepairOutputs = content_now roads.now junctions.now ends.now js.now cs.now ps.now warn.now n p w in
+    ensures { let content : RepairOutputs =
+        content_now roads.now junctions.now ends.now js.now cs.now ps.now warn.now n p w in
         outcome (answer_of result)
         (outputs roads_out.new junctions_out.new
         connections_out.new pairs_out.new warnings_out.new)
@@ -136,7 +137,8 @@ fn mend(
     warnings_out: &mut [u32],
 ) -> Repaired
     requires mend_due { MendDue text.now roads.now junctions.now connections.now pairs.now heads.now next.now ends.old }
-    ensures { let t : List ℕ → Tables = (λ sections. map_tables text.now roads.now sections junctions.now connections.now pairs.now) in
+    ensures { let t : List ℕ → Tables =
+        (λ sections. map_tables text.now roads.now sections junctions.now connections.now pairs.now) in
         (sections : List ℕ) → Begun (t sections) ends.old → outcome (answer_of result)
         (outputs roads_out.new junctions_out.new
         connections_out.new pairs_out.new warnings_out.new)

@@ -196,7 +196,8 @@ pub fn junctions(
         cheads.now cnext.now }
     requires ends_len { (length ends.old ≡ 32768) × Arrays js.old cs.old ps.old warn.old }
     ensures within { Within result.connections result.pairs result.warnings }
-    ensures by_index { let t : List ℕ → Tables = (λ sections. map_tables text.now roads.now sections table.now connections.now pairs.now) in
+    ensures by_index { let t : List ℕ → Tables =
+        (λ sections. map_tables text.now roads.now sections table.now connections.now pairs.now) in
         (sections : List ℕ) → Over (t sections) (length table.now / 5)
         ends.old cs.old ps.old
         (state ends.new js.new (pile result.connections result.pairs cs.new ps.new)

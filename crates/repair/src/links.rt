@@ -61,7 +61,8 @@ fn missing_end(
 ) -> usize
     requires road_bound { (road.0 < 16384) × (k < 16384) × (c < 8192) × Known text.now roads.now heads.now next.now }
     ensures upper_bound { result ≤ 2 }
-    ensures by_index { let t : List ℕ → List ℕ → Tables = (λ sections pairs. map_tables text.now roads.now sections junctions.now connections.now pairs) in
+    ensures by_index { let t : List ℕ → List ℕ → Tables =
+        (λ sections pairs. map_tables text.now roads.now sections junctions.now connections.now pairs) in
         (sections pairs : List ℕ) → end_opt result ≡ shown_at (t sections pairs) ends.now k c road.0 }
 {
     let r = road.0;
@@ -79,7 +80,8 @@ fn missing_end(
     vacant_end(roads, junctions, ends, RoadId(r), e)
 }
 
-// Gives connection c's incoming road junction k where it is left out, with a warning. Returns how many warnings there are.
+// Gives connection c's incoming road junction k where it is left out, with a warning. Returns how many warnings there
+// are.
 fn missing_link(
     text: &[u8],
     roads: &[u32],
@@ -95,7 +97,8 @@ fn missing_link(
 ) -> usize
     requires link_due { LinkDue text.now roads.now heads.now next.now ends.old warn.old k c w }
     ensures upper_bound { result ≤ w + 1 }
-    ensures by_index { let t : List ℕ → List ℕ → Tables = (λ sections pairs. map_tables text.now roads.now sections junctions.now connections.now pairs) in
+    ensures by_index { let t : List ℕ → List ℕ → Tables =
+        (λ sections pairs. map_tables text.now roads.now sections junctions.now connections.now pairs) in
         (sections pairs : List ℕ) → Linked (t sections pairs) k (row_connection (t sections pairs) c ∷ [])
         ends.old ends.new w result warn.old warn.new }
 {
@@ -144,7 +147,8 @@ pub fn missing_links(
 ) -> usize
     requires links_due { LinksDue text.now roads.now heads.now next.now ends.old warn.old k first m w }
     ensures upper_bound { result ≤ w + m }
-    ensures by_index { let t : List ℕ → List ℕ → Tables = (λ sections pairs. map_tables text.now roads.now sections junctions.now connections.now pairs) in
+    ensures by_index { let t : List ℕ → List ℕ → Tables =
+        (λ sections pairs. map_tables text.now roads.now sections junctions.now connections.now pairs) in
         (sections pairs : List ℕ) → Linked (t sections pairs) k (run (row_connection (t sections pairs)) first m)
         ends.old ends.new w result warn.old warn.new }
 {

@@ -58,7 +58,8 @@ fn runs_back(
     false
 }
 
-// The contact plus 1 of connection c the other way, for direct junction k with m connections from first on; 0 where there is none.
+// The contact plus 1 of connection c the other way, for direct junction k with m connections from first on; 0 where
+// there is none.
 fn back_contact(
     text: &[u8],
     roads: &[u32],
@@ -74,9 +75,11 @@ fn back_contact(
     m: usize,
     c: usize,
 ) -> usize
-    requires contact_due { ContactDue text.now roads.now connections.now heads.now next.now cheads.now cnext.now k first m c }
+    requires contact_due { ContactDue text.now roads.now connections.now heads.now next.now cheads.now cnext.now
+        k first m c }
     ensures upper_bound { result ≤ 2 }
-    ensures by_index { let t : List ℕ → List ℕ → Tables = (λ sections pairs. map_tables text.now roads.now sections junctions.now connections.now pairs) in
+    ensures by_index { let t : List ℕ → List ℕ → Tables =
+        (λ sections pairs. map_tables text.now roads.now sections junctions.now connections.now pairs) in
         (sections pairs : List ℕ) → back_list result (row_connection (t sections pairs) c)
         ≡ back_from (t sections pairs) ends.now k first m (row_connection (t sections pairs) c) }
 {
@@ -114,7 +117,8 @@ pub fn reversed(
     requires back_due { BackDue text.now roads.now connections.now pairs.now heads.now next.now cheads.now cnext.now
         cs.old ps.old k first m n p }
     ensures connections_bound { result.connections ≤ n + m }
-    ensures first_bound { result.pairs + pairs_before connections.now first ≤ p + pairs_before connections.now (first + m) }
+    ensures first_bound { result.pairs + pairs_before connections.now first
+        ≤ p + pairs_before connections.now (first + m) }
     ensures by_index { let g : (List ℕ → Tables) × Pile = (
       (λ sections. map_tables text.now roads.now sections junctions.now connections.now pairs.now),
       pile n p cs.old ps.old,
