@@ -88,14 +88,8 @@ count_one-at-requires c = let turn : In-loop-i = search in
     let finders-long = ap length c.list_part-finders.ensures in
     record {
       by_id = start.requires.by_id;
-      rising = ((
-        subst Rising (sym mine-is) rises,
-        (turn.loop-i-test.true, omega (arith, own_long, finders-long, few turn)),
-      )).0;
-      l_in_bounds = ((
-        subst Rising (sym mine-is) rises,
-        (turn.loop-i-test.true, omega (arith, own_long, finders-long, few turn)),
-      )).1;
+      rising = subst Rising (sym mine-is) rises;
+      l_in_bounds = (turn.loop-i-test.true, omega (arith, own_long, finders-long, few turn));
     }
 
 pub overflow_add-at : goal.overflow_add-at

@@ -69,8 +69,8 @@ take_back-requires c = let asked : After-two_way = search in
     } in
     record {
       by_id = start.requires.by_id;
-      rising = ((start.requires.rising, ready)).0;
-      taking = ((start.requires.rising, ready)).1;
+      rising = start.requires.rising;
+      taking = ready;
     }
 
 pub returns : goal.returns

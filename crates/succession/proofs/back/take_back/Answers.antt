@@ -19,11 +19,14 @@ wanted-asked-requires c = record {
 pub put_if-n-requires : goal.put_if-n-requires
 put_if-n-requires c = let ready = c.requires.taking in
     let k = c.loop-k.k in
-    let so_far = c.loop-k.invariant.1 in (
-      turn_rising ready k so_far,
-      turn_within ready k so_far,
-      turn_room ready k so_far c.loop-k-test.true c.wanted-asked.ensures,
-    )
+    let so_far = c.loop-k.invariant.1 in
+    record {
+      rising = (
+        turn_rising ready k so_far,
+        turn_within ready k so_far,
+        turn_room ready k so_far c.loop-k-test.true c.wanted-asked.ensures,
+      );
+    }
 
 pub overflow_add-k : goal.overflow_add-k
 overflow_add-k c = omega (arith, c.loop-k-test.true)

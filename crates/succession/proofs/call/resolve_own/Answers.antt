@@ -27,8 +27,8 @@ Start = lts.Start tie.the-claims reads.Pre reads.Post tie.handed_clauses
 pub succession_verdict-v-requires : goal.succession_verdict-v-requires
 succession_verdict-v-requires c = record {
       empty = fresh;
-      owner_len = ((length-replicate {A = ℕ} 16384 0, fresh)).0;
-      empty_2 = ((length-replicate {A = ℕ} 16384 0, fresh)).1;
+      owner_len = length-replicate {A = ℕ} 16384 0;
+      empty_2 = fresh;
     }
 
 -- ---- refused
@@ -56,36 +56,22 @@ module _ (judged : After-succession_verdict-v) where
 
 pub find_own-requires : goal.find_own-requires
 find_own-requires c = let past : Else-not-admitted = search in
-    let verdict = (judged past).succession-verdict in
-    let kept = verdict.kept.1.1.1.1.1.1.1 in
+    let verdict = (judged past).succession_verdict-v in
+    let kept = verdict.auto in
     let new = length-replicate {A = ℕ} 16384 0 in
     let outs = (start (judged past)).requires.offsets_len in
     record {
-      t_value = sym verdict.ensures.0 ∙ unrefused past;
-      linked = ((
-        verdict.ensures.1 (unrefused past),
-        record {
-          heads_long = kept.0 ∙ new;
-          next_long = kept.1.0 ∙ new;
-          owner_long = kept.1.1.0 ∙ new;
-          key_heads_long = kept.1.1.1.0 ∙ new;
-          key_next_long = kept.1.1.1.1.0 ∙ new;
+      t_value = sym verdict.ensures.result_value ∙ unrefused past;
+      linked = verdict.ensures.linked (unrefused past);
+      lent = record {
+          heads_long = kept.heads ∙ new;
+          next_long = kept.next ∙ new;
+          owner_long = kept.owner ∙ new;
+          key_heads_long = kept.kheads ∙ new;
+          key_next_long = kept.knext ∙ new;
           offsets_long = outs.0;
           own_long = outs.1;
-        },
-      )).0;
-      lent = ((
-        verdict.ensures.1 (unrefused past),
-        record {
-          heads_long = kept.0 ∙ new;
-          next_long = kept.1.0 ∙ new;
-          owner_long = kept.1.1.0 ∙ new;
-          key_heads_long = kept.1.1.1.0 ∙ new;
-          key_next_long = kept.1.1.1.1.0 ∙ new;
-          offsets_long = outs.0;
-          own_long = outs.1;
-        },
-      )).1;
+        };
     }
 
 pub returns : goal.returns

@@ -54,8 +54,8 @@ module _ (resolved : After-resolve_own-v) where
 
   abbrev outs : ListOutputs
   outs =
-      outputs start.args.successor-offsets.now start.args.successor-ids.now
-      start.args.predecessor-offsets.now start.args.predecessor-ids.now
+      outputs start.args.successor_offsets.now start.args.successor_ids.now
+      start.args.predecessor_offsets.now start.args.predecessor_ids.now
 
   abbrev verdict : Verdict
   verdict = resolved.resolve_own-v.result
@@ -97,7 +97,8 @@ module _ (past : Else-not-admitted) where
       (omega (arith, length-replicate {A = ℕ} 65536 0, few_own))
 
 pub resolve_own-v-requires : goal.resolve_own-v-requires
-resolve_own-v-requires c = (length-replicate {A = ℕ} 16385 0, length-replicate {A = ℕ} 65536 0)
+resolve_own-v-requires c =
+    record { offsets_len = (length-replicate {A = ℕ} 16385 0, length-replicate {A = ℕ} 65536 0); }
 
 -- ---- refused
 pub returns-then-not-admitted : goal.returns-then-not-admitted
@@ -115,18 +116,9 @@ write_lists-requires c = let past : Else-not-admitted = search in
     let as_long = start_same _ (own_list t) n (read_own past) n (le_refl n) in
     record {
       lanes_len_bound = (few past, ids_single t (admitted past));
-      all_rise = ((
-        own_rising t (admitted past) _ _ (read_own past),
-        (omega (arith, as_long, few_own past), onward_many t (admitted past) _ _ (read_own past)),
-      )).0;
-      lanes_bound = ((
-        own_rising t (admitted past) _ _ (read_own past),
-        (omega (arith, as_long, few_own past), onward_many t (admitted past) _ _ (read_own past)),
-      )).1.0;
-      as_many = ((
-        own_rising t (admitted past) _ _ (read_own past),
-        (omega (arith, as_long, few_own past), onward_many t (admitted past) _ _ (read_own past)),
-      )).1.1;
+      all_rise = own_rising t (admitted past) _ _ (read_own past);
+      lanes_bound = omega (arith, as_long, few_own past);
+      as_many = onward_many t (admitted past) _ _ (read_own past);
     }
 
 pub returns : goal.returns

@@ -58,9 +58,8 @@ within_road-requires c = let after-link-at : After-link_at-link = search in
         start.requires.sound.links,
         start.requires.sound.few,
       );
-      chained = ((
-        start.requires.sound.chained,
-        subst (λ (es : List Entry). Room start.args.n es start.args.run.now)
+      chained = start.requires.sound.chained;
+      room = subst (λ (es : List Entry). Room start.args.n es start.args.run.now)
             (exits_within (rows_of start.args.roads.now start.args.sections.now
             start.args.junctions.now start.args.connections.now start.args.pairs.now
             start.args.lanes.now owner start.args.sides.now start.args.ends.now) l forward
@@ -70,22 +69,7 @@ within_road-requires c = let after-link-at : After-link_at-link = search in
             after-link-at.link_at-link.ensures c.next_section.ensures
             c.in-At.s (ap section_of c.in-At.is)
             (flag c.entered_at.result) c.entered_at.ensures)
-            start.requires.room,
-      )).0;
-      room = ((
-        start.requires.sound.chained,
-        subst (λ (es : List Entry). Room start.args.n es start.args.run.now)
-            (exits_within (rows_of start.args.roads.now start.args.sections.now
-            start.args.junctions.now start.args.connections.now start.args.pairs.now
-            start.args.lanes.now owner start.args.sides.now start.args.ends.now) l forward
-            (get_or owner l 0) after-link-at.link_at-link.result
-            (section_of c.next_section.result) (refl)
-            (let z = start.requires.sound.owner_low l start.requires.l_in_bounds in omega (arith, z))
-            after-link-at.link_at-link.ensures c.next_section.ensures
-            c.in-At.s (ap section_of c.in-At.is)
-            (flag c.entered_at.result) c.entered_at.ensures)
-            start.requires.room,
-      )).1;
+            start.requires.room;
     }
 
 pub leave-requires : goal.leave-requires
@@ -94,17 +78,15 @@ leave-requires c = let after-link-at : After-link_at-link = search in
     let l = start.args.l in let forward = start.args.forward in let owner = start.args.owner.now in
     record {
       sound = start.requires.sound;
-      chained = ((
-        start.requires.chained,
-        (
-          (
+      chained = start.requires.chained;
+      in_bounds = (
             start.requires.l_in_bounds,
             (let z = start.requires.sound.owner_high l start.requires.l_in_bounds in
                 omega (arith, z, start.requires.sound.owner_low l start.requires.l_in_bounds)),
             (let z : (b : Bool) → pick b (l * 10 + 8) (l * 10 + 6) ≤ l * 10 + 8 = up l in
                 omega (arith, z forward, after-link-at.link_at-link.ensures, start.requires.l_in_bounds)),
-          ),
-          subst (λ (es : List Entry). Room start.args.n es start.args.run.now)
+          );
+      room = subst (λ (es : List Entry). Room start.args.n es start.args.run.now)
               (exits_past (rows_of start.args.roads.now start.args.sections.now
               start.args.junctions.now start.args.connections.now start.args.pairs.now
               start.args.lanes.now owner start.args.sides.now start.args.ends.now) l
@@ -112,51 +94,7 @@ leave-requires c = let after-link-at : After-link_at-link = search in
               (section_of c.next_section.result) (refl)
               (let z = start.requires.sound.owner_low l start.requires.l_in_bounds in omega (arith, z))
               after-link-at.link_at-link.ensures c.next_section.ensures
-              (ap section_of c.in-Past.is)) start.requires.room,
-        ),
-      )).0;
-      in_bounds = ((
-        start.requires.chained,
-        (
-          (
-            start.requires.l_in_bounds,
-            (let z = start.requires.sound.owner_high l start.requires.l_in_bounds in
-                omega (arith, z, start.requires.sound.owner_low l start.requires.l_in_bounds)),
-            (let z : (b : Bool) → pick b (l * 10 + 8) (l * 10 + 6) ≤ l * 10 + 8 = up l in
-                omega (arith, z forward, after-link-at.link_at-link.ensures, start.requires.l_in_bounds)),
-          ),
-          subst (λ (es : List Entry). Room start.args.n es start.args.run.now)
-              (exits_past (rows_of start.args.roads.now start.args.sections.now
-              start.args.junctions.now start.args.connections.now start.args.pairs.now
-              start.args.lanes.now owner start.args.sides.now start.args.ends.now) l
-              forward (get_or owner l 0) after-link-at.link_at-link.result
-              (section_of c.next_section.result) (refl)
-              (let z = start.requires.sound.owner_low l start.requires.l_in_bounds in omega (arith, z))
-              after-link-at.link_at-link.ensures c.next_section.ensures
-              (ap section_of c.in-Past.is)) start.requires.room,
-        ),
-      )).1.0;
-      room = ((
-        start.requires.chained,
-        (
-          (
-            start.requires.l_in_bounds,
-            (let z = start.requires.sound.owner_high l start.requires.l_in_bounds in
-                omega (arith, z, start.requires.sound.owner_low l start.requires.l_in_bounds)),
-            (let z : (b : Bool) → pick b (l * 10 + 8) (l * 10 + 6) ≤ l * 10 + 8 = up l in
-                omega (arith, z forward, after-link-at.link_at-link.ensures, start.requires.l_in_bounds)),
-          ),
-          subst (λ (es : List Entry). Room start.args.n es start.args.run.now)
-              (exits_past (rows_of start.args.roads.now start.args.sections.now
-              start.args.junctions.now start.args.connections.now start.args.pairs.now
-              start.args.lanes.now owner start.args.sides.now start.args.ends.now) l
-              forward (get_or owner l 0) after-link-at.link_at-link.result
-              (section_of c.next_section.result) (refl)
-              (let z = start.requires.sound.owner_low l start.requires.l_in_bounds in omega (arith, z))
-              after-link-at.link_at-link.ensures c.next_section.ensures
-              (ap section_of c.in-Past.is)) start.requires.room,
-        ),
-      )).1.1;
+              (ap section_of c.in-Past.is)) start.requires.room;
     }
 
 pub returns-in-At : goal.returns-in-At

@@ -37,26 +37,14 @@ returns-then-not-comes_from c = let both = c.args.both in let n = c.args.n in le
 pub through_pairs-requires : goal.through_pairs-requires
 through_pairs-requires c = record {
       sound = c.requires.sound;
-      c_in_bounds = ((
-        c.requires.in_bounds.1,
-        subst (λ (es : List Entry). Room c.args.n es c.args.run.now)
+      c_in_bounds = c.requires.in_bounds.1;
+      room = subst (λ (es : List Entry). Room c.args.n es c.args.run.now)
             (meeting_leads (rows_of c.args.roads.now c.args.sections.now
             c.args.junctions.now c.args.connections.now c.args.pairs.now
             c.args.lanes.now c.args.owner.now c.args.sides.now
             c.args.ends.now) c.args.j c.args.road c.args.k
             c.args.c (sym c.comes_from.ensures ∙ not-false _ c.if-not-comes_from.false-raw))
-            c.requires.room,
-      )).0;
-      room = ((
-        c.requires.in_bounds.1,
-        subst (λ (es : List Entry). Room c.args.n es c.args.run.now)
-            (meeting_leads (rows_of c.args.roads.now c.args.sections.now
-            c.args.junctions.now c.args.connections.now c.args.pairs.now
-            c.args.lanes.now c.args.owner.now c.args.sides.now
-            c.args.ends.now) c.args.j c.args.road c.args.k
-            c.args.c (sym c.comes_from.ensures ∙ not-false _ c.if-not-comes_from.false-raw))
-            c.requires.room,
-      )).1;
+            c.requires.room;
     }
 
 pub returns : goal.returns

@@ -78,12 +78,11 @@ through_pair-n-requires c = let after-word : After-word-road = search in
         start.requires.sound.links,
         start.requires.sound.few,
       );
-      chained = ((
-        start.requires.sound.chained,
-        (
+      chained = start.requires.sound.chained;
+      p_in_bounds = (
           omega (
             arith,
-            start.requires.sound.Pair-parts start.args.c start.requires.c_in_bounds,
+            start.requires.sound.pair_parts start.args.c start.requires.c_in_bounds,
             c.word-first.ensures.0,
             c.word.ensures.0,
             c.loop-p.invariant.1,
@@ -104,36 +103,7 @@ through_pair-n-requires c = let after-word : After-word-road = search in
               c.word.ensures.0) start.requires.room) c.loop-p.p
               c.loop-p.n c.loop-p.run c.loop-p.invariant.2 c.loop-p.invariant.0
               (omega (arith, c.loop-p-test.true)),
-        ),
-      )).0;
-      p_in_bounds = ((
-        start.requires.sound.chained,
-        (
-          omega (
-            arith,
-            start.requires.sound.Pair-parts start.args.c start.requires.c_in_bounds,
-            c.word-first.ensures.0,
-            c.word.ensures.0,
-            c.loop-p.invariant.1,
-            c.loop-p-test.true,
-          ),
-          turns_room start.args.both start.args.start c.word-first.result
-              c.word.result
-              (pair_entry pairs lanes owner after-word.word-road.result
-              c.end_section-section.result
-              (flag (get_or connections (start.args.c * 7 + 4) 0)) k) run
-              (subst (λ (es : List Entry). Room start.args.start es run)
-              (pairs_by_lem start.args.roads.now start.args.sections.now
-              start.args.junctions.now connections pairs lanes owner start.args.sides.now
-              start.args.ends.now start.args.c k after-word.word-road.result
-              c.end_section-section.result c.word-first.result
-              c.word.result after-word.word-road.ensures.0
-              c.end_section-section.ensures c.word-first.ensures.0
-              c.word.ensures.0) start.requires.room) c.loop-p.p
-              c.loop-p.n c.loop-p.run c.loop-p.invariant.2 c.loop-p.invariant.0
-              (omega (arith, c.loop-p-test.true)),
-        ),
-      )).1;
+        );
     }
 
 pub overflow_add-p : goal.overflow_add-p

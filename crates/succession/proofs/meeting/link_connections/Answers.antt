@@ -34,26 +34,14 @@ link_part-requires c = let connections = c.args.connections.now in let junctions
         omega (arith, c.loop-j.invariant.0, c.loop-j-test.true),
         c.requires.connections_len_bound.1,
       );
-      j_bound = ((
-        (
+      j_bound = (
           end_in (length connections / 7) junctions c.requires.junctions_value (c.loop-j.j - 1)
               (omega (arith, c.loop-j.invariant.0, c.loop-j-test.true)),
           homes_are (length connections / 7) junctions c.requires.junctions_value,
-        ),
-        chains_part (length connections / 7) junctions c.requires.junctions_value c.args.sides.now
+        );
+      chained = chains_part (length connections / 7) junctions c.requires.junctions_value c.args.sides.now
             c.loop-j.heads c.loop-j.next c.loop-j.j
-            (omega (arith, c.loop-j-test.true)) c.loop-j.invariant.0 c.loop-j.invariant.3,
-      )).0;
-      chained = ((
-        (
-          end_in (length connections / 7) junctions c.requires.junctions_value (c.loop-j.j - 1)
-              (omega (arith, c.loop-j.invariant.0, c.loop-j-test.true)),
-          homes_are (length connections / 7) junctions c.requires.junctions_value,
-        ),
-        chains_part (length connections / 7) junctions c.requires.junctions_value c.args.sides.now
-            c.loop-j.heads c.loop-j.next c.loop-j.j
-            (omega (arith, c.loop-j-test.true)) c.loop-j.invariant.0 c.loop-j.invariant.3,
-      )).1;
+            (omega (arith, c.loop-j-test.true)) c.loop-j.invariant.0 c.loop-j.invariant.3;
     }
 
 pub loop-j-smaller : goal.loop-j-smaller
