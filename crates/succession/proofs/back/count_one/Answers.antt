@@ -63,18 +63,18 @@ loop-k-smaller c = omega (arith, c.loop-k-test.true)
 
 pub loop-k-preserved : goal.loop-k-preserved
 loop-k-preserved c = let mine = c.args.mine.now in
-    let wants-it = wants c.args.lanes.now mine in (
+    let wants_it = wants c.args.lanes.now mine in (
       omega (arith, c.loop-k-test.true),
       c.one_if-n.ensures
-          ∙ count_turn wants-it c.args.finders.now _ mine _ _ c.loop-k-test.true
+          ∙ count_turn wants_it c.args.finders.now _ mine _ _ c.loop-k-test.true
           c.wanted-asked.ensures c.loop-k.invariant.1,
     )
 
 pub returns : goal.returns
 returns c = let asked : After-two_way = search in
     let mine = c.args.mine.now in
-    let wants-it = wants c.args.lanes.now mine in
+    let wants_it = wants c.args.lanes.now mine in
     let all = take_all c.loop-k.k c.args.finders.now (omega (arith, c.loop-k-test.false)) in
     c.loop-k.invariant.1
-    ∙ ap (λ (finders : List ℕ). length (back_into wants-it finders mine)) all
+    ∙ ap (λ (finders : List ℕ). length (back_into wants_it finders mine)) all
     ∙ ap length (sym (back_is _ _ _ _ (direction asked ∙ not-false _ c.if-not-two_way.false-raw)))

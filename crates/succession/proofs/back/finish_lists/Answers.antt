@@ -136,7 +136,7 @@ loop-i-preserved c = let second : After-list_part-in-loop-i = search in
     let one_more = start_more lists (i turn) in
     let size = c.finish_one-at.ensures.size ∙ ap length (list_is second) in
     let room_for = start.requires.lanes_in_bounds.2 in
-    let out-is =
+    let out_is =
     tail_more lists (long start) (no_longer start) (rows start) (i turn) _ loop.out lt room_for inv.1
     inv.4 inv.5 (list_is second) c.finish_one-at.ensures.list in (
       omega (arith, lt),
@@ -144,8 +144,8 @@ loop-i-preserved c = let second : After-list_part-in-loop-i = search in
       length-set loop.offsets (i turn) loop.at ∙ inv.2,
       starts_more (start_of lists) (i turn) _ _ _ inv.3 inv.1 (omega (arith, lt, start.requires.lanes_in_bounds.0)),
       more_long lists (long start) (no_longer start) (rows start) (i turn) _ loop.out lt room_for inv.1
-          inv.4 out-is,
-      out-is,
+          inv.4 out_is,
+      out_is,
     )
 
 -- ---- past the loop: where the last list ends

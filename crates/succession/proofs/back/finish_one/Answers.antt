@@ -57,13 +57,13 @@ take_back-requires c = let asked : After-two_way = search in
     let mine = start.args.mine.now in
     let finders = start.args.finders.now in
     let l = start.args.l in
-    let Copy-is = c.copy.ensures in
+    let copy_is = c.copy.ensures in
     let two_way = direction asked ∙ not-false _ c.if-not-two_way.false-raw in
-    let same = ap length Copy-is ∙ written_length mine start.args.run.now (own_fits start) in
-    let as_long = finish_room lanes mine finders l _ Copy-is two_way in
+    let same = ap length copy_is ∙ written_length mine start.args.run.now (own_fits start) in
+    let as_long = finish_room lanes mine finders l _ copy_is two_way in
     let ready : Taking (wants lanes mine) finders (length mine) c.copy.new.out =
     record {
-      rising = subst Rising (sym (copied lanes mine finders l _ Copy-is)) start.requires.rising;
+      rising = subst Rising (sym (copied lanes mine finders l _ copy_is)) start.requires.rising;
       begun = omega (arith, same, own_fits start);
       room = omega (arith, same, as_long, start.requires.l_in_bounds.1);
     } in

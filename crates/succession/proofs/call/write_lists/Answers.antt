@@ -107,12 +107,12 @@ converse-requires c = let linked : After-link_ids = search in
 pub put_lists-requires : goal.put_lists-requires
 put_lists-requires c = let turned : After-converse = search in
     let start = opened (linked turned) in
-    let found-by = found turned in
+    let found_by = found turned in
     record {
       by_id = by_id (linked turned);
       all_rise = start.requires.all_rise;
-      fids_bound = finished_few _ _ _ _ _ found-by start.requires.lanes_len_bound.1 start.requires.lanes_bound;
-      as_many = finished_many _ _ _ _ _ found-by start.requires.as_many;
+      fids_bound = finished_few _ _ _ _ _ found_by start.requires.lanes_len_bound.1 start.requires.lanes_bound;
+      as_many = finished_many _ _ _ _ _ found_by start.requires.as_many;
     }
 
 pub returns : goal.returns

@@ -48,8 +48,8 @@ through_pairs-requires c = record {
     }
 
 pub returns : goal.returns
-returns c = let after-comes-from : After-comes_from = search in
-    let start = begun after-comes-from in
+returns c = let after_comes_from : After-comes_from = search in
+    let start = begun after_comes_from in
     subst (λ (es : List Entry).
     Took start.args.both start.args.n es start.args.run.now
     c.through_pairs.new.run
@@ -58,5 +58,5 @@ returns c = let after-comes-from : After-comes_from = search in
     start.args.junctions.now start.args.connections.now start.args.pairs.now
     start.args.lanes.now start.args.owner.now start.args.sides.now start.args.ends.now)
     start.args.j start.args.road start.args.k start.args.c
-    (sym after-comes-from.comes_from.ensures ∙ not-false _ c.if-not-comes_from.false-raw)))
+    (sym after_comes_from.comes_from.ensures ∙ not-false _ c.if-not-comes_from.false-raw)))
     c.through_pairs.ensures
