@@ -34,7 +34,7 @@ module _ (asked : After-two_way) where
 
 pub returns-then-not-two_way : goal.returns-then-not-two_way
 returns-then-not-two_way c = let asked : After-two_way = search in
-    ap length (sym (plain_is _ _ _ _ (direction asked ∙ not-true _ c.if-not-two_way.true-raw)))
+    ap length (sym (plain_is _ _ _ _ (direction asked ∙ c.if-not-two_way.true)))
 
 -- ---- one that is
 pub loop-k-init : goal.loop-k-init
@@ -45,9 +45,9 @@ bounds-finders-k c = omega (arith, c.loop-k-test.true)
 
 pub wanted-asked-requires : goal.wanted-asked-requires
 wanted-asked-requires c = record {
-      by_id = c.requires.by_id;
-      rising = c.requires.rising;
-    }
+  by_id = c.requires.by_id;
+  rising = c.requires.rising;
+}
 
 pub one_if-n-requires : goal.one_if-n-requires
 one_if-n-requires c = let mine = c.args.mine.now in
@@ -77,4 +77,4 @@ returns c = let asked : After-two_way = search in
     let all = take_all c.loop-k.k c.args.finders.now (omega (arith, c.loop-k-test.false)) in
     c.loop-k.invariant.1
     ∙ ap (λ (finders : List ℕ). length (back_into wants_it finders mine)) all
-    ∙ ap length (sym (back_is _ _ _ _ (direction asked ∙ not-false _ c.if-not-two_way.false-raw)))
+    ∙ ap length (sym (back_is _ _ _ _ (direction asked ∙ c.if-not-two_way.false)))

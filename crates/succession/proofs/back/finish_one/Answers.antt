@@ -47,7 +47,7 @@ module _ (asked : After-two_way) where
 -- ---- a lane that is not two-way
 pub returns-then-not-two_way : goal.returns-then-not-two_way
 returns-then-not-two_way c = let asked : After-two_way = search in
-    finish_plain _ _ _ _ _ c.copy.ensures (direction asked ∙ not-true _ c.if-not-two_way.true-raw)
+    finish_plain _ _ _ _ _ c.copy.ensures (direction asked ∙ c.if-not-two_way.true)
 
 -- ---- one that is
 pub take_back-requires : goal.take_back-requires
@@ -58,7 +58,7 @@ take_back-requires c = let asked : After-two_way = search in
     let finders = start.args.finders.now in
     let l = start.args.l in
     let copy_is = c.copy.ensures in
-    let two_way = direction asked ∙ not-false _ c.if-not-two_way.false-raw in
+    let two_way = direction asked ∙ c.if-not-two_way.false in
     let same = ap length copy_is ∙ written_length mine start.args.run.now (own_fits start) in
     let as_long = finish_room lanes mine finders l _ copy_is two_way in
     let ready : Taking (wants lanes mine) finders (length mine) c.copy.new.out =
@@ -75,5 +75,5 @@ take_back-requires c = let asked : After-two_way = search in
 
 pub returns : goal.returns
 returns c = let asked : After-two_way = search in
-    finish_back _ _ _ _ _ c.copy.ensures (direction asked ∙ not-false _ c.if-not-two_way.false-raw)
+    finish_back _ _ _ _ _ c.copy.ensures (direction asked ∙ c.if-not-two_way.false)
     c.take_back.ensures

@@ -12,9 +12,9 @@ bounds-finders-k c = omega (arith, c.loop-k-test.true)
 
 pub wanted-asked-requires : goal.wanted-asked-requires
 wanted-asked-requires c = record {
-      by_id = c.requires.by_id;
-      rising = c.requires.rising;
-    }
+  by_id = c.requires.by_id;
+  rising = c.requires.rising;
+}
 
 pub put_if-n-requires : goal.put_if-n-requires
 put_if-n-requires c = let ready = c.requires.taking in
@@ -36,10 +36,10 @@ loop-k-smaller c = omega (arith, c.loop-k-test.true)
 
 pub loop-k-preserved : goal.loop-k-preserved
 loop-k-preserved c = (
-      omega (arith, c.loop-k-test.true),
-      turn_on c.requires.taking c.loop-k.k c.loop-k.invariant.1 c.loop-k-test.true
-          c.wanted-asked.ensures c.put_if-n.ensures,
-    )
+  omega (arith, c.loop-k-test.true),
+  turn_on c.requires.taking c.loop-k.k c.loop-k.invariant.1 c.loop-k-test.true
+      c.wanted-asked.ensures c.put_if-n.ensures,
+)
 
 pub shape_of-run : goal.shape_of-run
 shape_of-run c = turn_long c.requires.taking c.loop-k.k c.loop-k.invariant.1

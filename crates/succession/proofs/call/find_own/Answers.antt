@@ -96,10 +96,10 @@ own_lists-requires c = let named : After-link_rows = search in
           (sides_long named) (ends_long named);
       chained = c.link_connections.ensures;
       room = (
-          omega (arith, lent.offsets_long, fewer_lanes t admitted),
-          omega (arith, lent.own_long),
-          omega (arith, lent.own_long, fit),
-        );
+        omega (arith, lent.offsets_long, fewer_lanes t admitted),
+        omega (arith, lent.own_long),
+        omega (arith, lent.own_long, fit),
+      );
     }
 
 module _ (chained : After-link_connections) where

@@ -19,14 +19,14 @@ module _ (start : Start) where
 
 pub link_names-requires : goal.link_names-requires
 link_names-requires c = record {
-      w_bound = (
-        omega arith,
-        omega arith,
-        rows_in (length c.args.junctions.now) 5,
-        c.requires.roads_len_bound.1,
-      );
-      empty = fresh;
-    }
+  w_bound = (
+    omega arith,
+    omega arith,
+    rows_in (length c.args.junctions.now) 5,
+    c.requires.roads_len_bound.1,
+  );
+  empty = fresh;
+}
 
 pub link_sides-requires : goal.link_sides-requires
 link_sides-requires c = let start : Start = search in

@@ -62,10 +62,10 @@ module _ (start : Start) where
 
 pub count_lists-total-requires : goal.count_lists-total-requires
 count_lists-total-requires c = record {
-      by_id = c.requires.by_id;
-      all_rise = c.requires.all_rise;
-      fids_bound = c.requires.fids_bound;
-    }
+  by_id = c.requires.by_id;
+  all_rise = c.requires.all_rise;
+  fids_bound = c.requires.fids_bound;
+}
 
 -- ---- the four refusals
 pub returns-then-successor_offsets-n : goal.returns-then-successor_offsets-n

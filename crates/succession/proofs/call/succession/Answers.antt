@@ -75,7 +75,7 @@ module _ (past : Else-not-admitted) where
   resolved = search
 
   free : admits (verdict resolved) ≡ true
-  free = let judged : After-admitted = search in sym judged.admitted.ensures ∙ not-false _ past.if-not-admitted.false-raw
+  free = let judged : After-admitted = search in sym judged.admitted.ensures ∙ past.if-not-admitted.false
 
   unrefused : refusal_of (verdict resolved) ≡ none
   unrefused = is_none (refusal_of (verdict resolved)) free
@@ -98,14 +98,14 @@ module _ (past : Else-not-admitted) where
 
 pub resolve_own-v-requires : goal.resolve_own-v-requires
 resolve_own-v-requires c =
-    record { offsets_len = (length-replicate {A = ℕ} 16385 0, length-replicate {A = ℕ} 65536 0); }
+    record { offsets_len = (length-replicate {A = ℕ} 16385 0, length-replicate {A = ℕ} 65536 0) }
 
 -- ---- refused
 pub returns-then-not-admitted : goal.returns-then-not-admitted
 unfolding succession_call
 returns-then-not-admitted c = let resolved : After-resolve_own-v = search in
     let t = tables resolved in
-    let barred = sym c.admitted.ensures ∙ not-true _ c.if-not-admitted.true-raw in
+    let barred = sym c.admitted.ensures ∙ c.if-not-admitted.true in
     call_refused list_writing (succession_rules t) (list_content t) (outs resolved) (verdict resolved) barred
     (first_broken_lem resolved)
 

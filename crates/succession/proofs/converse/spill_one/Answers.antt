@@ -67,7 +67,7 @@ pub overflow_add-used : goal.overflow_add-used
 overflow_add-used c = let past : Else-f-eq0 = search in
     let begin = start past in
     let ends = run_ends past.if-f-eq0.false begin.requires.0 begin.requires.1 in
-    omega (arith, ends, c.shared_slice_known-1.given (row past + 1))
+    omega (arith, ends, c.type_inv.offsets (row past + 1))
 
 pub returns : goal.returns
 returns c = let past : Else-f-eq0 = search in

@@ -31,21 +31,21 @@ returns-then-not-comes_from c = let both = c.args.both in let n = c.args.n in le
     c.args.junctions.now c.args.connections.now c.args.pairs.now
     c.args.lanes.now c.args.owner.now c.args.sides.now c.args.ends.now)
     c.args.j c.args.road c.args.k c.args.c
-    (sym c.comes_from.ensures ∙ not-true _ c.if-not-comes_from.true-raw)))
+    (sym c.comes_from.ensures ∙ c.if-not-comes_from.true)))
     (took_none both n run (omega (arith, c.requires.room.fits)))
 
 pub through_pairs-requires : goal.through_pairs-requires
 through_pairs-requires c = record {
-      sound = c.requires.sound;
-      c_in_bounds = c.requires.in_bounds.1;
-      room = subst (λ (es : List Entry). Room c.args.n es c.args.run.now)
-            (meeting_leads (rows_of c.args.roads.now c.args.sections.now
-            c.args.junctions.now c.args.connections.now c.args.pairs.now
-            c.args.lanes.now c.args.owner.now c.args.sides.now
-            c.args.ends.now) c.args.j c.args.road c.args.k
-            c.args.c (sym c.comes_from.ensures ∙ not-false _ c.if-not-comes_from.false-raw))
-            c.requires.room;
-    }
+  sound = c.requires.sound;
+  c_in_bounds = c.requires.in_bounds.1;
+  room = subst (λ (es : List Entry). Room c.args.n es c.args.run.now)
+      (meeting_leads (rows_of c.args.roads.now c.args.sections.now
+      c.args.junctions.now c.args.connections.now c.args.pairs.now
+      c.args.lanes.now c.args.owner.now c.args.sides.now
+      c.args.ends.now) c.args.j c.args.road c.args.k
+      c.args.c (sym c.comes_from.ensures ∙ c.if-not-comes_from.false))
+      c.requires.room;
+}
 
 pub returns : goal.returns
 returns c = let after_comes_from : After-comes_from = search in
@@ -58,5 +58,5 @@ returns c = let after_comes_from : After-comes_from = search in
     start.args.junctions.now start.args.connections.now start.args.pairs.now
     start.args.lanes.now start.args.owner.now start.args.sides.now start.args.ends.now)
     start.args.j start.args.road start.args.k start.args.c
-    (sym after_comes_from.comes_from.ensures ∙ not-false _ c.if-not-comes_from.false-raw)))
+    (sym after_comes_from.comes_from.ensures ∙ c.if-not-comes_from.false)))
     c.through_pairs.ensures

@@ -30,10 +30,10 @@ bounds-connections-c c = omega (arith, c.requires.c_in_bounds)
 
 pub end_section-section-requires : goal.end_section-section-requires
 end_section-section-requires c = let start : Start = search in (
-      let s = start in
-          omega (arith, c.word-road.ensures.0, s.requires.sound.sides_high s.args.c s.requires.c_in_bounds),
-      record { few = start.requires.sound.few_roads; parts = start.requires.sound.section_parts },
-    )
+  let s = start in
+      omega (arith, c.word-road.ensures.0, s.requires.sound.sides_high s.args.c s.requires.c_in_bounds),
+  record { few = start.requires.sound.few_roads; parts = start.requires.sound.section_parts },
+)
 
 pub word-first-requires : goal.word-first-requires
 word-first-requires c = omega (arith, c.requires.c_in_bounds)
@@ -80,30 +80,30 @@ through_pair-n-requires c = let after_word : After-word-road = search in
       );
       chained = start.requires.sound.chained;
       p_in_bounds = (
-          omega (
-            arith,
-            start.requires.sound.pair_parts start.args.c start.requires.c_in_bounds,
-            c.word-first.ensures.0,
-            c.word.ensures.0,
-            c.loop-p.invariant.1,
-            c.loop-p-test.true,
-          ),
-          turns_room start.args.both start.args.start c.word-first.result
-              c.word.result
-              (pair_entry pairs lanes owner after_word.word-road.result
-              c.end_section-section.result
-              (flag (get_or connections (start.args.c * 7 + 4) 0)) k) run
-              (subst (λ (es : List Entry). Room start.args.start es run)
-              (pairs_by_lem start.args.roads.now start.args.sections.now
-              start.args.junctions.now connections pairs lanes owner start.args.sides.now
-              start.args.ends.now start.args.c k after_word.word-road.result
-              c.end_section-section.result c.word-first.result
-              c.word.result after_word.word-road.ensures.0
-              c.end_section-section.ensures c.word-first.ensures.0
-              c.word.ensures.0) start.requires.room) c.loop-p.p
-              c.loop-p.n c.loop-p.run c.loop-p.invariant.2 c.loop-p.invariant.0
-              (omega (arith, c.loop-p-test.true)),
-        );
+        omega (
+          arith,
+          start.requires.sound.pair_parts start.args.c start.requires.c_in_bounds,
+          c.word-first.ensures.0,
+          c.word.ensures.0,
+          c.loop-p.invariant.1,
+          c.loop-p-test.true,
+        ),
+        turns_room start.args.both start.args.start c.word-first.result
+            c.word.result
+            (pair_entry pairs lanes owner after_word.word-road.result
+            c.end_section-section.result
+            (flag (get_or connections (start.args.c * 7 + 4) 0)) k) run
+            (subst (λ (es : List Entry). Room start.args.start es run)
+            (pairs_by_lem start.args.roads.now start.args.sections.now
+            start.args.junctions.now connections pairs lanes owner start.args.sides.now
+            start.args.ends.now start.args.c k after_word.word-road.result
+            c.end_section-section.result c.word-first.result
+            c.word.result after_word.word-road.ensures.0
+            c.end_section-section.ensures c.word-first.ensures.0
+            c.word.ensures.0) start.requires.room) c.loop-p.p
+            c.loop-p.n c.loop-p.run c.loop-p.invariant.2 c.loop-p.invariant.0
+            (omega (arith, c.loop-p-test.true)),
+      );
     }
 
 pub overflow_add-p : goal.overflow_add-p

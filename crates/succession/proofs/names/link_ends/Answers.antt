@@ -9,12 +9,12 @@ use Rattle.succession.proofs.names.link_ends.Goals as goal
 
 pub loop-i-init : goal.loop-i-init
 loop-i-init c = (
-      omega arith,
-      refl,
-      c.requires.roads_len_bound.3,
-      ended_none c.args.text.now c.args.roads.now c.args.junctions.now
-          c.args.ends.now,
-    )
+  omega arith,
+  refl,
+  c.requires.roads_len_bound.3,
+  ended_none c.args.text.now c.args.roads.now c.args.junctions.now
+      c.args.ends.now,
+)
 
 pub overflow_mul-i : goal.overflow_mul-i
 overflow_mul-i c = let roads = c.args.roads.now in

@@ -10,12 +10,12 @@ use Rattle.succession.proofs.names.link_sides.Goals as goal
 
 pub loop-i-init : goal.loop-i-init
 loop-i-init c = (
-      omega arith,
-      refl,
-      c.requires.roads_len_bound.4,
-      sided_none c.args.text.now c.args.roads.now c.args.connections.now
-          c.args.sides.now,
-    )
+  omega arith,
+  refl,
+  c.requires.roads_len_bound.4,
+  sided_none c.args.text.now c.args.roads.now c.args.connections.now
+      c.args.sides.now,
+)
 
 pub overflow_mul-i : goal.overflow_mul-i
 overflow_mul-i c = let connections = c.args.connections.now in
