@@ -2,11 +2,10 @@ use Rattle.succession.proofs.Backs.{back_is, count_room, count_turn, direction_i
 use Rattle.succession.specs.Finished.{back_into, two_way_row, wants}
 use lib.Seq.{take_all}
 use lib.ListN.{length}
-use borrow.Author.Tests.{not-true, not-false}
 use native.Mathlib.Omega.{arith}
 use mathlib.Core.List.{List}
 use mathlib.Core.Path.{◌≡◌, refl, sym, ap, ◌∙◌}
-use Prim.Native.Nat.{ℕ, suc, ◌-◌}
+use Prim.Native.Nat.{ℕ, suc}
 use Rattle.succession.proofs.back.count_one.Tie as tie
 use Rattle.succession.proofs.back.count_one.Lts as lts
 use Rattle.succession.proofs.back.count_one.Reads as reads

@@ -3,7 +3,6 @@ use Rattle.succession.proofs.Backs.{copied, direction_is, finish_back, finish_le
 use Rattle.succession.specs.Finished.{Taking, two_way_row, wants}
 use Rattle.succession.specs.Runs.{Rising}
 use Rattle.words.proofs.Laws.{written_length}
-use borrow.Author.Tests.{not-true, not-false}
 use lib.ListN.{length}
 use Prim.Native.Nat.{suc, ◌≤◌}
 use native.Mathlib.Omega.{arith}

@@ -1,6 +1,5 @@
 use Rattle.succession.proofs.Backs.{turn_end, turn_long, turn_none, turn_on, turn_rising, turn_room}
 use Rattle.succession.proofs.Backs.{turn_within}
-use Prim.Native.Nat.{◌-◌}
 use native.Mathlib.Omega.{arith}
 use Rattle.succession.proofs.back.take_back.Goals as goal
 

@@ -3,7 +3,6 @@ use Rattle.words.proofs.Chains.{fresh}
 use Rattle.tables.specs.Verdicts.{refusal_of}
 use Rattle.tables.proofs.Order.{is_none, is_some_lem}
 use lib.ListN.{length-replicate}
-use borrow.Author.Tests.{not-true, not-false}
 use mathlib.Core.Option.{none}
 use mathlib.Core.Path.{◌≡◌, sym, ◌∙◌}
 use Prim.Native.Nat.{ℕ}

@@ -13,7 +13,6 @@ use Rattle.model.specs.Calls.{ListOutputs, list_content, list_writing, successio
 use Rattle.model.specs.Lookup.{list_part}
 use Rattle.model.specs.Rules.{first_broken}
 use Rattle.model.specs.Tables.{Tables, lane_tables}
-use borrow.Author.Tests.{not-true, not-false}
 use native.Mathlib.Nat.{le_refl}
 use native.Mathlib.Omega.{arith}
 use mathlib.Core.Bool.{true}

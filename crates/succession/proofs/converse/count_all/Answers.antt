@@ -5,7 +5,7 @@ use Rattle.model.specs.Lookup.{list_part}
 use Rattle.model.specs.Lists.{count}
 use lib.ListN.{length}
 use mathlib.Core.List.{List}
-use Prim.Native.Nat.{ℕ, ◌+◌, ◌-◌, ◌/◌}
+use Prim.Native.Nat.{ℕ, ◌+◌, ◌/◌}
 use native.Mathlib.Omega.{arith}
 use mathlib.Core.Path.{◌≡◌, sym, ap, ◌∙◌}
 use Rattle.succession.proofs.converse.count_all.Goals as goal

@@ -2,7 +2,7 @@ use Rattle.succession.proofs.Spills.{counted_fewer, counted_none, counted_same, 
 use Rattle.succession.proofs.Spills.{times_all, times_few, times_more}
 use Rattle.words.proofs.KeyLaws.{rows_in}
 use lib.ListN.{length}
-use Prim.Native.Nat.{◌-◌, ◌/◌, ◌<◌, ◌≤◌}
+use Prim.Native.Nat.{◌/◌, ◌<◌, ◌≤◌}
 use native.Mathlib.Omega.{arith}
 use mathlib.Core.Path.{refl}
 use Rattle.succession.proofs.converse.count_list.Goals as goal

@@ -1,7 +1,7 @@
 use Rattle.succession.proofs.Spreads.{spread_all, spread_more, spread_none, spread_room}
 use Rattle.words.proofs.KeyLaws.{row_in, rows_in}
 use lib.ListN.{length}
-use Prim.Native.Nat.{ℕ, ◌+◌, ◌-◌, ◌*◌, ◌/◌, ◌<◌}
+use Prim.Native.Nat.{ℕ, ◌+◌, ◌*◌, ◌/◌, ◌<◌}
 use native.Mathlib.Omega.{arith}
 use mathlib.Core.Path.{◌≡◌}
 use Rattle.succession.proofs.converse.spill_all.Tie as tie

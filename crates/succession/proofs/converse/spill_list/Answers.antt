@@ -2,7 +2,7 @@ use Rattle.succession.proofs.Spills.{apart_after, found_low, spilled_none, spill
 use Rattle.succession.proofs.Spills.{times_all, times_more, times_up}
 use Rattle.words.proofs.KeyLaws.{rows_in}
 use lib.ListN.{length}
-use Prim.Native.Nat.{◌+◌, ◌-◌, ◌≤◌}
+use Prim.Native.Nat.{◌+◌, ◌≤◌}
 use native.Mathlib.Omega.{arith}
 use mathlib.Core.Path.{refl}
 use Rattle.succession.proofs.converse.spill_list.Goals as goal

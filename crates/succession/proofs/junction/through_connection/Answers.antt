@@ -2,7 +2,6 @@ use Rattle.succession.proofs.Walks.{meeting_leads, meeting_none}
 use Rattle.succession.proofs.Absorbed.{took_none}
 use Rattle.succession.specs.ByRow.{Room, Took, rows_of}
 use Rattle.model.specs.Succession.{Entry}
-use borrow.Author.Tests.{not-true, not-false}
 use native.Mathlib.Omega.{arith}
 use mathlib.Core.List.{List}
 use mathlib.Core.Path.{sym, ◌∙◌, subst}

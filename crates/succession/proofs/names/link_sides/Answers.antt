@@ -3,7 +3,7 @@ use Rattle.succession.proofs.Fills.{sided_none, sided_more}
 use Rattle.succession.specs.Named.{Sided}
 use Rattle.words.proofs.KeyLaws.{row_in, rows_in}
 use lib.ListN.{length, set, length-set}
-use Prim.Native.Nat.{ℕ, ◌+◌, ◌*◌, ◌-◌, ◌/◌, ◌<◌}
+use Prim.Native.Nat.{ℕ, ◌+◌, ◌*◌, ◌/◌, ◌<◌}
 use native.Mathlib.Omega.{arith}
 use mathlib.Core.Path.{◌≡◌, refl, ◌∙◌, subst}
 use Rattle.succession.proofs.names.link_sides.Goals as goal

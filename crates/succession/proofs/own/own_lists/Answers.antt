@@ -8,7 +8,7 @@ use Rattle.words.proofs.Joins.{rows_begin}
 use Rattle.words.proofs.Laws.{total_le, total_none}
 use lib.ListN.{length, length-set}
 use mathlib.Core.List.{List}
-use Prim.Native.Nat.{ℕ, ◌+◌, ◌-◌, ◌/◌, ◌≤◌}
+use Prim.Native.Nat.{ℕ, ◌+◌, ◌/◌, ◌≤◌}
 use native.Mathlib.Omega.{arith}
 use mathlib.Core.Path.{◌≡◌, refl, ◌∙◌}
 use Rattle.succession.proofs.own.own_lists.Tie as tie
