@@ -9,7 +9,7 @@ use lib.ListN.{length}
 use native.Mathlib.Omega.{arith}
 use mathlib.Core.List.{List}
 use mathlib.Core.Path.{◌≡◌, sym, ap, ap₂, ◌∙◌, subst}
-use Prim.Native.Nat.{ℕ, ◌+◌, ◌-◌, ◌/◌, ◌≤◌}
+use Prim.Native.Nat.{ℕ, ◌+◌, ◌/◌, ◌≤◌}
 use Rattle.succession.proofs.back.count_lists.Tie as tie
 use Rattle.succession.proofs.back.count_lists.Lts as lts
 use Rattle.succession.proofs.back.count_lists.Reads as reads
@@ -82,20 +82,14 @@ loop-i-init c = (omega arith, total_none _)
 pub count_one-at-requires : goal.count_one-at-requires
 count_one-at-requires c = let turn : In-loop-i = search in
     let start = begun turn in
-    let mine-is = c.list_part-mine.ensures in
+    let mine_is = c.list_part-mine.ensures in
     let rises = start.requires.all_rise (i turn) turn.loop-i-test.true in
-    let own_long = ap length mine-is in
-    let finders-long = ap length c.list_part-finders.ensures in
+    let own_long = ap length mine_is in
+    let finders_long = ap length c.list_part-finders.ensures in
     record {
       by_id = start.requires.by_id;
-      rising = ((
-        subst Rising (sym mine-is) rises,
-        (turn.loop-i-test.true, omega (arith, own_long, finders-long, few turn)),
-      )).0;
-      l_in_bounds = ((
-        subst Rising (sym mine-is) rises,
-        (turn.loop-i-test.true, omega (arith, own_long, finders-long, few turn)),
-      )).1;
+      rising = subst Rising (sym mine_is) rises;
+      l_in_bounds = (turn.loop-i-test.true, omega (arith, own_long, finders_long, few turn));
     }
 
 pub overflow_add-at : goal.overflow_add-at

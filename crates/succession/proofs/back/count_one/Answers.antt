@@ -2,11 +2,10 @@ use Rattle.succession.proofs.Backs.{back_is, count_room, count_turn, direction_i
 use Rattle.succession.specs.Finished.{back_into, two_way_row, wants}
 use lib.Seq.{take_all}
 use lib.ListN.{length}
-use borrow.Author.Tests.{not-true, not-false}
 use native.Mathlib.Omega.{arith}
 use mathlib.Core.List.{List}
 use mathlib.Core.Path.{◌≡◌, refl, sym, ap, ◌∙◌}
-use Prim.Native.Nat.{ℕ, suc, ◌-◌}
+use Prim.Native.Nat.{ℕ, suc}
 use Rattle.succession.proofs.back.count_one.Tie as tie
 use Rattle.succession.proofs.back.count_one.Lts as lts
 use Rattle.succession.proofs.back.count_one.Reads as reads
@@ -34,7 +33,7 @@ module _ (asked : After-two_way) where
 
 pub returns-then-not-two_way : goal.returns-then-not-two_way
 returns-then-not-two_way c = let asked : After-two_way = search in
-    ap length (sym (plain_is _ _ _ _ (direction asked ∙ not-true _ c.if-not-two_way.true-raw)))
+    ap length (sym (plain_is _ _ _ _ (direction asked ∙ c.if-not-two_way.true)))
 
 -- ---- one that is
 pub loop-k-init : goal.loop-k-init
@@ -45,9 +44,9 @@ bounds-finders-k c = omega (arith, c.loop-k-test.true)
 
 pub wanted-asked-requires : goal.wanted-asked-requires
 wanted-asked-requires c = record {
-      by_id = c.requires.by_id;
-      rising = c.requires.rising;
-    }
+  by_id = c.requires.by_id;
+  rising = c.requires.rising;
+}
 
 pub one_if-n-requires : goal.one_if-n-requires
 one_if-n-requires c = let mine = c.args.mine.now in
@@ -63,18 +62,18 @@ loop-k-smaller c = omega (arith, c.loop-k-test.true)
 
 pub loop-k-preserved : goal.loop-k-preserved
 loop-k-preserved c = let mine = c.args.mine.now in
-    let wants-it = wants c.args.lanes.now mine in (
+    let wants_it = wants c.args.lanes.now mine in (
       omega (arith, c.loop-k-test.true),
       c.one_if-n.ensures
-          ∙ count_turn wants-it c.args.finders.now _ mine _ _ c.loop-k-test.true
+          ∙ count_turn wants_it c.args.finders.now _ mine _ _ c.loop-k-test.true
           c.wanted-asked.ensures c.loop-k.invariant.1,
     )
 
 pub returns : goal.returns
 returns c = let asked : After-two_way = search in
     let mine = c.args.mine.now in
-    let wants-it = wants c.args.lanes.now mine in
+    let wants_it = wants c.args.lanes.now mine in
     let all = take_all c.loop-k.k c.args.finders.now (omega (arith, c.loop-k-test.false)) in
     c.loop-k.invariant.1
-    ∙ ap (λ (finders : List ℕ). length (back_into wants-it finders mine)) all
-    ∙ ap length (sym (back_is _ _ _ _ (direction asked ∙ not-false _ c.if-not-two_way.false-raw)))
+    ∙ ap (λ (finders : List ℕ). length (back_into wants_it finders mine)) all
+    ∙ ap length (sym (back_is _ _ _ _ (direction asked ∙ c.if-not-two_way.false)))

@@ -8,7 +8,7 @@ use Rattle.words.proofs.Joins.{rows_begin}
 use Rattle.words.proofs.Laws.{total_none}
 use lib.ListN.{length, length-set}
 use mathlib.Core.List.{List}
-use Prim.Native.Nat.{ℕ, ◌+◌, ◌-◌, ◌/◌, ◌≤◌}
+use Prim.Native.Nat.{ℕ, ◌+◌, ◌/◌, ◌≤◌}
 use native.Mathlib.Nat.{le_refl}
 use native.Mathlib.Omega.{arith}
 use mathlib.Core.Path.{◌≡◌, refl, sym, ap, ap₂, ◌∙◌, subst}
@@ -110,14 +110,8 @@ finish_one-at-requires c = let second : After-list_part-in-loop-i = search in
     let left = tail_size (head turn).loop-i.at (head turn).loop-i.out inside in
     record {
       by_id = start.requires.by_id;
-      rising = ((
-        subst Rising (sym c.list_part.ensures) rises,
-        (lt, omega (arith, room turn, left, ap length (list_is second))),
-      )).0;
-      l_in_bounds = ((
-        subst Rising (sym c.list_part.ensures) rises,
-        (lt, omega (arith, room turn, left, ap length (list_is second))),
-      )).1;
+      rising = subst Rising (sym c.list_part.ensures) rises;
+      l_in_bounds = (lt, omega (arith, room turn, left, ap length (list_is second)));
     }
 
 pub overflow_add-at : goal.overflow_add-at
@@ -136,22 +130,22 @@ loop-i-preserved c = let second : After-list_part-in-loop-i = search in
     let turn : In-loop-i = search in
     let start = begun turn in
     let loop = (head turn).loop-i in
-    let inv = loop.inv in
+    let inv = loop.invariant in
     let lt = turn.loop-i-test.true in
     let lists = onward start in
     let one_more = start_more lists (i turn) in
     let size = c.finish_one-at.ensures.size ∙ ap length (list_is second) in
     let room_for = start.requires.lanes_in_bounds.2 in
-    let out-is =
-    tail_more lists (long start) (no_longer start) (rows start) (i turn) _ loop.out-1 lt room_for inv.1
+    let out_is =
+    tail_more lists (long start) (no_longer start) (rows start) (i turn) _ loop.out lt room_for inv.1
     inv.4 inv.5 (list_is second) c.finish_one-at.ensures.list in (
       omega (arith, lt),
       omega (arith, inv.1, size, one_more),
       length-set loop.offsets (i turn) loop.at ∙ inv.2,
       starts_more (start_of lists) (i turn) _ _ _ inv.3 inv.1 (omega (arith, lt, start.requires.lanes_in_bounds.0)),
-      more_long lists (long start) (no_longer start) (rows start) (i turn) _ loop.out-1 lt room_for inv.1
-          inv.4 out-is,
-      out-is,
+      more_long lists (long start) (no_longer start) (rows start) (i turn) _ loop.out lt room_for inv.1
+          inv.4 out_is,
+      out_is,
     )
 
 -- ---- past the loop: where the last list ends

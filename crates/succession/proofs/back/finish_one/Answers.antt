@@ -3,7 +3,6 @@ use Rattle.succession.proofs.Backs.{copied, direction_is, finish_back, finish_le
 use Rattle.succession.specs.Finished.{Taking, two_way_row, wants}
 use Rattle.succession.specs.Runs.{Rising}
 use Rattle.words.proofs.Laws.{written_length}
-use borrow.Author.Tests.{not-true, not-false}
 use lib.ListN.{length}
 use Prim.Native.Nat.{suc, ◌≤◌}
 use native.Mathlib.Omega.{arith}
@@ -47,7 +46,7 @@ module _ (asked : After-two_way) where
 -- ---- a lane that is not two-way
 pub returns-then-not-two_way : goal.returns-then-not-two_way
 returns-then-not-two_way c = let asked : After-two_way = search in
-    finish_plain _ _ _ _ _ c.copy.ensures (direction asked ∙ not-true _ c.if-not-two_way.true-raw)
+    finish_plain _ _ _ _ _ c.copy.ensures (direction asked ∙ c.if-not-two_way.true)
 
 -- ---- one that is
 pub take_back-requires : goal.take_back-requires
@@ -57,23 +56,23 @@ take_back-requires c = let asked : After-two_way = search in
     let mine = start.args.mine.now in
     let finders = start.args.finders.now in
     let l = start.args.l in
-    let Copy-is = c.copy.ensures in
-    let two_way = direction asked ∙ not-false _ c.if-not-two_way.false-raw in
-    let same = ap length Copy-is ∙ written_length mine start.args.run.now (own_fits start) in
-    let as_long = finish_room lanes mine finders l _ Copy-is two_way in
+    let copy_is = c.copy.ensures in
+    let two_way = direction asked ∙ c.if-not-two_way.false in
+    let same = ap length copy_is ∙ written_length mine start.args.run.now (own_fits start) in
+    let as_long = finish_room lanes mine finders l _ copy_is two_way in
     let ready : Taking (wants lanes mine) finders (length mine) c.copy.new.out =
     record {
-      rising = subst Rising (sym (copied lanes mine finders l _ Copy-is)) start.requires.rising;
+      rising = subst Rising (sym (copied lanes mine finders l _ copy_is)) start.requires.rising;
       begun = omega (arith, same, own_fits start);
       room = omega (arith, same, as_long, start.requires.l_in_bounds.1);
     } in
     record {
       by_id = start.requires.by_id;
-      rising = ((start.requires.rising, ready)).0;
-      taking = ((start.requires.rising, ready)).1;
+      rising = start.requires.rising;
+      taking = ready;
     }
 
 pub returns : goal.returns
 returns c = let asked : After-two_way = search in
-    finish_back _ _ _ _ _ c.copy.ensures (direction asked ∙ not-false _ c.if-not-two_way.false-raw)
+    finish_back _ _ _ _ _ c.copy.ensures (direction asked ∙ c.if-not-two_way.false)
     c.take_back.ensures

@@ -22,5 +22,5 @@ has-requires c = c.requires.rising
 pub returns : goal.returns
 unfolding wants
 returns c = let lanes = c.args.lanes.now in
-    let two-way-is = c.two_way.ensures ∙ ap (two_way_row lanes) c.find_id-f.ensures in
-    c.both.ensures ∙ ap₂ ◌&&◌ two-way-is (ap not c.has.ensures)
+    let two_way_is = c.two_way.ensures ∙ ap (two_way_row lanes) c.find_id-f.ensures in
+    c.both.ensures ∙ ap₂ ◌&&◌ two_way_is (ap not c.has.ensures)

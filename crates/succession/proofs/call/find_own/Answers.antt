@@ -40,9 +40,9 @@ link_rows-requires c = let start : Start = search in
     let new = length-replicate {A = ℕ} 32768 0 in
     record {
       roads_len_bound = (few.few_roads, fewer_junctions t admitted, few.few_connections);
-      heads_len = (((lent.heads_long, lent.next_long), ((new, new), start.requires.linked.named))).0;
-      sides_len = (((lent.heads_long, lent.next_long), ((new, new), start.requires.linked.named))).1.0;
-      chained = (((lent.heads_long, lent.next_long), ((new, new), start.requires.linked.named))).1.1;
+      heads_len = (lent.heads_long, lent.next_long);
+      sides_len = (new, new);
+      chained = start.requires.linked.named;
     }
 
 -- ---- once names are rows
@@ -94,22 +94,12 @@ own_lists-requires c = let named : After-link_rows = search in
     record {
       sound = sound t admitted linked rows.0 rows.1 lent.owner_long lent.key_heads_long lent.key_next_long
           (sides_long named) (ends_long named);
-      chained = ((
-        c.link_connections.ensures,
-        (
-          omega (arith, lent.offsets_long, fewer_lanes t admitted),
-          omega (arith, lent.own_long),
-          omega (arith, lent.own_long, fit),
-        ),
-      )).0;
-      room = ((
-        c.link_connections.ensures,
-        (
-          omega (arith, lent.offsets_long, fewer_lanes t admitted),
-          omega (arith, lent.own_long),
-          omega (arith, lent.own_long, fit),
-        ),
-      )).1;
+      chained = c.link_connections.ensures;
+      room = (
+        omega (arith, lent.offsets_long, fewer_lanes t admitted),
+        omega (arith, lent.own_long),
+        omega (arith, lent.own_long, fit),
+      );
     }
 
 module _ (chained : After-link_connections) where

@@ -19,53 +19,32 @@ module _ (start : Start) where
 
 pub link_names-requires : goal.link_names-requires
 link_names-requires c = record {
-      w_bound = (
-        omega arith,
-        omega arith,
-        rows_in (length c.args.junctions.now) 5,
-        c.requires.roads_len_bound.1,
-      );
-      empty = fresh;
-    }
+  w_bound = (
+    omega arith,
+    omega arith,
+    rows_in (length c.args.junctions.now) 5,
+    c.requires.roads_len_bound.1,
+  );
+  empty = fresh;
+}
 
 pub link_sides-requires : goal.link_sides-requires
 link_sides-requires c = let start : Start = search in
     let few = start.requires.roads_len_bound in
-    let outs = start.requires.1.1 in
     record {
-      roads_len_bound = (few.0, start.requires.heads_len.0, chains_long start, few.2, outs.0.0);
-      chained = outs.1;
+      roads_len_bound = (few.0, start.requires.heads_len.0, chains_long start, few.2, start.requires.sides_len.0);
+      chained = start.requires.chained;
     }
 
 pub link_ends-requires : goal.link_ends-requires
 link_ends-requires c = let start : Start = search in
     let few = start.requires.roads_len_bound in
-    let outs = start.requires.1.1 in
-    let kept = (c.link_names.auto.heads, c.link_names.auto.next) in
     let new = length-replicate {A = ℕ} 16384 0 in
     record {
-      roads_len_bound = (few.0, start.requires.heads_len.0, chains_long start, outs.0.1);
-      chained = ((
-        outs.1,
-        (
-          (few.1, kept.0 ∙ new, omega (arith, few.1, kept.1.0, new)),
-          c.link_names.ensures.chained,
-        ),
-      )).0;
-      junctions_len_bound = ((
-        outs.1,
-        (
-          (few.1, kept.0 ∙ new, omega (arith, few.1, kept.1.0, new)),
-          c.link_names.ensures.chained,
-        ),
-      )).1.0;
-      chained_2 = ((
-        outs.1,
-        (
-          (few.1, kept.0 ∙ new, omega (arith, few.1, kept.1.0, new)),
-          c.link_names.ensures.chained,
-        ),
-      )).1.1;
+      roads_len_bound = (few.0, start.requires.heads_len.0, chains_long start, start.requires.sides_len.1);
+      chained = start.requires.chained;
+      junctions_len_bound = (few.1, c.link_names.auto.heads ∙ new, omega (arith, few.1, c.link_names.auto.next, new));
+      chained_2 = c.link_names.ensures.chained;
     }
 
 pub returns : goal.returns

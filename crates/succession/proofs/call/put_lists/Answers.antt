@@ -62,10 +62,10 @@ module _ (start : Start) where
 
 pub count_lists-total-requires : goal.count_lists-total-requires
 count_lists-total-requires c = record {
-      by_id = c.requires.by_id;
-      all_rise = ((c.requires.all_rise, c.requires.fids_bound)).0;
-      fids_bound = ((c.requires.all_rise, c.requires.fids_bound)).1;
-    }
+  by_id = c.requires.by_id;
+  all_rise = c.requires.all_rise;
+  fids_bound = c.requires.fids_bound;
+}
 
 -- ---- the four refusals
 pub returns-then-successor_offsets-n : goal.returns-then-successor_offsets-n
@@ -90,16 +90,16 @@ module _ (past : Else-predecessor_ids-total) where
   abbrev counted : After-count_lists-total
   counted = search
 
-  onward_starts_fit : rows begun + 1 ≤ length begun.args.successor-offsets.now
+  onward_starts_fit : rows begun + 1 ≤ length begun.args.successor_offsets.now
   onward_starts_fit = let first : Else-successor_offsets-n = search in omega (arith, first.if-successor_offsets-n.false)
 
-  onward_ids_fit : start_of (onward begun) (rows begun) ≤ length begun.args.successor-ids.now
+  onward_ids_fit : start_of (onward begun) (rows begun) ≤ length begun.args.successor_ids.now
   onward_ids_fit = let second : Else-successor_ids-total = search in omega (arith, second.if-successor_ids-total.false, counted.count_lists-total.ensures)
 
-  before_starts_fit : rows begun + 1 ≤ length begun.args.predecessor-offsets.now
+  before_starts_fit : rows begun + 1 ≤ length begun.args.predecessor_offsets.now
   before_starts_fit = let third : Else-predecessor_offsets-n = search in omega (arith, third.if-predecessor_offsets-n.false)
 
-  before_ids_fit : start_of (before begun) (rows begun) ≤ length begun.args.predecessor-ids.now
+  before_ids_fit : start_of (before begun) (rows begun) ≤ length begun.args.predecessor_ids.now
   before_ids_fit = omega (arith, past.if-predecessor_ids-total.false, counted.count_lists-total.ensures, as_many begun)
 
 pub finish_lists-requires : goal.finish_lists-requires
@@ -107,15 +107,15 @@ finish_lists-requires c = let past : Else-predecessor_ids-total = search in
     let start = begun past in
     record {
       by_id = start.requires.by_id;
-      all_rise = ((start.requires.all_rise, (omega (arith, onward_starts_fit past), few start, onward_ids_fit past))).0;
-      lanes_in_bounds = ((start.requires.all_rise, (omega (arith, onward_starts_fit past), few start, onward_ids_fit past))).1;
+      all_rise = start.requires.all_rise;
+      lanes_in_bounds = (omega (arith, onward_starts_fit past), few start, onward_ids_fit past);
     }
 
 pub converse-requires : goal.converse-requires
 converse-requires c = let past : Else-predecessor_ids-total = search in
     let start = begun past in
     let lists = c.finish_lists.ensures in
-    let wide : rows start < length start.args.successor-offsets.now = omega (arith, onward_starts_fit past) in
+    let wide : rows start < length start.args.successor_offsets.now = omega (arith, onward_starts_fit past) in
     let lanes = start.args.lanes.now in
     let onward_is = onward_size lanes (onward start) _ _ _ _ lists wide (onward_ids_fit past) in
     let before_is = before_size lanes (onward start) _ _ _ _ lists wide (onward_ids_fit past) in
@@ -142,7 +142,7 @@ returns c = let past : Else-predecessor_ids-total = search in
     let n = rows start in
     let count = (counted past).count_lists-total.ensures in
     let lists = c.finish_lists.ensures in
-    let wide : n < length start.args.successor-offsets.now = omega (arith, onward_starts_fit past) in
+    let wide : n < length start.args.successor_offsets.now = omega (arith, onward_starts_fit past) in
     let befores = before_filled _ _ _ _ _ _ lists wide (onward_ids_fit past) _ _ _ _ c.converse.ensures in
     let counts_are = ap₂ (λ (a b : ℕ). (n + 1) ∷ a ∷ (n + 1) ∷ b ∷ []) count (count ∙ sym (as_many start)) in
     let room =

@@ -3,7 +3,6 @@ use Rattle.words.proofs.Chains.{fresh}
 use Rattle.tables.specs.Verdicts.{refusal_of}
 use Rattle.tables.proofs.Order.{is_none, is_some_lem}
 use lib.ListN.{length-replicate}
-use borrow.Author.Tests.{not-true, not-false}
 use mathlib.Core.Option.{none}
 use mathlib.Core.Path.{◌≡◌, sym, ◌∙◌}
 use Prim.Native.Nat.{ℕ}
@@ -26,14 +25,14 @@ Start = lts.Start tie.the-claims reads.Pre reads.Post tie.handed_clauses
 
 pub succession_verdict-v-requires : goal.succession_verdict-v-requires
 succession_verdict-v-requires c = record {
-      empty = fresh;
-      owner_len = ((length-replicate {A = ℕ} 16384 0, fresh)).0;
-      empty_2 = ((length-replicate {A = ℕ} 16384 0, fresh)).1;
-    }
+  empty = fresh;
+  owner_len = length-replicate {A = ℕ} 16384 0;
+  empty_2 = fresh;
+}
 
 -- ---- refused
 pub returns-then-not-admitted : goal.returns-then-not-admitted
-returns-then-not-admitted c = let barred = sym c.admitted.ensures ∙ not-true _ c.if-not-admitted.true-raw in
+returns-then-not-admitted c = let barred = sym c.admitted.ensures ∙ c.if-not-admitted.true in
     record {
       result_value = c.succession_verdict-v.ensures.result_value;
       filled = λ unrefused. absurd (is_some_lem (refusal_of c.succession_verdict-v.result) barred unrefused);
@@ -48,7 +47,7 @@ module _ (past : Else-not-admitted) where
   unrefused =
       let asked : After-admitted = search in
       is_none (refusal_of judged.succession_verdict-v.result)
-      (sym asked.admitted.ensures ∙ not-false _ past.if-not-admitted.false-raw)
+      (sym asked.admitted.ensures ∙ past.if-not-admitted.false)
 
 module _ (judged : After-succession_verdict-v) where
   abbrev start : Start
@@ -56,40 +55,26 @@ module _ (judged : After-succession_verdict-v) where
 
 pub find_own-requires : goal.find_own-requires
 find_own-requires c = let past : Else-not-admitted = search in
-    let verdict = (judged past).succession-verdict in
-    let kept = verdict.kept.1.1.1.1.1.1.1 in
+    let verdict = (judged past).succession_verdict-v in
+    let kept = verdict.auto in
     let new = length-replicate {A = ℕ} 16384 0 in
     let outs = (start (judged past)).requires.offsets_len in
     record {
-      t_value = sym verdict.ensures.0 ∙ unrefused past;
-      linked = ((
-        verdict.ensures.1 (unrefused past),
-        record {
-          heads_long = kept.0 ∙ new;
-          next_long = kept.1.0 ∙ new;
-          owner_long = kept.1.1.0 ∙ new;
-          key_heads_long = kept.1.1.1.0 ∙ new;
-          key_next_long = kept.1.1.1.1.0 ∙ new;
-          offsets_long = outs.0;
-          own_long = outs.1;
-        },
-      )).0;
-      lent = ((
-        verdict.ensures.1 (unrefused past),
-        record {
-          heads_long = kept.0 ∙ new;
-          next_long = kept.1.0 ∙ new;
-          owner_long = kept.1.1.0 ∙ new;
-          key_heads_long = kept.1.1.1.0 ∙ new;
-          key_next_long = kept.1.1.1.1.0 ∙ new;
-          offsets_long = outs.0;
-          own_long = outs.1;
-        },
-      )).1;
+      t_value = sym verdict.ensures.result_value ∙ unrefused past;
+      linked = verdict.ensures.linked (unrefused past);
+      lent = record {
+        heads_long = kept.heads ∙ new;
+        next_long = kept.next ∙ new;
+        owner_long = kept.owner ∙ new;
+        key_heads_long = kept.kheads ∙ new;
+        key_next_long = kept.knext ∙ new;
+        offsets_long = outs.0;
+        own_long = outs.1;
+      };
     }
 
 pub returns : goal.returns
 returns c = record {
-      result_value = c.succession_verdict-v.ensures.result_value;
-      filled = λ unrefused. c.find_own.ensures;
-    }
+  result_value = c.succession_verdict-v.ensures.result_value;
+  filled = λ unrefused. c.find_own.ensures;
+}

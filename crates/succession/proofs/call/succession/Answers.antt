@@ -13,7 +13,6 @@ use Rattle.model.specs.Calls.{ListOutputs, list_content, list_writing, successio
 use Rattle.model.specs.Lookup.{list_part}
 use Rattle.model.specs.Rules.{first_broken}
 use Rattle.model.specs.Tables.{Tables, lane_tables}
-use borrow.Author.Tests.{not-true, not-false}
 use native.Mathlib.Nat.{le_refl}
 use native.Mathlib.Omega.{arith}
 use mathlib.Core.Bool.{true}
@@ -54,8 +53,8 @@ module _ (resolved : After-resolve_own-v) where
 
   abbrev outs : ListOutputs
   outs =
-      outputs start.args.successor-offsets.now start.args.successor-ids.now
-      start.args.predecessor-offsets.now start.args.predecessor-ids.now
+      outputs start.args.successor_offsets.now start.args.successor_ids.now
+      start.args.predecessor_offsets.now start.args.predecessor_ids.now
 
   abbrev verdict : Verdict
   verdict = resolved.resolve_own-v.result
@@ -75,7 +74,7 @@ module _ (past : Else-not-admitted) where
   resolved = search
 
   free : admits (verdict resolved) ≡ true
-  free = let judged : After-admitted = search in sym judged.admitted.ensures ∙ not-false _ past.if-not-admitted.false-raw
+  free = let judged : After-admitted = search in sym judged.admitted.ensures ∙ past.if-not-admitted.false
 
   unrefused : refusal_of (verdict resolved) ≡ none
   unrefused = is_none (refusal_of (verdict resolved)) free
@@ -97,14 +96,15 @@ module _ (past : Else-not-admitted) where
       (omega (arith, length-replicate {A = ℕ} 65536 0, few_own))
 
 pub resolve_own-v-requires : goal.resolve_own-v-requires
-resolve_own-v-requires c = (length-replicate {A = ℕ} 16385 0, length-replicate {A = ℕ} 65536 0)
+resolve_own-v-requires c =
+    record { offsets_len = (length-replicate {A = ℕ} 16385 0, length-replicate {A = ℕ} 65536 0) }
 
 -- ---- refused
 pub returns-then-not-admitted : goal.returns-then-not-admitted
 unfolding succession_call
 returns-then-not-admitted c = let resolved : After-resolve_own-v = search in
     let t = tables resolved in
-    let barred = sym c.admitted.ensures ∙ not-true _ c.if-not-admitted.true-raw in
+    let barred = sym c.admitted.ensures ∙ c.if-not-admitted.true in
     call_refused list_writing (succession_rules t) (list_content t) (outs resolved) (verdict resolved) barred
     (first_broken_lem resolved)
 
@@ -115,18 +115,9 @@ write_lists-requires c = let past : Else-not-admitted = search in
     let as_long = start_same _ (own_list t) n (read_own past) n (le_refl n) in
     record {
       lanes_len_bound = (few past, ids_single t (admitted past));
-      all_rise = ((
-        own_rising t (admitted past) _ _ (read_own past),
-        (omega (arith, as_long, few_own past), onward_many t (admitted past) _ _ (read_own past)),
-      )).0;
-      lanes_bound = ((
-        own_rising t (admitted past) _ _ (read_own past),
-        (omega (arith, as_long, few_own past), onward_many t (admitted past) _ _ (read_own past)),
-      )).1.0;
-      as_many = ((
-        own_rising t (admitted past) _ _ (read_own past),
-        (omega (arith, as_long, few_own past), onward_many t (admitted past) _ _ (read_own past)),
-      )).1.1;
+      all_rise = own_rising t (admitted past) _ _ (read_own past);
+      lanes_bound = omega (arith, as_long, few_own past);
+      as_many = onward_many t (admitted past) _ _ (read_own past);
     }
 
 pub returns : goal.returns

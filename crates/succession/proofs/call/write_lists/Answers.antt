@@ -107,36 +107,18 @@ converse-requires c = let linked : After-link_ids = search in
 pub put_lists-requires : goal.put_lists-requires
 put_lists-requires c = let turned : After-converse = search in
     let start = opened (linked turned) in
-    let found-by = found turned in
+    let found_by = found turned in
     record {
       by_id = by_id (linked turned);
-      all_rise = ((
-        start.requires.all_rise,
-        (
-          finished_few _ _ _ _ _ found-by start.requires.lanes_len_bound.1 start.requires.lanes_bound,
-          finished_many _ _ _ _ _ found-by start.requires.as_many,
-        ),
-      )).0;
-      fids_bound = ((
-        start.requires.all_rise,
-        (
-          finished_few _ _ _ _ _ found-by start.requires.lanes_len_bound.1 start.requires.lanes_bound,
-          finished_many _ _ _ _ _ found-by start.requires.as_many,
-        ),
-      )).1.0;
-      as_many = ((
-        start.requires.all_rise,
-        (
-          finished_few _ _ _ _ _ found-by start.requires.lanes_len_bound.1 start.requires.lanes_bound,
-          finished_many _ _ _ _ _ found-by start.requires.as_many,
-        ),
-      )).1.1;
+      all_rise = start.requires.all_rise;
+      fids_bound = finished_few _ _ _ _ _ found_by start.requires.lanes_len_bound.1 start.requires.lanes_bound;
+      as_many = finished_many _ _ _ _ _ found_by start.requires.as_many;
     }
 
 pub returns : goal.returns
 returns c = let turned : After-converse = search in
     let args = (opened (linked turned)).args in
-    let lent = outputs args.successor-offsets.now args.successor-ids.now args.predecessor-offsets.now
-    args.predecessor-ids.now in
+    let lent = outputs args.successor_offsets.now args.successor_ids.now args.predecessor_offsets.now
+    args.predecessor_ids.now in
     c.put_lists.ensures
     ∙ ap (λ (content : ListOutputs). written_or9 list_writing content lent) (finished_content _ _ _ _ _ (found turned))

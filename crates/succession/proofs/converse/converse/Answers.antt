@@ -78,8 +78,8 @@ spill_all-requires c = let counted : After-count_all = search in
     } in
     record {
       by_id = c.requires.by_id;
-      runs_for = ((ready, λ r lr. c.clear.ensures r (omega (arith, lr, as_wide)))).0;
-      by_index = ((ready, λ r lr. c.clear.ensures r (omega (arith, lr, as_wide)))).1;
+      runs_for = ready;
+      by_index = λ r lr. c.clear.ensures r (omega (arith, lr, as_wide));
     }
 
 pub returns : goal.returns

@@ -5,7 +5,7 @@ use Rattle.model.specs.Lookup.{list_part}
 use Rattle.model.specs.Lists.{count}
 use lib.ListN.{length}
 use mathlib.Core.List.{List}
-use Prim.Native.Nat.{ℕ, ◌+◌, ◌-◌, ◌/◌}
+use Prim.Native.Nat.{ℕ, ◌+◌, ◌/◌}
 use native.Mathlib.Omega.{arith}
 use mathlib.Core.Path.{◌≡◌, sym, ap, ◌∙◌}
 use Rattle.succession.proofs.converse.count_all.Goals as goal
@@ -29,7 +29,7 @@ count_list-requires c = let lanes = c.args.lanes.now in
         omega (arith, so_far.wide, c.requires.lanes_in_bounds.0),
         λ r lr.
             let few = listed_le offsets ids (id_at lanes r) a in
-            omega (arith, so_far.counts-1 r lr, c.requires.lanes_in_bounds.1 r lr, c.requires.lanes_in_bounds.2, few, one_more, below, long),
+            omega (arith, so_far.counts r lr, c.requires.lanes_in_bounds.1 r lr, c.requires.lanes_in_bounds.2, few, one_more, below, long),
       );
     }
 

@@ -2,7 +2,7 @@ use Rattle.succession.proofs.Spills.{counted_fewer, counted_none, counted_same, 
 use Rattle.succession.proofs.Spills.{times_all, times_few, times_more}
 use Rattle.words.proofs.KeyLaws.{rows_in}
 use lib.ListN.{length}
-use Prim.Native.Nat.{◌-◌, ◌/◌, ◌<◌, ◌≤◌}
+use Prim.Native.Nat.{◌/◌, ◌<◌, ◌≤◌}
 use native.Mathlib.Omega.{arith}
 use mathlib.Core.Path.{refl}
 use Rattle.succession.proofs.converse.count_list.Goals as goal
@@ -29,7 +29,7 @@ count_one-requires c = let lanes = c.args.lanes.now in
       λ r is-r.
           let lr : r < length lanes / 10 = omega (arith, is-r, low) in
           let few = times_few lanes c.args.list.now c.loop-k.k r c.loop-k-test.true in
-          omega (arith, so_far.counts-1 r lr, c.requires.lanes_in_bounds.1 r lr, few),
+          omega (arith, so_far.counts r lr, c.requires.lanes_in_bounds.1 r lr, few),
     )
 
 pub overflow_add-k : goal.overflow_add-k

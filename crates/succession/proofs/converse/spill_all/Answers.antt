@@ -1,7 +1,7 @@
 use Rattle.succession.proofs.Spreads.{spread_all, spread_more, spread_none, spread_room}
 use Rattle.words.proofs.KeyLaws.{row_in, rows_in}
 use lib.ListN.{length}
-use Prim.Native.Nat.{ℕ, ◌+◌, ◌-◌, ◌*◌, ◌/◌, ◌<◌}
+use Prim.Native.Nat.{ℕ, ◌+◌, ◌*◌, ◌/◌, ◌<◌}
 use native.Mathlib.Omega.{arith}
 use mathlib.Core.Path.{◌≡◌}
 use Rattle.succession.proofs.converse.spill_all.Tie as tie
@@ -30,9 +30,9 @@ bounds-lanes-a c = omega (arith, row_fits (length c.args.lanes.now) _ c.loop-a-t
 
 pub spill_list-requires : goal.spill_list-requires
 spill_list-requires c = record {
-      by_id = c.requires.by_id;
-      apart = spread_room _ _ _ c.requires.runs_for c.loop-a-test.true c.loop-a.invariant.1 c.list_part.ensures;
-    }
+  by_id = c.requires.by_id;
+  apart = spread_room _ _ _ c.requires.runs_for c.loop-a-test.true c.loop-a.invariant.1 c.list_part.ensures;
+}
 
 pub overflow_add-a : goal.overflow_add-a
 overflow_add-a c = omega (arith, c.loop-a-test.true)
@@ -46,10 +46,10 @@ module _ (head : At-loop-a) where
 
 pub loop-a-preserved : goal.loop-a-preserved
 loop-a-preserved c = let head : At-loop-a = search in (
-      omega (arith, c.loop-a-test.true),
-      spread_more _ _ _ (begun head).requires.runs_for c.loop-a-test.true head.loop-a.invariant.1
-          c.list_part.ensures c.spill_list.ensures,
-    )
+  omega (arith, c.loop-a-test.true),
+  spread_more _ _ _ (begun head).requires.runs_for c.loop-a-test.true head.loop-a.invariant.1
+      c.list_part.ensures c.spill_list.ensures,
+)
 
 pub shape_of-used : goal.shape_of-used
 shape_of-used c = c.loop-a.invariant.1.wide

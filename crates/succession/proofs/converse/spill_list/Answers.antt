@@ -2,7 +2,7 @@ use Rattle.succession.proofs.Spills.{apart_after, found_low, spilled_none, spill
 use Rattle.succession.proofs.Spills.{times_all, times_more, times_up}
 use Rattle.words.proofs.KeyLaws.{rows_in}
 use lib.ListN.{length}
-use Prim.Native.Nat.{◌+◌, ◌-◌, ◌≤◌}
+use Prim.Native.Nat.{◌+◌, ◌≤◌}
 use native.Mathlib.Omega.{arith}
 use mathlib.Core.Path.{refl}
 use Rattle.succession.proofs.converse.spill_list.Goals as goal
@@ -41,11 +41,11 @@ loop-k-smaller c = omega (arith, c.loop-k-test.true)
 
 pub loop-k-preserved : goal.loop-k-preserved
 loop-k-preserved c = (
-      omega (arith, c.loop-k-test.true),
-      spilled_then c.loop-k.invariant.1 c.spill_one.ensures
-          (times_more c.args.lanes.now c.args.list.now c.loop-k.k
-          c.requires.by_id.once c.loop-k-test.true c.find_id-f.ensures),
-    )
+  omega (arith, c.loop-k-test.true),
+  spilled_then c.loop-k.invariant.1 c.spill_one.ensures
+      (times_more c.args.lanes.now c.args.list.now c.loop-k.k
+      c.requires.by_id.once c.loop-k-test.true c.find_id-f.ensures),
+)
 
 pub shape_of-used : goal.shape_of-used
 shape_of-used c = c.loop-k.invariant.1.counted.wide

@@ -56,23 +56,23 @@ slice_bounds-put_in-start c = let past : Else-f-eq0 = search in
 pub put_in-requires : goal.put_in-requires
 put_in-requires c = let past : Else-f-eq0 = search in
     let out = (start past).args.out.now in
-    let at-is = c.word-at.ensures.0 in
-    let used-is = c.word-u.ensures.0 in
-    let inside : c.word-at.result ≤ length out = omega (arith, room past, at-is) in (
-      subst Rising (sym (tail_run _ out inside _ _ _ at-is used-is)) ((start past).requires.1.rising (row past) (low past)),
-      omega (arith, tail_size _ out inside, room past, at-is, used-is),
+    let at_is = c.word-at.ensures.0 in
+    let used_is = c.word-u.ensures.0 in
+    let inside : c.word-at.result ≤ length out = omega (arith, room past, at_is) in (
+      subst Rising (sym (tail_run _ out inside _ _ _ at_is used_is)) ((start past).requires.1.rising (row past) (low past)),
+      omega (arith, tail_size _ out inside, room past, at_is, used_is),
     )
 
 pub overflow_add-used : goal.overflow_add-used
 overflow_add-used c = let past : Else-f-eq0 = search in
     let begin = start past in
     let ends = run_ends past.if-f-eq0.false begin.requires.0 begin.requires.1 in
-    omega (arith, ends, c.shared_slice_known-1.given (row past + 1))
+    omega (arith, ends, c.type_inv.offsets (row past + 1))
 
 pub returns : goal.returns
 returns c = let past : Else-f-eq0 = search in
     let out = (start past).args.out.now in
-    let at-is = c.word-at.ensures.0 in
-    let inside : c.word-at.result ≤ length out = omega (arith, room past, at-is) in
+    let at_is = c.word-at.ensures.0 in
+    let inside : c.word-at.result ≤ length out = omega (arith, room past, at_is) in
     put_into past.if-f-eq0.false (start past).requires.0 (start past).requires.1 (start past).args.id.0 refl
-    (tail_put _ out inside _ _ _ at-is c.word-u.ensures.0 _ _ c.put_in.ensures)
+    (tail_put _ out inside _ _ _ at_is c.word-u.ensures.0 _ _ c.put_in.ensures)

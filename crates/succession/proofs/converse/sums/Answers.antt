@@ -2,7 +2,7 @@ use Rattle.succession.proofs.Packing.{starts_more, starts_none}
 use Rattle.succession.specs.Packs.{sum_of_first, word_at}
 use Rattle.words.proofs.Laws.{total_le, total_more, total_none}
 use lib.ListN.{length-set}
-use Prim.Native.Nat.{ℕ, ◌+◌, ◌-◌, ◌≤◌}
+use Prim.Native.Nat.{ℕ, ◌+◌, ◌≤◌}
 use native.Mathlib.Omega.{arith}
 use mathlib.Core.Path.{◌≡◌, refl, ◌∙◌}
 use Rattle.succession.proofs.converse.sums.Tie as tie

@@ -43,7 +43,7 @@ take_in-requires c = let start : Start = search in
     let one =
     one_long args.both args.n args.lanes.now (flag args.contact) args.run.now (within start)
     args.row c.if-row-eq0.false in
-    (start.requires.room.rising, omega (arith, start.requires.room.fits, one))
+    record { rising = (start.requires.room.rising, omega (arith, start.requires.room.fits, one)) }
 
 pub returns : goal.returns
 returns c = let start : Start = search in

@@ -49,45 +49,15 @@ through_junction-requires c = let else1 : Else-roads-at-ne1 = search in
     let b = start.requires.in_bounds.3 (eq-eqb (get_or roads (at + 1) 0) 1 c.if-roads-at-eq1.true) in
     record {
       sound = start.requires.sound;
-      chained = ((
-        start.requires.chained,
-        (
-          (omega (arith, b, c.if-to-eq0.false), c.word.ensures.1),
-          subst (λ (es : List Entry). Room start.args.n es start.args.run.now)
-              (cross_junction (rows_of roads start.args.sections.now start.args.junctions.now
-              start.args.connections.now start.args.pairs.now start.args.lanes.now
-              start.args.owner.now start.args.sides.now start.args.ends.now)
-              start.args.l at start.args.to start.args.link else1.if-roads-at-ne1.false
-              c.if-roads-at-eq1.true c.if-to-eq0.false c.word.result
-              c.word.ensures.0) start.requires.room,
-        ),
-      )).0;
-      in_bounds = ((
-        start.requires.chained,
-        (
-          (omega (arith, b, c.if-to-eq0.false), c.word.ensures.1),
-          subst (λ (es : List Entry). Room start.args.n es start.args.run.now)
-              (cross_junction (rows_of roads start.args.sections.now start.args.junctions.now
-              start.args.connections.now start.args.pairs.now start.args.lanes.now
-              start.args.owner.now start.args.sides.now start.args.ends.now)
-              start.args.l at start.args.to start.args.link else1.if-roads-at-ne1.false
-              c.if-roads-at-eq1.true c.if-to-eq0.false c.word.result
-              c.word.ensures.0) start.requires.room,
-        ),
-      )).1.0;
-      room = ((
-        start.requires.chained,
-        (
-          (omega (arith, b, c.if-to-eq0.false), c.word.ensures.1),
-          subst (λ (es : List Entry). Room start.args.n es start.args.run.now)
-              (cross_junction (rows_of roads start.args.sections.now start.args.junctions.now
-              start.args.connections.now start.args.pairs.now start.args.lanes.now
-              start.args.owner.now start.args.sides.now start.args.ends.now)
-              start.args.l at start.args.to start.args.link else1.if-roads-at-ne1.false
-              c.if-roads-at-eq1.true c.if-to-eq0.false c.word.result
-              c.word.ensures.0) start.requires.room,
-        ),
-      )).1.1;
+      chained = start.requires.chained;
+      in_bounds = (omega (arith, b, c.if-to-eq0.false), c.word.ensures.1);
+      room = subst (λ (es : List Entry). Room start.args.n es start.args.run.now)
+          (cross_junction (rows_of roads start.args.sections.now start.args.junctions.now
+          start.args.connections.now start.args.pairs.now start.args.lanes.now
+          start.args.owner.now start.args.sides.now start.args.ends.now)
+          start.args.l at start.args.to start.args.link else1.if-roads-at-ne1.false
+          c.if-roads-at-eq1.true c.if-to-eq0.false c.word.result
+          c.word.ensures.0) start.requires.room;
     }
 
 pub returns-then-roads-at-eq1 : goal.returns-then-roads-at-eq1
@@ -115,10 +85,10 @@ returns-then-lanes-link-ne1 c = let both = c.args.both in let n = c.args.n in le
 
 pub end_section-section-requires : goal.end_section-section-requires
 end_section-section-requires c = (
-      c.requires.in_bounds.4
-          (ne_eqb (get_or c.args.roads.now (c.args.at + 1) 0) 1 c.if-roads-at-eq1.false),
-      record { few = c.requires.sound.few_roads; parts = c.requires.sound.section_parts },
-    )
+  c.requires.in_bounds.4
+      (ne_eqb (get_or c.args.roads.now (c.args.at + 1) 0) 1 c.if-roads-at-eq1.false),
+  record { few = c.requires.sound.few_roads; parts = c.requires.sound.section_parts },
+)
 
 pub lookup-requires : goal.lookup-requires
 lookup-requires c = let b = c.requires.in_bounds.4

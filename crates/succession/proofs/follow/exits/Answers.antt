@@ -34,134 +34,72 @@ overflow_sub-r c = (let z = c.requires.sound.owner_low c.args.l c.requires.l_in_
 
 pub next_section-requires : goal.next_section-requires
 next_section-requires c = let l = c.args.l in let owner = c.args.owner.now in (
+  (let z = c.requires.sound.owner_high l c.requires.l_in_bounds in
+      omega (arith, z, c.requires.sound.owner_low l c.requires.l_in_bounds)),
+  c.requires.sound.section_parts (get_or owner l 0 - 1)
       (let z = c.requires.sound.owner_high l c.requires.l_in_bounds in
-          omega (arith, z, c.requires.sound.owner_low l c.requires.l_in_bounds)),
-      c.requires.sound.section_parts (get_or owner l 0 - 1)
-          (let z = c.requires.sound.owner_high l c.requires.l_in_bounds in
-          omega (arith, z, c.requires.sound.owner_low l c.requires.l_in_bounds)),
-      c.requires.sound.rising (get_or owner l 0 - 1)
-          (let z = c.requires.sound.owner_high l c.requires.l_in_bounds in
-          omega (arith, z, c.requires.sound.owner_low l c.requires.l_in_bounds)),
-    )
+      omega (arith, z, c.requires.sound.owner_low l c.requires.l_in_bounds)),
+  c.requires.sound.rising (get_or owner l 0 - 1)
+      (let z = c.requires.sound.owner_high l c.requires.l_in_bounds in
+      omega (arith, z, c.requires.sound.owner_low l c.requires.l_in_bounds)),
+)
 
 pub within_road-requires : goal.within_road-requires
-within_road-requires c = let after-link-at : After-link_at-link = search in
-    let start = begun after-link-at in
+within_road-requires c = let after_link_at : After-link_at-link = search in
+    let start = begun after_link_at in
     let l = start.args.l in let forward = start.args.forward in let owner = start.args.owner.now in
     record {
       l_in_bounds = (
         start.requires.l_in_bounds,
         (let z : (b : Bool) → pick b (l * 10 + 8) (l * 10 + 6) ≤ l * 10 + 8 = up l in
-            omega (arith, z forward, after-link-at.link_at-link.ensures, start.requires.l_in_bounds)),
+            omega (arith, z forward, after_link_at.link_at-link.ensures, start.requires.l_in_bounds)),
         start.requires.sound.owner_long,
         start.requires.sound.buckets,
         start.requires.sound.links,
         start.requires.sound.few,
       );
-      chained = ((
-        start.requires.sound.chained,
-        subst (λ (es : List Entry). Room start.args.n es start.args.run.now)
-            (exits_within (rows_of start.args.roads.now start.args.sections.now
-            start.args.junctions.now start.args.connections.now start.args.pairs.now
-            start.args.lanes.now owner start.args.sides.now start.args.ends.now) l forward
-            (get_or owner l 0) after-link-at.link_at-link.result
-            (section_of c.next_section.result) (refl)
-            (let z = start.requires.sound.owner_low l start.requires.l_in_bounds in omega (arith, z))
-            after-link-at.link_at-link.ensures c.next_section.ensures
-            c.in-At.s (ap section_of c.in-At.is)
-            (flag c.entered_at.result) c.entered_at.ensures)
-            start.requires.room,
-      )).0;
-      room = ((
-        start.requires.sound.chained,
-        subst (λ (es : List Entry). Room start.args.n es start.args.run.now)
-            (exits_within (rows_of start.args.roads.now start.args.sections.now
-            start.args.junctions.now start.args.connections.now start.args.pairs.now
-            start.args.lanes.now owner start.args.sides.now start.args.ends.now) l forward
-            (get_or owner l 0) after-link-at.link_at-link.result
-            (section_of c.next_section.result) (refl)
-            (let z = start.requires.sound.owner_low l start.requires.l_in_bounds in omega (arith, z))
-            after-link-at.link_at-link.ensures c.next_section.ensures
-            c.in-At.s (ap section_of c.in-At.is)
-            (flag c.entered_at.result) c.entered_at.ensures)
-            start.requires.room,
-      )).1;
+      chained = start.requires.sound.chained;
+      room = subst (λ (es : List Entry). Room start.args.n es start.args.run.now)
+          (exits_within (rows_of start.args.roads.now start.args.sections.now
+          start.args.junctions.now start.args.connections.now start.args.pairs.now
+          start.args.lanes.now owner start.args.sides.now start.args.ends.now) l forward
+          (get_or owner l 0) after_link_at.link_at-link.result
+          (section_of c.next_section.result) (refl)
+          (let z = start.requires.sound.owner_low l start.requires.l_in_bounds in omega (arith, z))
+          after_link_at.link_at-link.ensures c.next_section.ensures
+          c.in-At.s (ap section_of c.in-At.is)
+          (flag c.entered_at.result) c.entered_at.ensures)
+          start.requires.room;
     }
 
 pub leave-requires : goal.leave-requires
-leave-requires c = let after-link-at : After-link_at-link = search in
-    let start = begun after-link-at in
+leave-requires c = let after_link_at : After-link_at-link = search in
+    let start = begun after_link_at in
     let l = start.args.l in let forward = start.args.forward in let owner = start.args.owner.now in
     record {
       sound = start.requires.sound;
-      chained = ((
-        start.requires.chained,
-        (
-          (
-            start.requires.l_in_bounds,
-            (let z = start.requires.sound.owner_high l start.requires.l_in_bounds in
-                omega (arith, z, start.requires.sound.owner_low l start.requires.l_in_bounds)),
-            (let z : (b : Bool) → pick b (l * 10 + 8) (l * 10 + 6) ≤ l * 10 + 8 = up l in
-                omega (arith, z forward, after-link-at.link_at-link.ensures, start.requires.l_in_bounds)),
-          ),
-          subst (λ (es : List Entry). Room start.args.n es start.args.run.now)
-              (exits_past (rows_of start.args.roads.now start.args.sections.now
-              start.args.junctions.now start.args.connections.now start.args.pairs.now
-              start.args.lanes.now owner start.args.sides.now start.args.ends.now) l
-              forward (get_or owner l 0) after-link-at.link_at-link.result
-              (section_of c.next_section.result) (refl)
-              (let z = start.requires.sound.owner_low l start.requires.l_in_bounds in omega (arith, z))
-              after-link-at.link_at-link.ensures c.next_section.ensures
-              (ap section_of c.in-Past.is)) start.requires.room,
-        ),
-      )).0;
-      in_bounds = ((
-        start.requires.chained,
-        (
-          (
-            start.requires.l_in_bounds,
-            (let z = start.requires.sound.owner_high l start.requires.l_in_bounds in
-                omega (arith, z, start.requires.sound.owner_low l start.requires.l_in_bounds)),
-            (let z : (b : Bool) → pick b (l * 10 + 8) (l * 10 + 6) ≤ l * 10 + 8 = up l in
-                omega (arith, z forward, after-link-at.link_at-link.ensures, start.requires.l_in_bounds)),
-          ),
-          subst (λ (es : List Entry). Room start.args.n es start.args.run.now)
-              (exits_past (rows_of start.args.roads.now start.args.sections.now
-              start.args.junctions.now start.args.connections.now start.args.pairs.now
-              start.args.lanes.now owner start.args.sides.now start.args.ends.now) l
-              forward (get_or owner l 0) after-link-at.link_at-link.result
-              (section_of c.next_section.result) (refl)
-              (let z = start.requires.sound.owner_low l start.requires.l_in_bounds in omega (arith, z))
-              after-link-at.link_at-link.ensures c.next_section.ensures
-              (ap section_of c.in-Past.is)) start.requires.room,
-        ),
-      )).1.0;
-      room = ((
-        start.requires.chained,
-        (
-          (
-            start.requires.l_in_bounds,
-            (let z = start.requires.sound.owner_high l start.requires.l_in_bounds in
-                omega (arith, z, start.requires.sound.owner_low l start.requires.l_in_bounds)),
-            (let z : (b : Bool) → pick b (l * 10 + 8) (l * 10 + 6) ≤ l * 10 + 8 = up l in
-                omega (arith, z forward, after-link-at.link_at-link.ensures, start.requires.l_in_bounds)),
-          ),
-          subst (λ (es : List Entry). Room start.args.n es start.args.run.now)
-              (exits_past (rows_of start.args.roads.now start.args.sections.now
-              start.args.junctions.now start.args.connections.now start.args.pairs.now
-              start.args.lanes.now owner start.args.sides.now start.args.ends.now) l
-              forward (get_or owner l 0) after-link-at.link_at-link.result
-              (section_of c.next_section.result) (refl)
-              (let z = start.requires.sound.owner_low l start.requires.l_in_bounds in omega (arith, z))
-              after-link-at.link_at-link.ensures c.next_section.ensures
-              (ap section_of c.in-Past.is)) start.requires.room,
-        ),
-      )).1.1;
+      chained = start.requires.chained;
+      in_bounds = (
+        start.requires.l_in_bounds,
+        (let z = start.requires.sound.owner_high l start.requires.l_in_bounds in
+            omega (arith, z, start.requires.sound.owner_low l start.requires.l_in_bounds)),
+        (let z : (b : Bool) → pick b (l * 10 + 8) (l * 10 + 6) ≤ l * 10 + 8 = up l in
+            omega (arith, z forward, after_link_at.link_at-link.ensures, start.requires.l_in_bounds)),
+      );
+      room = subst (λ (es : List Entry). Room start.args.n es start.args.run.now)
+          (exits_past (rows_of start.args.roads.now start.args.sections.now
+          start.args.junctions.now start.args.connections.now start.args.pairs.now
+          start.args.lanes.now owner start.args.sides.now start.args.ends.now) l
+          forward (get_or owner l 0) after_link_at.link_at-link.result
+          (section_of c.next_section.result) (refl)
+          (let z = start.requires.sound.owner_low l start.requires.l_in_bounds in omega (arith, z))
+          after_link_at.link_at-link.ensures c.next_section.ensures
+          (ap section_of c.in-Past.is)) start.requires.room;
     }
 
 pub returns-in-At : goal.returns-in-At
-returns-in-At c = let after-link-at : After-link_at-link = search in
-    let start = begun after-link-at in
+returns-in-At c = let after_link_at : After-link_at-link = search in
+    let start = begun after_link_at in
     let owner = start.args.owner.now in let l = start.args.l in
     subst (λ (es : List Entry).
     Took start.args.both start.args.n es start.args.run.now
@@ -170,16 +108,16 @@ returns-in-At c = let after-link-at : After-link_at-link = search in
     (sym (exits_within (rows_of start.args.roads.now start.args.sections.now
     start.args.junctions.now start.args.connections.now start.args.pairs.now
     start.args.lanes.now owner start.args.sides.now start.args.ends.now) l
-    start.args.forward (get_or owner l 0) after-link-at.link_at-link.result
+    start.args.forward (get_or owner l 0) after_link_at.link_at-link.result
     (section_of c.next_section.result) (refl)
     (let z = start.requires.sound.owner_low l start.requires.l_in_bounds in omega (arith, z))
-    after-link-at.link_at-link.ensures c.next_section.ensures c.in-At.s
+    after_link_at.link_at-link.ensures c.next_section.ensures c.in-At.s
     (ap section_of c.in-At.is) (flag c.entered_at.result)
     c.entered_at.ensures)) c.within_road.ensures
 
 pub returns-in-Past : goal.returns-in-Past
-returns-in-Past c = let after-link-at : After-link_at-link = search in
-    let start = begun after-link-at in
+returns-in-Past c = let after_link_at : After-link_at-link = search in
+    let start = begun after_link_at in
     let owner = start.args.owner.now in let l = start.args.l in
     subst (λ (es : List Entry).
     Took start.args.both start.args.n es start.args.run.now
@@ -188,8 +126,8 @@ returns-in-Past c = let after-link-at : After-link_at-link = search in
     (sym (exits_past (rows_of start.args.roads.now start.args.sections.now
     start.args.junctions.now start.args.connections.now start.args.pairs.now
     start.args.lanes.now owner start.args.sides.now start.args.ends.now) l
-    start.args.forward (get_or owner l 0) after-link-at.link_at-link.result
+    start.args.forward (get_or owner l 0) after_link_at.link_at-link.result
     (section_of c.next_section.result) (refl)
     (let z = start.requires.sound.owner_low l start.requires.l_in_bounds in omega (arith, z))
-    after-link-at.link_at-link.ensures c.next_section.ensures
+    after_link_at.link_at-link.ensures c.next_section.ensures
     (ap section_of c.in-Past.is))) c.leave.ensures

@@ -43,102 +43,34 @@ cross-requires c = let start : Start = search in
     let l = start.args.l in let link = start.args.link in
     record {
       sound = start.requires.sound;
-      chained = ((
-        start.requires.chained,
-        (
-          (
-            start.requires.in_bounds.0,
-            omega (arith, start.requires.in_bounds.1),
-            start.requires.in_bounds.2,
-            (λ e.
-                let i : start.args.r.0 * 20 + (5 + 1 * 7) ≡ start.args.r.0 * 20 + 11 + 1 =
-                omega arith in
-                let j : start.args.r.0 * 2 + 1 ≡ start.args.r.0 * 2 + 1 = omega arith in
-                let b = start.requires.sound.junction_ends start.args.r.0 1
-                start.requires.in_bounds.1 (omega arith)
-                (ap (λ (z : ℕ). eqb (get_or roads z 0) 1) i ∙ e) in
-                omega (arith, b, ap (λ (z : ℕ). get_or ends z 0) j, c.word.ensures.0)),
-            (λ e.
-                let i : start.args.r.0 * 20 + (5 + 1 * 7) ≡ start.args.r.0 * 20 + 11 + 1 =
-                omega arith in
-                let j : start.args.r.0 * 2 + 1 ≡ start.args.r.0 * 2 + 1 = omega arith in
-                let b = start.requires.sound.road_ends start.args.r.0 1 start.requires.in_bounds.1
-                (omega arith) (ap (λ (z : ℕ). eqb (get_or roads z 0) 1) i ∙ e) in
-                omega (arith, b, ap (λ (z : ℕ). get_or ends z 0) j, c.word.ensures.0)),
-          ),
-          subst (λ (es : List Entry). Room start.args.n es start.args.run.now)
-              (ap (λ (f : Bool).
-              cross_by_row (walk start) l (pick f (start.args.r.0 * 20 + 4) (start.args.r.0 * 20 + 11))
-              (pick f (get_or ends (start.args.r.0 * 2) 0) (get_or ends (start.args.r.0 * 2 + 1) 0))
-              link) c.if-forward.true
-              ∙ ap (λ (w : ℕ). cross_by_row (walk start) l (start.args.r.0 * 20 + 11) w link)
-              (sym c.word.ensures.0)) start.requires.room,
-        ),
-      )).0;
-      in_bounds = ((
-        start.requires.chained,
-        (
-          (
-            start.requires.in_bounds.0,
-            omega (arith, start.requires.in_bounds.1),
-            start.requires.in_bounds.2,
-            (λ e.
-                let i : start.args.r.0 * 20 + (5 + 1 * 7) ≡ start.args.r.0 * 20 + 11 + 1 =
-                omega arith in
-                let j : start.args.r.0 * 2 + 1 ≡ start.args.r.0 * 2 + 1 = omega arith in
-                let b = start.requires.sound.junction_ends start.args.r.0 1
-                start.requires.in_bounds.1 (omega arith)
-                (ap (λ (z : ℕ). eqb (get_or roads z 0) 1) i ∙ e) in
-                omega (arith, b, ap (λ (z : ℕ). get_or ends z 0) j, c.word.ensures.0)),
-            (λ e.
-                let i : start.args.r.0 * 20 + (5 + 1 * 7) ≡ start.args.r.0 * 20 + 11 + 1 =
-                omega arith in
-                let j : start.args.r.0 * 2 + 1 ≡ start.args.r.0 * 2 + 1 = omega arith in
-                let b = start.requires.sound.road_ends start.args.r.0 1 start.requires.in_bounds.1
-                (omega arith) (ap (λ (z : ℕ). eqb (get_or roads z 0) 1) i ∙ e) in
-                omega (arith, b, ap (λ (z : ℕ). get_or ends z 0) j, c.word.ensures.0)),
-          ),
-          subst (λ (es : List Entry). Room start.args.n es start.args.run.now)
-              (ap (λ (f : Bool).
-              cross_by_row (walk start) l (pick f (start.args.r.0 * 20 + 4) (start.args.r.0 * 20 + 11))
-              (pick f (get_or ends (start.args.r.0 * 2) 0) (get_or ends (start.args.r.0 * 2 + 1) 0))
-              link) c.if-forward.true
-              ∙ ap (λ (w : ℕ). cross_by_row (walk start) l (start.args.r.0 * 20 + 11) w link)
-              (sym c.word.ensures.0)) start.requires.room,
-        ),
-      )).1.0;
-      room = ((
-        start.requires.chained,
-        (
-          (
-            start.requires.in_bounds.0,
-            omega (arith, start.requires.in_bounds.1),
-            start.requires.in_bounds.2,
-            (λ e.
-                let i : start.args.r.0 * 20 + (5 + 1 * 7) ≡ start.args.r.0 * 20 + 11 + 1 =
-                omega arith in
-                let j : start.args.r.0 * 2 + 1 ≡ start.args.r.0 * 2 + 1 = omega arith in
-                let b = start.requires.sound.junction_ends start.args.r.0 1
-                start.requires.in_bounds.1 (omega arith)
-                (ap (λ (z : ℕ). eqb (get_or roads z 0) 1) i ∙ e) in
-                omega (arith, b, ap (λ (z : ℕ). get_or ends z 0) j, c.word.ensures.0)),
-            (λ e.
-                let i : start.args.r.0 * 20 + (5 + 1 * 7) ≡ start.args.r.0 * 20 + 11 + 1 =
-                omega arith in
-                let j : start.args.r.0 * 2 + 1 ≡ start.args.r.0 * 2 + 1 = omega arith in
-                let b = start.requires.sound.road_ends start.args.r.0 1 start.requires.in_bounds.1
-                (omega arith) (ap (λ (z : ℕ). eqb (get_or roads z 0) 1) i ∙ e) in
-                omega (arith, b, ap (λ (z : ℕ). get_or ends z 0) j, c.word.ensures.0)),
-          ),
-          subst (λ (es : List Entry). Room start.args.n es start.args.run.now)
-              (ap (λ (f : Bool).
-              cross_by_row (walk start) l (pick f (start.args.r.0 * 20 + 4) (start.args.r.0 * 20 + 11))
-              (pick f (get_or ends (start.args.r.0 * 2) 0) (get_or ends (start.args.r.0 * 2 + 1) 0))
-              link) c.if-forward.true
-              ∙ ap (λ (w : ℕ). cross_by_row (walk start) l (start.args.r.0 * 20 + 11) w link)
-              (sym c.word.ensures.0)) start.requires.room,
-        ),
-      )).1.1;
+      chained = start.requires.chained;
+      in_bounds = (
+        start.requires.in_bounds.0,
+        omega (arith, start.requires.in_bounds.1),
+        start.requires.in_bounds.2,
+        (λ e.
+            let i : start.args.r.0 * 20 + (5 + 1 * 7) ≡ start.args.r.0 * 20 + 11 + 1 =
+            omega arith in
+            let j : start.args.r.0 * 2 + 1 ≡ start.args.r.0 * 2 + 1 = omega arith in
+            let b = start.requires.sound.junction_ends start.args.r.0 1
+            start.requires.in_bounds.1 (omega arith)
+            (ap (λ (z : ℕ). eqb (get_or roads z 0) 1) i ∙ e) in
+            omega (arith, b, ap (λ (z : ℕ). get_or ends z 0) j, c.word.ensures.0)),
+        (λ e.
+            let i : start.args.r.0 * 20 + (5 + 1 * 7) ≡ start.args.r.0 * 20 + 11 + 1 =
+            omega arith in
+            let j : start.args.r.0 * 2 + 1 ≡ start.args.r.0 * 2 + 1 = omega arith in
+            let b = start.requires.sound.road_ends start.args.r.0 1 start.requires.in_bounds.1
+            (omega arith) (ap (λ (z : ℕ). eqb (get_or roads z 0) 1) i ∙ e) in
+            omega (arith, b, ap (λ (z : ℕ). get_or ends z 0) j, c.word.ensures.0)),
+      );
+      room = subst (λ (es : List Entry). Room start.args.n es start.args.run.now)
+          (ap (λ (f : Bool).
+          cross_by_row (walk start) l (pick f (start.args.r.0 * 20 + 4) (start.args.r.0 * 20 + 11))
+          (pick f (get_or ends (start.args.r.0 * 2) 0) (get_or ends (start.args.r.0 * 2 + 1) 0))
+          link) c.if-forward.true
+          ∙ ap (λ (w : ℕ). cross_by_row (walk start) l (start.args.r.0 * 20 + 11) w link)
+          (sym c.word.ensures.0)) start.requires.room;
     }
 
 pub returns-then-forward : goal.returns-then-forward
@@ -162,102 +94,34 @@ cross-requires-2 c = let start : Start = search in
     let l = start.args.l in let link = start.args.link in
     record {
       sound = start.requires.sound;
-      chained = ((
-        start.requires.chained,
-        (
-          (
-            start.requires.in_bounds.0,
-            omega (arith, start.requires.in_bounds.1),
-            start.requires.in_bounds.2,
-            (λ e.
-                let i : start.args.r.0 * 20 + (5 + 0 * 7) ≡ start.args.r.0 * 20 + 4 + 1 =
-                omega arith in
-                let j : start.args.r.0 * 2 + 0 ≡ start.args.r.0 * 2 = omega arith in
-                let b = start.requires.sound.junction_ends start.args.r.0 0
-                start.requires.in_bounds.1 (omega arith)
-                (ap (λ (z : ℕ). eqb (get_or roads z 0) 1) i ∙ e) in
-                omega (arith, b, ap (λ (z : ℕ). get_or ends z 0) j, c.word-2.ensures.0)),
-            (λ e.
-                let i : start.args.r.0 * 20 + (5 + 0 * 7) ≡ start.args.r.0 * 20 + 4 + 1 =
-                omega arith in
-                let j : start.args.r.0 * 2 + 0 ≡ start.args.r.0 * 2 = omega arith in
-                let b = start.requires.sound.road_ends start.args.r.0 0 start.requires.in_bounds.1
-                (omega arith) (ap (λ (z : ℕ). eqb (get_or roads z 0) 1) i ∙ e) in
-                omega (arith, b, ap (λ (z : ℕ). get_or ends z 0) j, c.word-2.ensures.0)),
-          ),
-          subst (λ (es : List Entry). Room start.args.n es start.args.run.now)
-              (ap (λ (f : Bool).
-              cross_by_row (walk start) l (pick f (start.args.r.0 * 20 + 4) (start.args.r.0 * 20 + 11))
-              (pick f (get_or ends (start.args.r.0 * 2) 0) (get_or ends (start.args.r.0 * 2 + 1) 0))
-              link) c.if-forward.false
-              ∙ ap (λ (w : ℕ). cross_by_row (walk start) l (start.args.r.0 * 20 + 4) w link)
-              (sym c.word-2.ensures.0)) start.requires.room,
-        ),
-      )).0;
-      in_bounds = ((
-        start.requires.chained,
-        (
-          (
-            start.requires.in_bounds.0,
-            omega (arith, start.requires.in_bounds.1),
-            start.requires.in_bounds.2,
-            (λ e.
-                let i : start.args.r.0 * 20 + (5 + 0 * 7) ≡ start.args.r.0 * 20 + 4 + 1 =
-                omega arith in
-                let j : start.args.r.0 * 2 + 0 ≡ start.args.r.0 * 2 = omega arith in
-                let b = start.requires.sound.junction_ends start.args.r.0 0
-                start.requires.in_bounds.1 (omega arith)
-                (ap (λ (z : ℕ). eqb (get_or roads z 0) 1) i ∙ e) in
-                omega (arith, b, ap (λ (z : ℕ). get_or ends z 0) j, c.word-2.ensures.0)),
-            (λ e.
-                let i : start.args.r.0 * 20 + (5 + 0 * 7) ≡ start.args.r.0 * 20 + 4 + 1 =
-                omega arith in
-                let j : start.args.r.0 * 2 + 0 ≡ start.args.r.0 * 2 = omega arith in
-                let b = start.requires.sound.road_ends start.args.r.0 0 start.requires.in_bounds.1
-                (omega arith) (ap (λ (z : ℕ). eqb (get_or roads z 0) 1) i ∙ e) in
-                omega (arith, b, ap (λ (z : ℕ). get_or ends z 0) j, c.word-2.ensures.0)),
-          ),
-          subst (λ (es : List Entry). Room start.args.n es start.args.run.now)
-              (ap (λ (f : Bool).
-              cross_by_row (walk start) l (pick f (start.args.r.0 * 20 + 4) (start.args.r.0 * 20 + 11))
-              (pick f (get_or ends (start.args.r.0 * 2) 0) (get_or ends (start.args.r.0 * 2 + 1) 0))
-              link) c.if-forward.false
-              ∙ ap (λ (w : ℕ). cross_by_row (walk start) l (start.args.r.0 * 20 + 4) w link)
-              (sym c.word-2.ensures.0)) start.requires.room,
-        ),
-      )).1.0;
-      room = ((
-        start.requires.chained,
-        (
-          (
-            start.requires.in_bounds.0,
-            omega (arith, start.requires.in_bounds.1),
-            start.requires.in_bounds.2,
-            (λ e.
-                let i : start.args.r.0 * 20 + (5 + 0 * 7) ≡ start.args.r.0 * 20 + 4 + 1 =
-                omega arith in
-                let j : start.args.r.0 * 2 + 0 ≡ start.args.r.0 * 2 = omega arith in
-                let b = start.requires.sound.junction_ends start.args.r.0 0
-                start.requires.in_bounds.1 (omega arith)
-                (ap (λ (z : ℕ). eqb (get_or roads z 0) 1) i ∙ e) in
-                omega (arith, b, ap (λ (z : ℕ). get_or ends z 0) j, c.word-2.ensures.0)),
-            (λ e.
-                let i : start.args.r.0 * 20 + (5 + 0 * 7) ≡ start.args.r.0 * 20 + 4 + 1 =
-                omega arith in
-                let j : start.args.r.0 * 2 + 0 ≡ start.args.r.0 * 2 = omega arith in
-                let b = start.requires.sound.road_ends start.args.r.0 0 start.requires.in_bounds.1
-                (omega arith) (ap (λ (z : ℕ). eqb (get_or roads z 0) 1) i ∙ e) in
-                omega (arith, b, ap (λ (z : ℕ). get_or ends z 0) j, c.word-2.ensures.0)),
-          ),
-          subst (λ (es : List Entry). Room start.args.n es start.args.run.now)
-              (ap (λ (f : Bool).
-              cross_by_row (walk start) l (pick f (start.args.r.0 * 20 + 4) (start.args.r.0 * 20 + 11))
-              (pick f (get_or ends (start.args.r.0 * 2) 0) (get_or ends (start.args.r.0 * 2 + 1) 0))
-              link) c.if-forward.false
-              ∙ ap (λ (w : ℕ). cross_by_row (walk start) l (start.args.r.0 * 20 + 4) w link)
-              (sym c.word-2.ensures.0)) start.requires.room,
-        ),
-      )).1.1;
+      chained = start.requires.chained;
+      in_bounds = (
+        start.requires.in_bounds.0,
+        omega (arith, start.requires.in_bounds.1),
+        start.requires.in_bounds.2,
+        (λ e.
+            let i : start.args.r.0 * 20 + (5 + 0 * 7) ≡ start.args.r.0 * 20 + 4 + 1 =
+            omega arith in
+            let j : start.args.r.0 * 2 + 0 ≡ start.args.r.0 * 2 = omega arith in
+            let b = start.requires.sound.junction_ends start.args.r.0 0
+            start.requires.in_bounds.1 (omega arith)
+            (ap (λ (z : ℕ). eqb (get_or roads z 0) 1) i ∙ e) in
+            omega (arith, b, ap (λ (z : ℕ). get_or ends z 0) j, c.word-2.ensures.0)),
+        (λ e.
+            let i : start.args.r.0 * 20 + (5 + 0 * 7) ≡ start.args.r.0 * 20 + 4 + 1 =
+            omega arith in
+            let j : start.args.r.0 * 2 + 0 ≡ start.args.r.0 * 2 = omega arith in
+            let b = start.requires.sound.road_ends start.args.r.0 0 start.requires.in_bounds.1
+            (omega arith) (ap (λ (z : ℕ). eqb (get_or roads z 0) 1) i ∙ e) in
+            omega (arith, b, ap (λ (z : ℕ). get_or ends z 0) j, c.word-2.ensures.0)),
+      );
+      room = subst (λ (es : List Entry). Room start.args.n es start.args.run.now)
+          (ap (λ (f : Bool).
+          cross_by_row (walk start) l (pick f (start.args.r.0 * 20 + 4) (start.args.r.0 * 20 + 11))
+          (pick f (get_or ends (start.args.r.0 * 2) 0) (get_or ends (start.args.r.0 * 2 + 1) 0))
+          link) c.if-forward.false
+          ∙ ap (λ (w : ℕ). cross_by_row (walk start) l (start.args.r.0 * 20 + 4) w link)
+          (sym c.word-2.ensures.0)) start.requires.room;
     }
 
 pub returns : goal.returns

@@ -49,41 +49,15 @@ module _ (start : Start) where
 
 pub exits-requires : goal.exits-requires
 exits-requires c = record {
-      sound = c.requires.sound;
-      chained = ((
-        c.requires.chained,
-        (
-          c.requires.in_bounds.0,
-          (room_none (exits_by_row (rows_of c.args.roads.now c.args.sections.now
-              c.args.junctions.now c.args.connections.now c.args.pairs.now
-              c.args.lanes.now c.args.owner.now c.args.sides.now
-              c.args.ends.now) c.args.l true) c.args.run.now
-              (omega (arith, c.requires.in_bounds.1))),
-        ),
-      )).0;
-      l_in_bounds = ((
-        c.requires.chained,
-        (
-          c.requires.in_bounds.0,
-          (room_none (exits_by_row (rows_of c.args.roads.now c.args.sections.now
-              c.args.junctions.now c.args.connections.now c.args.pairs.now
-              c.args.lanes.now c.args.owner.now c.args.sides.now
-              c.args.ends.now) c.args.l true) c.args.run.now
-              (omega (arith, c.requires.in_bounds.1))),
-        ),
-      )).1.0;
-      room = ((
-        c.requires.chained,
-        (
-          c.requires.in_bounds.0,
-          (room_none (exits_by_row (rows_of c.args.roads.now c.args.sections.now
-              c.args.junctions.now c.args.connections.now c.args.pairs.now
-              c.args.lanes.now c.args.owner.now c.args.sides.now
-              c.args.ends.now) c.args.l true) c.args.run.now
-              (omega (arith, c.requires.in_bounds.1))),
-        ),
-      )).1.1;
-    }
+  sound = c.requires.sound;
+  chained = c.requires.chained;
+  l_in_bounds = c.requires.in_bounds.0;
+  room = (room_none (exits_by_row (rows_of c.args.roads.now c.args.sections.now
+      c.args.junctions.now c.args.connections.now c.args.pairs.now
+      c.args.lanes.now c.args.owner.now c.args.sides.now
+      c.args.ends.now) c.args.l true) c.args.run.now
+      (omega (arith, c.requires.in_bounds.1)));
+}
 
 pub returns-then-direction-eq0 : goal.returns-then-direction-eq0
 returns-then-direction-eq0 c = let then1 : Then-direction-eq0 = search in
@@ -97,41 +71,15 @@ returns-then-direction-eq0 c = let then1 : Then-direction-eq0 = search in
 
 pub exits-requires-then-direction-eq1 : goal.exits-requires-then-direction-eq1
 exits-requires-then-direction-eq1 c = record {
-      sound = c.requires.sound;
-      chained = ((
-        c.requires.chained,
-        (
-          c.requires.in_bounds.0,
-          (room_none (exits_by_row (rows_of c.args.roads.now c.args.sections.now
-              c.args.junctions.now c.args.connections.now c.args.pairs.now
-              c.args.lanes.now c.args.owner.now c.args.sides.now
-              c.args.ends.now) c.args.l false) c.args.run.now
-              (omega (arith, c.requires.in_bounds.1))),
-        ),
-      )).0;
-      l_in_bounds = ((
-        c.requires.chained,
-        (
-          c.requires.in_bounds.0,
-          (room_none (exits_by_row (rows_of c.args.roads.now c.args.sections.now
-              c.args.junctions.now c.args.connections.now c.args.pairs.now
-              c.args.lanes.now c.args.owner.now c.args.sides.now
-              c.args.ends.now) c.args.l false) c.args.run.now
-              (omega (arith, c.requires.in_bounds.1))),
-        ),
-      )).1.0;
-      room = ((
-        c.requires.chained,
-        (
-          c.requires.in_bounds.0,
-          (room_none (exits_by_row (rows_of c.args.roads.now c.args.sections.now
-              c.args.junctions.now c.args.connections.now c.args.pairs.now
-              c.args.lanes.now c.args.owner.now c.args.sides.now
-              c.args.ends.now) c.args.l false) c.args.run.now
-              (omega (arith, c.requires.in_bounds.1))),
-        ),
-      )).1.1;
-    }
+  sound = c.requires.sound;
+  chained = c.requires.chained;
+  l_in_bounds = c.requires.in_bounds.0;
+  room = (room_none (exits_by_row (rows_of c.args.roads.now c.args.sections.now
+      c.args.junctions.now c.args.connections.now c.args.pairs.now
+      c.args.lanes.now c.args.owner.now c.args.sides.now
+      c.args.ends.now) c.args.l false) c.args.run.now
+      (omega (arith, c.requires.in_bounds.1)));
+}
 
 pub returns-then-direction-eq1 : goal.returns-then-direction-eq1
 returns-then-direction-eq1 c = let then2 : Then-direction-eq1 = search in
@@ -145,41 +93,15 @@ returns-then-direction-eq1 c = let then2 : Then-direction-eq1 = search in
 
 pub exits-n-requires : goal.exits-n-requires
 exits-n-requires c = record {
-      sound = c.requires.sound;
-      chained = ((
-        c.requires.chained,
-        (
-          c.requires.in_bounds.0,
-          (room_none (exits_by_row (rows_of c.args.roads.now c.args.sections.now
-              c.args.junctions.now c.args.connections.now c.args.pairs.now
-              c.args.lanes.now c.args.owner.now c.args.sides.now
-              c.args.ends.now) c.args.l true) c.args.run.now
-              (omega (arith, c.requires.in_bounds.1))),
-        ),
-      )).0;
-      l_in_bounds = ((
-        c.requires.chained,
-        (
-          c.requires.in_bounds.0,
-          (room_none (exits_by_row (rows_of c.args.roads.now c.args.sections.now
-              c.args.junctions.now c.args.connections.now c.args.pairs.now
-              c.args.lanes.now c.args.owner.now c.args.sides.now
-              c.args.ends.now) c.args.l true) c.args.run.now
-              (omega (arith, c.requires.in_bounds.1))),
-        ),
-      )).1.0;
-      room = ((
-        c.requires.chained,
-        (
-          c.requires.in_bounds.0,
-          (room_none (exits_by_row (rows_of c.args.roads.now c.args.sections.now
-              c.args.junctions.now c.args.connections.now c.args.pairs.now
-              c.args.lanes.now c.args.owner.now c.args.sides.now
-              c.args.ends.now) c.args.l true) c.args.run.now
-              (omega (arith, c.requires.in_bounds.1))),
-        ),
-      )).1.1;
-    }
+  sound = c.requires.sound;
+  chained = c.requires.chained;
+  l_in_bounds = c.requires.in_bounds.0;
+  room = (room_none (exits_by_row (rows_of c.args.roads.now c.args.sections.now
+      c.args.junctions.now c.args.connections.now c.args.pairs.now
+      c.args.lanes.now c.args.owner.now c.args.sides.now
+      c.args.ends.now) c.args.l true) c.args.run.now
+      (omega (arith, c.requires.in_bounds.1)));
+}
 
 pub exits-requires-2 : goal.exits-requires-2
 exits-requires-2 c = let after-exits3 : After-exits-n = search in
@@ -188,45 +110,15 @@ exits-requires-2 c = let after-exits3 : After-exits-n = search in
     let exits_by_row' = exits_by_row (walk start) l true in
     record {
       sound = start.requires.sound;
-      chained = ((
-        start.requires.chained,
-        (
-          start.requires.in_bounds.0,
-          room_after true 0 exits_by_row' run
-              after-exits3.exits-n.new.run
-              after-exits3.exits-n.result after-exits3.exits-n.ensures
-              (omega (arith, start.requires.in_bounds.1)) (exits_by_row (walk start) l false)
-              (room_none exits_by_row' run (omega (arith, start.requires.in_bounds.1))).rising
-              (omega
-              (arith, start.requires.in_bounds.1, length-append exits_by_row' (exits_by_row (walk start) l false))),
-        ),
-      )).0;
-      l_in_bounds = ((
-        start.requires.chained,
-        (
-          start.requires.in_bounds.0,
-          room_after true 0 exits_by_row' run
-              after-exits3.exits-n.new.run
-              after-exits3.exits-n.result after-exits3.exits-n.ensures
-              (omega (arith, start.requires.in_bounds.1)) (exits_by_row (walk start) l false)
-              (room_none exits_by_row' run (omega (arith, start.requires.in_bounds.1))).rising
-              (omega
-              (arith, start.requires.in_bounds.1, length-append exits_by_row' (exits_by_row (walk start) l false))),
-        ),
-      )).1.0;
-      room = ((
-        start.requires.chained,
-        (
-          start.requires.in_bounds.0,
-          room_after true 0 exits_by_row' run
-              after-exits3.exits-n.new.run
-              after-exits3.exits-n.result after-exits3.exits-n.ensures
-              (omega (arith, start.requires.in_bounds.1)) (exits_by_row (walk start) l false)
-              (room_none exits_by_row' run (omega (arith, start.requires.in_bounds.1))).rising
-              (omega
-              (arith, start.requires.in_bounds.1, length-append exits_by_row' (exits_by_row (walk start) l false))),
-        ),
-      )).1.1;
+      chained = start.requires.chained;
+      l_in_bounds = start.requires.in_bounds.0;
+      room = room_after true 0 exits_by_row' run
+          after-exits3.exits-n.new.run
+          after-exits3.exits-n.result after-exits3.exits-n.ensures
+          (omega (arith, start.requires.in_bounds.1)) (exits_by_row (walk start) l false)
+          (room_none exits_by_row' run (omega (arith, start.requires.in_bounds.1))).rising
+          (omega
+          (arith, start.requires.in_bounds.1, length-append exits_by_row' (exits_by_row (walk start) l false)));
     }
 
 pub returns : goal.returns

@@ -2,7 +2,6 @@ use Rattle.succession.proofs.Walks.{meeting_leads, meeting_none}
 use Rattle.succession.proofs.Absorbed.{took_none}
 use Rattle.succession.specs.ByRow.{Room, Took, rows_of}
 use Rattle.model.specs.Succession.{Entry}
-use borrow.Author.Tests.{not-true, not-false}
 use native.Mathlib.Omega.{arith}
 use mathlib.Core.List.{List}
 use mathlib.Core.Path.{sym, ◌∙◌, subst}
@@ -31,37 +30,25 @@ returns-then-not-comes_from c = let both = c.args.both in let n = c.args.n in le
     c.args.junctions.now c.args.connections.now c.args.pairs.now
     c.args.lanes.now c.args.owner.now c.args.sides.now c.args.ends.now)
     c.args.j c.args.road c.args.k c.args.c
-    (sym c.comes_from.ensures ∙ not-true _ c.if-not-comes_from.true-raw)))
+    (sym c.comes_from.ensures ∙ c.if-not-comes_from.true)))
     (took_none both n run (omega (arith, c.requires.room.fits)))
 
 pub through_pairs-requires : goal.through_pairs-requires
 through_pairs-requires c = record {
-      sound = c.requires.sound;
-      c_in_bounds = ((
-        c.requires.in_bounds.1,
-        subst (λ (es : List Entry). Room c.args.n es c.args.run.now)
-            (meeting_leads (rows_of c.args.roads.now c.args.sections.now
-            c.args.junctions.now c.args.connections.now c.args.pairs.now
-            c.args.lanes.now c.args.owner.now c.args.sides.now
-            c.args.ends.now) c.args.j c.args.road c.args.k
-            c.args.c (sym c.comes_from.ensures ∙ not-false _ c.if-not-comes_from.false-raw))
-            c.requires.room,
-      )).0;
-      room = ((
-        c.requires.in_bounds.1,
-        subst (λ (es : List Entry). Room c.args.n es c.args.run.now)
-            (meeting_leads (rows_of c.args.roads.now c.args.sections.now
-            c.args.junctions.now c.args.connections.now c.args.pairs.now
-            c.args.lanes.now c.args.owner.now c.args.sides.now
-            c.args.ends.now) c.args.j c.args.road c.args.k
-            c.args.c (sym c.comes_from.ensures ∙ not-false _ c.if-not-comes_from.false-raw))
-            c.requires.room,
-      )).1;
-    }
+  sound = c.requires.sound;
+  c_in_bounds = c.requires.in_bounds.1;
+  room = subst (λ (es : List Entry). Room c.args.n es c.args.run.now)
+      (meeting_leads (rows_of c.args.roads.now c.args.sections.now
+      c.args.junctions.now c.args.connections.now c.args.pairs.now
+      c.args.lanes.now c.args.owner.now c.args.sides.now
+      c.args.ends.now) c.args.j c.args.road c.args.k
+      c.args.c (sym c.comes_from.ensures ∙ c.if-not-comes_from.false))
+      c.requires.room;
+}
 
 pub returns : goal.returns
-returns c = let after-comes-from : After-comes_from = search in
-    let start = begun after-comes-from in
+returns c = let after_comes_from : After-comes_from = search in
+    let start = begun after_comes_from in
     subst (λ (es : List Entry).
     Took start.args.both start.args.n es start.args.run.now
     c.through_pairs.new.run
@@ -70,5 +57,5 @@ returns c = let after-comes-from : After-comes_from = search in
     start.args.junctions.now start.args.connections.now start.args.pairs.now
     start.args.lanes.now start.args.owner.now start.args.sides.now start.args.ends.now)
     start.args.j start.args.road start.args.k start.args.c
-    (sym after-comes-from.comes_from.ensures ∙ not-false _ c.if-not-comes_from.false-raw)))
+    (sym after_comes_from.comes_from.ensures ∙ c.if-not-comes_from.false)))
     c.through_pairs.ensures

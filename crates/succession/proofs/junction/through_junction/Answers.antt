@@ -48,30 +48,16 @@ through_connection-n-requires c = let head : At-loop-at = search in
     let connections = start.args.connections.now in let j = start.args.j in
     record {
       sound = start.requires.sound;
-      in_bounds = ((
-        (start.requires.in_bounds.0, omega (arith, head.loop-at.invariant.below, c.loop-at-test.true)),
-        walk_room start.args.both start.args.start
-            (rows_of start.args.roads.now start.args.sections.now start.args.junctions.now
-            connections start.args.pairs.now start.args.lanes.now start.args.owner.now
-            start.args.sides.now start.args.ends.now) (length connections / 7) j
-            start.args.road start.args.k start.args.run.now start.args.mheads.now
-            start.args.mnext.now start.requires.room start.requires.in_bounds.0
-            (start.requires.sound.connection_parts j start.requires.in_bounds.0) start.requires.chained.homes
-            start.requires.chained.chained head.loop-at.at head.loop-at.n head.loop-at.run
-            head.loop-at.invariant c.loop-at-test.true,
-      )).0;
-      room = ((
-        (start.requires.in_bounds.0, omega (arith, head.loop-at.invariant.below, c.loop-at-test.true)),
-        walk_room start.args.both start.args.start
-            (rows_of start.args.roads.now start.args.sections.now start.args.junctions.now
-            connections start.args.pairs.now start.args.lanes.now start.args.owner.now
-            start.args.sides.now start.args.ends.now) (length connections / 7) j
-            start.args.road start.args.k start.args.run.now start.args.mheads.now
-            start.args.mnext.now start.requires.room start.requires.in_bounds.0
-            (start.requires.sound.connection_parts j start.requires.in_bounds.0) start.requires.chained.homes
-            start.requires.chained.chained head.loop-at.at head.loop-at.n head.loop-at.run
-            head.loop-at.invariant c.loop-at-test.true,
-      )).1;
+      in_bounds = (start.requires.in_bounds.0, omega (arith, head.loop-at.invariant.below, c.loop-at-test.true));
+      room = walk_room start.args.both start.args.start
+          (rows_of start.args.roads.now start.args.sections.now start.args.junctions.now
+          connections start.args.pairs.now start.args.lanes.now start.args.owner.now
+          start.args.sides.now start.args.ends.now) (length connections / 7) j
+          start.args.road start.args.k start.args.run.now start.args.mheads.now
+          start.args.mnext.now start.requires.room start.requires.in_bounds.0
+          (start.requires.sound.connection_parts j start.requires.in_bounds.0) start.requires.chained.homes
+          start.requires.chained.chained head.loop-at.at head.loop-at.n head.loop-at.run
+          head.loop-at.invariant c.loop-at-test.true;
     }
 
 pub overflow_sub-at : goal.overflow_sub-at

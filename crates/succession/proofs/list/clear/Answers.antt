@@ -3,7 +3,6 @@ use lib.ListN.{length-set}
 use native.Mathlib.Omega.{arith}
 use native.Mathlib.Nat.{not-suc-le-zero}
 use mathlib.Core.Path.{refl, ◌∙◌}
-use Prim.Native.Nat.{◌-◌}
 use Rattle.succession.proofs.list.clear.Goals as goal
 
 pub loop-i-init : goal.loop-i-init
@@ -20,10 +19,10 @@ loop-i-smaller c = omega (arith, c.loop-i-test.true, length-set c.loop-i.ws c.lo
 
 pub loop-i-preserved : goal.loop-i-preserved
 loop-i-preserved c = let same = length-set c.loop-i.ws c.loop-i.i 0 in (
-      omega (arith, c.loop-i-test.true, same),
-      same ∙ c.loop-i.invariant.1,
-      cleared_more c.loop-i.ws c.loop-i.i c.loop-i-test.true c.loop-i.invariant.2,
-    )
+  omega (arith, c.loop-i-test.true, same),
+  same ∙ c.loop-i.invariant.1,
+  cleared_more c.loop-i.ws c.loop-i.i c.loop-i-test.true c.loop-i.invariant.2,
+)
 
 pub shape_of-ws : goal.shape_of-ws
 shape_of-ws c = c.loop-i.invariant.1

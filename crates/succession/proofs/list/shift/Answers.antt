@@ -23,10 +23,10 @@ loop-i-smaller c = omega arith
 
 pub loop-i-preserved : goal.loop-i-preserved
 loop-i-preserved c = (
-      omega arith,
-      omega arith,
-      moved_step _ _ _ _ c.loop-i.invariant.1 (omega arith) c.requires.1 c.loop-i.invariant.2,
-    )
+  omega arith,
+  omega arith,
+  moved_step _ _ _ _ c.loop-i.invariant.1 (omega arith) c.requires.1 c.loop-i.invariant.2,
+)
 
 pub returns : goal.returns
 returns c = let past : c.loop-i.i ≡ c.args.k = omega arith in rw past at c.loop-i.invariant.2

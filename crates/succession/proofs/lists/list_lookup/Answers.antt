@@ -17,8 +17,8 @@ module _ (start : Start) where
   -- the lane's list onward, or before
   abbrev chosen : Bool → List ℕ
   chosen before =
-      pick before (list_part start.args.successor-offsets.now start.args.successor-ids.now start.args.row)
-      (list_part start.args.predecessor-offsets.now start.args.predecessor-ids.now start.args.row)
+      pick before (list_part start.args.successor_offsets.now start.args.successor_ids.now start.args.row)
+      (list_part start.args.predecessor_offsets.now start.args.predecessor_ids.now start.args.row)
 
 pub returns-then-before : goal.returns-then-before
 unfolding list_lookup

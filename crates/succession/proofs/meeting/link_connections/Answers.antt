@@ -34,26 +34,14 @@ link_part-requires c = let connections = c.args.connections.now in let junctions
         omega (arith, c.loop-j.invariant.0, c.loop-j-test.true),
         c.requires.connections_len_bound.1,
       );
-      j_bound = ((
-        (
-          end_in (length connections / 7) junctions c.requires.junctions_value (c.loop-j.j - 1)
-              (omega (arith, c.loop-j.invariant.0, c.loop-j-test.true)),
-          homes_are (length connections / 7) junctions c.requires.junctions_value,
-        ),
-        chains_part (length connections / 7) junctions c.requires.junctions_value c.args.sides.now
-            c.loop-j.heads c.loop-j.next c.loop-j.j
-            (omega (arith, c.loop-j-test.true)) c.loop-j.invariant.0 c.loop-j.invariant.3,
-      )).0;
-      chained = ((
-        (
-          end_in (length connections / 7) junctions c.requires.junctions_value (c.loop-j.j - 1)
-              (omega (arith, c.loop-j.invariant.0, c.loop-j-test.true)),
-          homes_are (length connections / 7) junctions c.requires.junctions_value,
-        ),
-        chains_part (length connections / 7) junctions c.requires.junctions_value c.args.sides.now
-            c.loop-j.heads c.loop-j.next c.loop-j.j
-            (omega (arith, c.loop-j-test.true)) c.loop-j.invariant.0 c.loop-j.invariant.3,
-      )).1;
+      j_bound = (
+        end_in (length connections / 7) junctions c.requires.junctions_value (c.loop-j.j - 1)
+            (omega (arith, c.loop-j.invariant.0, c.loop-j-test.true)),
+        homes_are (length connections / 7) junctions c.requires.junctions_value,
+      );
+      chained = chains_part (length connections / 7) junctions c.requires.junctions_value c.args.sides.now
+          c.loop-j.heads c.loop-j.next c.loop-j.j
+          (omega (arith, c.loop-j-test.true)) c.loop-j.invariant.0 c.loop-j.invariant.3;
     }
 
 pub loop-j-smaller : goal.loop-j-smaller
@@ -61,15 +49,15 @@ loop-j-smaller c = omega arith
 
 pub loop-j-preserved : goal.loop-j-preserved
 loop-j-preserved c = (
-      omega (arith, c.loop-j.invariant.0),
-      c.link_part.auto.heads ∙ c.loop-j.invariant.1,
-      c.link_part.auto.next ∙ c.loop-j.invariant.2,
-      chains_on (length c.args.connections.now / 7) c.args.junctions.now c.requires.junctions_value
-          c.args.sides.now c.link_part.new.heads
-          c.link_part.new.next (c.loop-j.j - 1)
-          (omega (arith, c.loop-j.invariant.0, c.loop-j-test.true))
-          c.link_part.ensures,
-    )
+  omega (arith, c.loop-j.invariant.0),
+  c.link_part.auto.heads ∙ c.loop-j.invariant.1,
+  c.link_part.auto.next ∙ c.loop-j.invariant.2,
+  chains_on (length c.args.connections.now / 7) c.args.junctions.now c.requires.junctions_value
+      c.args.sides.now c.link_part.new.heads
+      c.link_part.new.next (c.loop-j.j - 1)
+      (omega (arith, c.loop-j.invariant.0, c.loop-j-test.true))
+      c.link_part.ensures,
+)
 
 pub shape_of-heads : goal.shape_of-heads
 shape_of-heads c = c.loop-j.invariant.1 ∙ sym c.requires.connections_len_bound.3

@@ -3,19 +3,19 @@ use Rattle.succession.proofs.Fills.{sided_none, sided_more}
 use Rattle.succession.specs.Named.{Sided}
 use Rattle.words.proofs.KeyLaws.{row_in, rows_in}
 use lib.ListN.{length, set, length-set}
-use Prim.Native.Nat.{ℕ, ◌+◌, ◌*◌, ◌-◌, ◌/◌, ◌<◌}
+use Prim.Native.Nat.{ℕ, ◌+◌, ◌*◌, ◌/◌, ◌<◌}
 use native.Mathlib.Omega.{arith}
 use mathlib.Core.Path.{◌≡◌, refl, ◌∙◌, subst}
 use Rattle.succession.proofs.names.link_sides.Goals as goal
 
 pub loop-i-init : goal.loop-i-init
 loop-i-init c = (
-      omega arith,
-      refl,
-      c.requires.roads_len_bound.4,
-      sided_none c.args.text.now c.args.roads.now c.args.connections.now
-          c.args.sides.now,
-    )
+  omega arith,
+  refl,
+  c.requires.roads_len_bound.4,
+  sided_none c.args.text.now c.args.roads.now c.args.connections.now
+      c.args.sides.now,
+)
 
 pub overflow_mul-i : goal.overflow_mul-i
 overflow_mul-i c = let connections = c.args.connections.now in
@@ -105,15 +105,15 @@ pub loop-i-preserved : goal.loop-i-preserved
 unfolding road_row_of
 loop-i-preserved c = let l = c.loop-i in
     let fits : l.i * 2 + 1 < length l.sides =
-    omega (arith, l.inv.1, l.inv.2, c.loop-i-test.true, c.requires.roads_len_bound.3) in (
+    omega (arith, l.invariant.1, l.invariant.2, c.loop-i-test.true, c.requires.roads_len_bound.3) in (
       omega (arith, c.loop-i-test.true),
-      l.inv.1,
+      l.invariant.1,
       length-set (set l.sides (l.i * 2) c.row_named-incoming.result) (l.i * 2 + 1)
           c.row_named-connecting.result
           ∙ length-set l.sides (l.i * 2) c.row_named-incoming.result
-          ∙ l.inv.2,
+          ∙ l.invariant.2,
       sided_more c.args.text.now c.args.roads.now c.args.connections.now l.sides
-          l.i c.row_named-incoming.result c.row_named-connecting.result l.inv.3 fits
+          l.i c.row_named-incoming.result c.row_named-connecting.result l.invariant.3 fits
           c.row_named-incoming.ensures.0 c.row_named-connecting.ensures.0,
     )
 
@@ -123,6 +123,6 @@ shape_of-sides c = omega (arith, c.loop-i.invariant.2, c.requires.roads_len_boun
 pub returns : goal.returns
 returns c = let connections = c.args.connections.now in
     let l = c.loop-i in
-    let past : l.i ≡ length connections / 7 = omega (arith, l.inv.0, l.inv.1, c.loop-i-test.false) in
+    let past : l.i ≡ length connections / 7 = omega (arith, l.invariant.0, l.invariant.1, c.loop-i-test.false) in
     subst (λ (k : ℕ). Sided c.args.text.now c.args.roads.now connections k l.sides) past
-    l.inv.3
+    l.invariant.3

@@ -10,18 +10,18 @@ use Rattle.succession.proofs.names.row_named.Goals as goal
 
 pub find_name-requires : goal.find_name-requires
 find_name-requires c = record {
-      w_bound = (
-        c.requires.lt_w.1,
-        omega (arith, c.requires.lt_w.0),
-        rows_in (length c.args.ws.now) c.args.w,
-        c.requires.lt_w.2,
-        c.requires.lt_w.3,
-        c.requires.lt_w.4,
-        c.word-start.ensures.1,
-        c.word-size.ensures.1,
-      );
-      chained = c.requires.chained;
-    }
+  w_bound = (
+    c.requires.lt_w.1,
+    omega (arith, c.requires.lt_w.0),
+    rows_in (length c.args.ws.now) c.args.w,
+    c.requires.lt_w.2,
+    c.requires.lt_w.3,
+    c.requires.lt_w.4,
+    c.word-start.ensures.1,
+    c.word-size.ensures.1,
+  );
+  chained = c.requires.chained;
+}
 
 pub returns : goal.returns
 returns c = let ws = c.args.ws.now in let w = c.args.w in let text = c.args.text.now in

@@ -8,7 +8,7 @@ use Rattle.words.proofs.Joins.{rows_begin}
 use Rattle.words.proofs.Laws.{total_le, total_none}
 use lib.ListN.{length, length-set}
 use mathlib.Core.List.{List}
-use Prim.Native.Nat.{ℕ, ◌+◌, ◌-◌, ◌/◌, ◌≤◌}
+use Prim.Native.Nat.{ℕ, ◌+◌, ◌/◌, ◌≤◌}
 use native.Mathlib.Omega.{arith}
 use mathlib.Core.Path.{◌≡◌, refl, ◌∙◌}
 use Rattle.succession.proofs.own.own_lists.Tie as tie
@@ -81,12 +81,12 @@ pub successors_of-at-requires : goal.successors_of-at-requires
 successors_of-at-requires c = let turn : In-loop-i = search in
     let start = begun turn in
     let loop = (head turn).loop-i in
-    let inside : loop.at ≤ length loop.own-1 = omega (arith, room turn) in
-    let left = tail_size loop.at loop.own-1 inside in
+    let inside : loop.at ≤ length loop.own = omega (arith, room turn) in
+    let left = tail_size loop.at loop.own inside in
     record {
       sound = start.requires.sound;
-      chained = ((start.requires.chained, (turn.loop-i-test.true, omega (arith, room turn, left)))).0;
-      in_bounds = ((start.requires.chained, (turn.loop-i-test.true, omega (arith, room turn, left)))).1;
+      chained = start.requires.chained;
+      in_bounds = (turn.loop-i-test.true, omega (arith, room turn, left));
     }
 
 pub overflow_add-at : goal.overflow_add-at
@@ -104,19 +104,19 @@ pub loop-i-preserved : goal.loop-i-preserved
 loop-i-preserved c = let turn : In-loop-i = search in
     let start = begun turn in
     let loop = (head turn).loop-i in
-    let inv = loop.inv in
+    let inv = loop.invariant in
     let lt = turn.loop-i-test.true in
     let lists = own start in
     let most = successors_most (walk start) in
     let room_for = start.requires.room.2 in
     let own_is =
-    tail_more lists (exit_count (walk start)) most (rows start) (i turn) _ loop.own-1 lt room_for inv.1 inv.4
+    tail_more lists (exit_count (walk start)) most (rows start) (i turn) _ loop.own lt room_for inv.1 inv.4
     inv.5 refl c.successors_of-at.ensures.list in (
       omega (arith, lt),
       omega (arith, inv.1, c.successors_of-at.ensures.size, start_more lists (i turn)),
       length-set loop.offsets (i turn) loop.at ∙ inv.2,
       starts_more (start_of lists) (i turn) _ _ _ inv.3 inv.1 (omega (arith, lt, start.requires.room.0)),
-      more_long lists (exit_count (walk start)) most (rows start) (i turn) _ loop.own-1 lt room_for inv.1
+      more_long lists (exit_count (walk start)) most (rows start) (i turn) _ loop.own lt room_for inv.1
           inv.4 own_is,
       own_is,
     )

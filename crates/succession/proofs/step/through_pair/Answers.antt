@@ -16,13 +16,13 @@ returns-then-pairs-p c = let both = c.args.both in let n = c.args.n in let run =
 
 pub enter-requires : goal.enter-requires
 enter-requires c = record {
-      row_in_bounds = c.lookup-row.ensures.1;
-      room = subst (λ (es : List Entry). Room c.args.n es c.args.run.now)
-          (pair_leads c.args.pairs.now c.args.lanes.now c.args.owner.now
-          c.args.road c.args.section (flag c.args.contact) c.args.k
-          c.args.p c.if-pairs-p.false c.lookup-row.result c.lookup-row.ensures.0)
-          c.requires.p_in_bounds.1;
-    }
+  row_in_bounds = c.lookup-row.ensures.1;
+  room = subst (λ (es : List Entry). Room c.args.n es c.args.run.now)
+      (pair_leads c.args.pairs.now c.args.lanes.now c.args.owner.now
+      c.args.road c.args.section (flag c.args.contact) c.args.k
+      c.args.p c.if-pairs-p.false c.lookup-row.result c.lookup-row.ensures.0)
+      c.requires.p_in_bounds.1;
+}
 
 pub returns : goal.returns
 returns c = subst (λ (es : List Entry).

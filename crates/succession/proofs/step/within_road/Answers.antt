@@ -17,13 +17,13 @@ returns-then-lanes-link-ne1 c = let both = c.args.both in let n = c.args.n in le
 
 pub enter-requires : goal.enter-requires
 enter-requires c = record {
-      row_in_bounds = c.lookup-row.ensures.1;
-      room = subst (λ (es : List Entry). Room c.args.n es c.args.run.now)
-          (step_leads c.args.lanes.now c.args.owner.now c.args.l c.args.s
-          c.args.link (flag c.args.contact) c.if-lanes-link-ne1.false c.word.result
-          c.lookup-row.result c.word.ensures.0 c.lookup-row.ensures.0)
-          c.requires.room;
-    }
+  row_in_bounds = c.lookup-row.ensures.1;
+  room = subst (λ (es : List Entry). Room c.args.n es c.args.run.now)
+      (step_leads c.args.lanes.now c.args.owner.now c.args.l c.args.s
+      c.args.link (flag c.args.contact) c.if-lanes-link-ne1.false c.word.result
+      c.lookup-row.result c.word.ensures.0 c.lookup-row.ensures.0)
+      c.requires.room;
+}
 
 pub returns : goal.returns
 returns c = subst (λ (es : List Entry).
