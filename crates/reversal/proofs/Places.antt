@@ -81,7 +81,7 @@ pub spliced_none : {A : Type 0} (at : ℕ) (f : ℕ → List A) (out : List A) �
 unfolding spliced
 spliced_none {A} at f out =
     sym (ap (λ (l : List A). take at out ++ l ++ drop (at + length l) out) (joined_none f)
-    ∙ ap₂ (λ (l : List A) (k : ℕ). l ++ drop k out) (mathlib.Core.List.append_nil (take at out)) (add-zero at)
+    ∙ ap₂ (λ (l : List A) (k : ℕ). l ++ drop k out) (mathlib.Core.List.append-nil (take at out)) (add-zero at)
     ∙ take-append-drop at out)
 
 -- ---- a part's numbers

@@ -88,27 +88,9 @@ lane_on-row-requires c = let turn : In-loop-i = search in
     let road = known turn in
     record {
       ready = (start turn).requires.ready;
-      i_in_bounds = ((
-        turn.loop-i-test.true,
-        (
-          omega (arith, c.word-o.ensures.0, road.known, road.below),
-          section_within _ _ _ _ _ road c.word-o.ensures.0 c.numbers-part.ensures,
-        ),
-      )).0;
-      road_in_bounds = ((
-        turn.loop-i-test.true,
-        (
-          omega (arith, c.word-o.ensures.0, road.known, road.below),
-          section_within _ _ _ _ _ road c.word-o.ensures.0 c.numbers-part.ensures,
-        ),
-      )).1.0;
-      within = ((
-        turn.loop-i-test.true,
-        (
-          omega (arith, c.word-o.ensures.0, road.known, road.below),
-          section_within _ _ _ _ _ road c.word-o.ensures.0 c.numbers-part.ensures,
-        ),
-      )).1.1;
+      i_in_bounds = turn.loop-i-test.true;
+      road_in_bounds = omega (arith, c.word-o.ensures.0, road.known, road.below);
+      within = section_within _ _ _ _ _ road c.word-o.ensures.0 c.numbers-part.ensures;
     }
 
 pub overflow_mul-i : goal.overflow_mul-i
