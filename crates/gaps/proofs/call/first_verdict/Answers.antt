@@ -106,9 +106,9 @@ pub table_verdict-requires : goal.table_verdict-requires
 table_verdict-requires c = let asked : After-both-sizes = search in
     record {
       few = (λ passes. few_map (t asked) (said asked passes), λ passes. few_lanes (t asked) (said asked passes));
-      empty = ((fresh, (length-replicate {A = ℕ} 16384 0, fresh))).0;
-      owner_len = ((fresh, (length-replicate {A = ℕ} 16384 0, fresh))).1.0;
-      empty_2 = ((fresh, (length-replicate {A = ℕ} 16384 0, fresh))).1.1;
+      empty = fresh;
+      owner_len = length-replicate {A = ℕ} 16384 0;
+      empty_2 = fresh;
     }
 
 pub returns : goal.returns

@@ -148,39 +148,13 @@ lane_rows-place-requires c = let read : After-word = search in
     let next_is = read.word.ensures.0 in
     record {
       lent = lent begin;
-      ids_value = ((
-        right_borne (lanes begin) (offsets begin) (ids begin) (right begin),
-        (
-          (
-            below turn,
-            omega (arith, climb, first_is, next_is),
-            omega (arith, most begin (i turn) inv.0, inv.1.end_is, first_is),
-          ),
-          λ w. omega (arith, room_more turn w, more_long read, inv.1.end_is, inv.2),
-        ),
-      )).0;
-      lane_in_bounds = ((
-        right_borne (lanes begin) (offsets begin) (ids begin) (right begin),
-        (
-          (
-            below turn,
-            omega (arith, climb, first_is, next_is),
-            omega (arith, most begin (i turn) inv.0, inv.1.end_is, first_is),
-          ),
-          λ w. omega (arith, room_more turn w, more_long read, inv.1.end_is, inv.2),
-        ),
-      )).1.0;
-      room = ((
-        right_borne (lanes begin) (offsets begin) (ids begin) (right begin),
-        (
-          (
-            below turn,
-            omega (arith, climb, first_is, next_is),
-            omega (arith, most begin (i turn) inv.0, inv.1.end_is, first_is),
-          ),
-          λ w. omega (arith, room_more turn w, more_long read, inv.1.end_is, inv.2),
-        ),
-      )).1.1;
+      ids_value = right_borne (lanes begin) (offsets begin) (ids begin) (right begin);
+      lane_in_bounds = (
+        below turn,
+        omega (arith, climb, first_is, next_is),
+        omega (arith, most begin (i turn) inv.0, inv.1.end_is, first_is),
+      );
+      room = λ w. omega (arith, room_more turn w, more_long read, inv.1.end_is, inv.2);
     }
 
 pub overflow_add-i-in-loop-i : goal.overflow_add-i-in-loop-i

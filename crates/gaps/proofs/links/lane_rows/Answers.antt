@@ -116,34 +116,10 @@ link_row-place-requires c = let turn : In-loop-k = search in
     λ w. omega (arith, room_more turn w, more_long start k, inv.1.end_is, inv.2) in
     record {
       by_id = (lent start).by_id;
-      edges_len = ((
-        (lent start).even,
-        (
-          ((bounds start).0, low),
-          (bears start k (id_there turn), room-now),
-        ),
-      )).0;
-      lane_in_bounds = ((
-        (lent start).even,
-        (
-          ((bounds start).0, low),
-          (bears start k (id_there turn), room-now),
-        ),
-      )).1.0;
-      nonzero = ((
-        (lent start).even,
-        (
-          ((bounds start).0, low),
-          (bears start k (id_there turn), room-now),
-        ),
-      )).1.1.0;
-      room = ((
-        (lent start).even,
-        (
-          ((bounds start).0, low),
-          (bears start k (id_there turn), room-now),
-        ),
-      )).1.1.1;
+      edges_len = (lent start).even;
+      lane_in_bounds = ((bounds start).0, low);
+      nonzero = bears start k (id_there turn);
+      room = room-now;
     }
 
 pub overflow_add-k : goal.overflow_add-k

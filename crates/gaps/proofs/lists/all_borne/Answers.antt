@@ -1,4 +1,3 @@
-use borrow.Author.Tests.{not-true, not-false}
 use lib.Dec.{eqb}
 use lib.ListN.{length, get_or}
 use mathlib.Core.Bool.{not}
@@ -60,7 +59,7 @@ find_id-f-requires c = let by_id = c.requires in
 
 pub returns-then-not-found : goal.returns-then-not-found
 returns-then-not-found c = let asked : After-found = search in
-    let missed = sym (found_is asked) ∙ not-true _ c.if-not-found.true-raw in
+    let missed = sym (found_is asked) ∙ c.if-not-found.true in
     sym ((head asked).loop-i.invariant ∙ borne_miss _ _ _ c.loop-i-test.true missed)
 
 pub overflow_add-i : goal.overflow_add-i
@@ -71,7 +70,7 @@ loop-i-smaller c = omega (arith, c.loop-i-test.true)
 
 pub loop-i-preserved : goal.loop-i-preserved
 loop-i-preserved c = let asked : After-found = search in
-    let borne-too = sym (found_is asked) ∙ not-false _ c.if-not-found.false-raw in
+    let borne-too = sym (found_is asked) ∙ c.if-not-found.false in
     (head asked).loop-i.invariant ∙ borne_on _ _ _ c.loop-i-test.true borne-too
 
 pub returns : goal.returns
