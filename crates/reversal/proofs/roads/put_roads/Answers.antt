@@ -1,4 +1,3 @@
-use Prim.Native.Nat.{◌-◌}
 use native.Mathlib.Omega.{arith}
 use Rattle.reversal.proofs.Leaves.{road_20}
 use Rattle.reversal.proofs.Writers.{row_fits, wrote_all, wrote_none, wrote_row}
