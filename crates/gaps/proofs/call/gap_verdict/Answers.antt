@@ -96,8 +96,8 @@ module _ (linked : After-link_ids) where
   by_id : ById (tables (begun from-11)).lanes linked.link_ids.new.heads linked.link_ids.new.next
   by_id = record {
     few = (kept from-11).few;
-    buckets = omega (arith, (linked.link_ids.auto.heads, linked.link_ids.auto.next), (begun from-11).requires.empty.buckets);
-    rows = omega (arith, (linked.link_ids.auto.heads, linked.link_ids.auto.next), (begun from-11).requires.empty.rows);
+    buckets = omega (arith, linked.link_ids.auto.heads, (begun from-11).requires.empty.buckets);
+    rows = omega (arith, linked.link_ids.auto.next, (begun from-11).requires.empty.rows);
     linked = linked.link_ids.ensures.chained;
   }
 

@@ -102,7 +102,7 @@ module _ (past : Else-not-admitted) where
   content_same = content_is (tables begun) (offsets begun) (ids begun) kept.even kept.once right
 
 pub gap_verdict-v-requires : goal.gap_verdict-v-requires
-gap_verdict-v-requires c = fresh
+gap_verdict-v-requires c = record { empty = fresh }
 
 pub returns-then-not-admitted : goal.returns-then-not-admitted
 unfolding gap_call
