@@ -1,10 +1,9 @@
 use lib.Ieee.{Float}
 use lib.ListN.{length, get_or, length-append}
-use mathlib.Core.Bool.{true}
 use mathlib.Core.List.{List, [], ◌++◌}
 use mathlib.Core.Path.{◌≡◌, refl, sym, ap, ◌∙◌}
 use native.Mathlib.Omega.{arith}
-use Prim.Native.Nat.{ℕ, ◌+◌, ◌*◌, ◌-◌, ◌/◌, ◌≤◌, ◌<◌}
+use Prim.Native.Nat.{ℕ, ◌+◌, ◌*◌, ◌/◌, ◌≤◌, ◌<◌}
 use Rattle.model.specs.Calls.{gap_width}
 use Rattle.words.specs.Keys.{is_id}
 use Rattle.words.specs.Rows.{last_of}

@@ -3,7 +3,7 @@ use lib.ListN.{length}
 use mathlib.Core.List.{List}
 use mathlib.Core.Path.{◌≡◌, refl, sym}
 use native.Mathlib.Omega.{arith}
-use Prim.Native.Nat.{ℕ, suc, ◌*◌, ◌/◌, ◌<◌}
+use Prim.Native.Nat.{ℕ, ◌*◌, ◌/◌, ◌<◌}
 use Rattle.geometry.specs.declared.gap.Seen.{Seen}
 use Rattle.words.proofs.Chains.{last_le}
 use Rattle.words.specs.Keys.{is_id}

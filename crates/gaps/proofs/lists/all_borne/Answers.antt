@@ -3,7 +3,7 @@ use lib.ListN.{length, get_or}
 use mathlib.Core.Bool.{not}
 use mathlib.Core.Path.{◌≡◌, refl, sym, ap, ◌∙◌}
 use native.Mathlib.Omega.{arith}
-use Prim.Native.Nat.{ℕ, ◌-◌, ◌/◌, ◌≤◌}
+use Prim.Native.Nat.{ℕ, ◌/◌, ◌≤◌}
 use Rattle.words.specs.Keys.{is_id}
 use Rattle.words.specs.Rows.{last_of}
 use Rattle.words.proofs.KeyLaws.{rows_in}

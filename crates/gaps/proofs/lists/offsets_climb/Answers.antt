@@ -1,7 +1,7 @@
 use lib.ListN.{length, drop}
 use mathlib.Core.Path.{sym, ap, ◌∙◌}
 use native.Mathlib.Omega.{arith}
-use Prim.Native.Nat.{ℕ, ◌+◌, ◌-◌, ◌≤◌}
+use Prim.Native.Nat.{ℕ, ◌+◌, ◌≤◌}
 use Rattle.model.specs.Rules.{climbs_to}
 use Rattle.gaps.proofs.Climbs.{climbs_begin, climbs_end, climbs_falls, climbs_none, climbs_off, climbs_on}
 use Rattle.gaps.proofs.lists.offsets_climb.Goals as goal
