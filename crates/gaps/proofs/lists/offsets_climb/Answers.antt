@@ -33,12 +33,12 @@ loop-i-smaller c = omega (arith, c.loop-i-test.true)
 
 pub loop-i-preserved : goal.loop-i-preserved
 loop-i-preserved c = let word-is = c.word-o.ensures.0 in (
-      omega (arith, c.loop-i.invariant.0),
-      c.loop-i.invariant.1
-          ∙ climbs_on _ _ _ _ c.loop-i-test.true (omega (arith, c.if-o-last.false, word-is))
-          ∙ ap (λ (w : ℕ). climbs_to c.args.end w (drop (c.loop-i.i + 1) c.args.offsets.now))
-          (sym word-is),
-    )
+  omega (arith, c.loop-i.invariant.0),
+  c.loop-i.invariant.1
+      ∙ climbs_on _ _ _ _ c.loop-i-test.true (omega (arith, c.if-o-last.false, word-is))
+      ∙ ap (λ (w : ℕ). climbs_to c.args.end w (drop (c.loop-i.i + 1) c.args.offsets.now))
+      (sym word-is),
+)
 
 pub returns : goal.returns
 returns c = let past : length c.args.offsets.now ≤ c.loop-i.i = omega (arith, c.loop-i-test.false) in

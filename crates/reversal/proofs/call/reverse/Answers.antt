@@ -101,10 +101,10 @@ module _ (measured : After-enough) where
 
 pub reversal_verdict-v-requires : goal.reversal_verdict-v-requires
 reversal_verdict-v-requires c = record {
-      empty = fresh;
-      owner_len = length-replicate {A = ℕ} 16384 0;
-      empty_2 = fresh;
-    }
+  empty = fresh;
+  owner_len = length-replicate {A = ℕ} 16384 0;
+  empty_2 = fresh;
+}
 
 -- refused by the verdict
 pub returns-then-not-admitted : goal.returns-then-not-admitted

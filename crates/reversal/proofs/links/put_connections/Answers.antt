@@ -8,9 +8,9 @@ loop-i-init c = wrote_none
 
 pub turned_connection-row-requires : goal.turned_connection-row-requires
 turned_connection-row-requires c = record {
-      ready = c.requires.ready;
-      i_in_bounds = c.loop-i-test.true;
-    }
+  ready = c.requires.ready;
+  i_in_bounds = c.loop-i-test.true;
+}
 
 pub put-requires : goal.put-requires
 put-requires c = row_fits 7 (connection_7 _ _ _ _) c.requires.connections_in_bounds c.loop-i.invariant c.loop-i-test.true
