@@ -129,5 +129,5 @@ returns c = let past : Else-not-admitted = search in
     let out = (begun past).args.out.now in
     c.write_rows.ensures
     ∙ ap (λ (rows : List ℕ). written_or9 (table_writing gap_width) rows out) (content_same past)
-    ∙ call_admitted (table_writing gap_width) (rule_list (begun past)) (content (begun past)) out (verdict tried) (free past)
-    (first tried)
+    ∙ call_admitted (table_writing gap_width) (rule_list (begun past)) (content (begun past)) out (verdict tried)
+    (free past) (first tried)

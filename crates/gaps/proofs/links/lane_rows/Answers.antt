@@ -17,13 +17,16 @@ use Rattle.gaps.proofs.links.lane_rows.Reads as reads
 use Rattle.gaps.proofs.links.lane_rows.Goals as goal
 
 abbrev Start : Type 0
-Start = lts.Start tie.the-claims reads.Pre reads.Post goal.the-invariant-loop-k goal.the-decreases-loop-k tie.handed_clauses
+Start = lts.Start tie.the-claims reads.Pre reads.Post
+    goal.the-invariant-loop-k goal.the-decreases-loop-k tie.handed_clauses
 
 abbrev In-loop-k : Type 0
-In-loop-k = lts.In-loop tie.the-claims reads.Pre reads.Post goal.the-invariant-loop-k goal.the-decreases-loop-k tie.handed_clauses
+In-loop-k = lts.In-loop tie.the-claims reads.Pre reads.Post
+    goal.the-invariant-loop-k goal.the-decreases-loop-k tie.handed_clauses
 
 abbrev At-loop-k : Type 0
-At-loop-k = lts.At-loop tie.the-claims reads.Pre reads.Post goal.the-invariant-loop-k goal.the-decreases-loop-k tie.handed_clauses
+At-loop-k = lts.At-loop tie.the-claims reads.Pre reads.Post
+    goal.the-invariant-loop-k goal.the-decreases-loop-k tie.handed_clauses
 
 -- ---- what is known throughout
 module _ (start : Start) where
