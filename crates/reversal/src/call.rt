@@ -75,8 +75,8 @@ fn write_all(
         marks.now heads.now next.now owner.now }
     requires room { Room (outputs roads.now sections.now connections.now pairs.now lanes.now edges.now)
         (outputs outroads.old outsections.old outconnections.old outpairs.old outlanes.old outedges.old) }
-    ensures { let content : ReversalOutputs = turned_tables text.now roads.now sections.now connections.now pairs.now lanes.now
-        edges.now marks.now owner.now in
+    ensures { let content : ReversalOutputs = turned_tables text.now roads.now sections.now connections.now pairs.now
+        lanes.now edges.now marks.now owner.now in
         outputs outroads.new outsections.new outconnections.new
         outpairs.new outlanes.new outedges.new
         ≡ put_reversed content (outputs outroads.old outsections.old outconnections.old

@@ -85,7 +85,8 @@ fn lane_with(lanes: &[u32], at: usize, mark: bool, section: u32, p: bool, q: boo
     ]
 }
 
-// Whether a link changes sign: by the road that the target names where the section is the last that way, and else by its own road.
+// Whether a link changes sign: by the road that the target names where the section is the last that way, and else by
+// its own road.
 fn sign(
     text: &[u8],
     roads: &[u32],

@@ -2,7 +2,8 @@
 ghost use Rattle.std.specs.Prelude.{◌≡◌, ◌+◌, ◌*◌, ◌/◌, ◌≤◌, ◌<◌, length};
 ghost use Rattle.model.specs.Rows.{written};
 ghost use Rattle.words.specs.Rows.{joined, spliced};
-ghost use Rattle.reversal.specs.Turned.{Ready, ReadyPairs, connection_with, pairs_from, turned_connection, turned_pairs};
+ghost use Rattle.reversal.specs.Turned.{Ready, ReadyPairs, connection_with, pairs_from, turned_connection};
+ghost use Rattle.reversal.specs.Turned.{turned_pairs};
 
 use crate::marks;
 use words::rows;
@@ -69,7 +70,8 @@ pub fn put_connections(
     }
 }
 
-// Writes `count` pairs from row `first` on in their place: their numbers change sign by the marks of the incoming and the connecting road.
+// Writes `count` pairs from row `first` on in their place: their numbers change sign by the marks of the incoming and
+// the connecting road.
 fn put_part(
     pairs: &[u32],
     first: usize,

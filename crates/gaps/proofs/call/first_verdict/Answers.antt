@@ -26,6 +26,9 @@ After-map_sized = lts.After-map_sized tie.the-claims reads.Pre reads.Post tie.ha
 abbrev Start : Type 0
 Start = lts.Start tie.the-claims reads.Pre reads.Post tie.handed_clauses
 
+abbrev After-fits : Type 0
+After-fits = lts.After-fits tie.the-claims reads.Pre reads.Post tie.handed_clauses
+
 abbrev After-fits-2 : Type 0
 After-fits-2 = lts.After-fits2 tie.the-claims reads.Pre reads.Post tie.handed_clauses
 
@@ -77,18 +80,18 @@ module _ (asked : After-both-sizes) where
       && lists_sized (start map-asked).args.offsets.now (start map-asked).args.ids.now)
   unfolding map_sized lanes_sized edges_sized lists_sized
   sizes_are =
-      let lanes-sized : After-fits-2 = search in
+      let lanes-sized : After-fits = search in
       let map-and-lanes : After-both-a = search in
-      let edges_sized_lem : After-fits-3 = search in
+      let edges_sized_lem : After-fits-2 = search in
       let and-edges : After-both-b = search in
-      let offsets-sized : After-fits-4 = search in
-      let ids-sized : goal.UNKNOWN-After-fits5 = search in
+      let offsets-sized : After-fits-3 = search in
+      let ids-sized : After-fits-4 = search in
       let lists : After-both-c = search in
       both_is asked.both-sizes.ensures
       (both_is and-edges.both-b.ensures
-      (both_is map-and-lanes.both-a.ensures map-asked.map_sized.ensures lanes-sized.fits-2.ensures)
-      edges_sized_lem.fits-3.ensures)
-      (both_is lists.both-c.ensures offsets-sized.fits-4.ensures ids-sized.fits5.ensures)
+      (both_is map-and-lanes.both-a.ensures map-asked.map_sized.ensures lanes-sized.fits.ensures)
+      edges_sized_lem.fits-2.ensures)
+      (both_is lists.both-c.ensures offsets-sized.fits-3.ensures ids-sized.fits-4.ensures)
 
   -- where 1 passes, it passes for the map and its lanes
   said : asked.both-sizes.result ≡ true → (map_sized 16384 t && lanes_sized t) ≡ true
@@ -106,9 +109,9 @@ pub table_verdict-requires : goal.table_verdict-requires
 table_verdict-requires c = let asked : After-both-sizes = search in
     record {
       few = (λ passes. few_map (t asked) (said asked passes), λ passes. few_lanes (t asked) (said asked passes));
-      empty = ((fresh, (length-replicate {A = ℕ} 16384 0, fresh))).0;
-      owner_len = ((fresh, (length-replicate {A = ℕ} 16384 0, fresh))).1.0;
-      empty_2 = ((fresh, (length-replicate {A = ℕ} 16384 0, fresh))).1.1;
+      empty = fresh;
+      owner_len = length-replicate {A = ℕ} 16384 0;
+      empty_2 = fresh;
     }
 
 pub returns : goal.returns

@@ -1,5 +1,4 @@
 -- `gap_verdict`: a refusal by the first nine rules stays; after their admission rule 11 decides.
-use borrow.Author.Tests.{not-true, not-false}
 use lib.ListN.{length}
 use mathlib.Core.List.{List}
 use mathlib.Core.Option.{Option, none}
@@ -76,7 +75,7 @@ module _ (past : Else-not-admitted) where
   begun = start tried
 
   first_pass : none ≡ first_broken (first_nine (tables begun) (offsets begun) (ids begun))
-  first_pass = sym (is_none _ (sym tried.admitted.ensures ∙ not-false _ past.if-not-admitted.false-raw)) ∙ first tried
+  first_pass = sym (is_none _ (sym tried.admitted.ensures ∙ past.if-not-admitted.false)) ∙ first tried
 
   kept : Kept (tables begun) (ids begun)
   kept = gap_kept (tables begun) (offsets begun) (ids begun) first_pass
@@ -97,14 +96,14 @@ module _ (linked : After-link_ids) where
   by_id : ById (tables (begun from-11)).lanes linked.link_ids.new.heads linked.link_ids.new.next
   by_id = record {
     few = (kept from-11).few;
-    buckets = omega (arith, (linked.link_ids.auto.heads, linked.link_ids.auto.next), (begun from-11).requires.empty.buckets);
-    rows = omega (arith, (linked.link_ids.auto.heads, linked.link_ids.auto.next), (begun from-11).requires.empty.rows);
+    buckets = omega (arith, linked.link_ids.auto.heads, (begun from-11).requires.empty.buckets);
+    rows = omega (arith, linked.link_ids.auto.next, (begun from-11).requires.empty.rows);
     linked = linked.link_ids.ensures.chained;
   }
 
 pub returns-then-not-admitted : goal.returns-then-not-admitted
 returns-then-not-admitted c = let tried : After-admitted = search in
-    let barred = is_some_lem _ (sym tried.admitted.ensures ∙ not-true _ c.if-not-admitted.true-raw) in
+    let barred = is_some_lem _ (sym tried.admitted.ensures ∙ c.if-not-admitted.true) in
     let start = start tried in
     record {
       result_value = gap_early (tables start) (offsets start) (ids start) _ barred (first tried);
@@ -123,7 +122,7 @@ lists_fit-requires c = by_id (search)
 
 pub returns-then-not-lists_fit : goal.returns-then-not-lists_fit
 returns-then-not-lists_fit c = let past : Else-not-admitted = search in
-    let wrong = sym c.lists_fit.ensures ∙ not-true _ c.if-not-lists_fit.true-raw in
+    let wrong = sym c.lists_fit.ensures ∙ c.if-not-lists_fit.true in
     record {
       result_value = later past (broken_at 0 (rule_11 past) tt wrong);
       lent = refused 11;
@@ -132,7 +131,7 @@ returns-then-not-lists_fit c = let past : Else-not-admitted = search in
 pub returns : goal.returns
 returns c = let past : Else-not-admitted = search in
     let linked : After-link_ids = search in
-    let right = sym c.lists_fit.ensures ∙ not-false _ c.if-not-lists_fit.false-raw in
+    let right = sym c.lists_fit.ensures ∙ c.if-not-lists_fit.false in
     record {
       result_value = later past (sym (pass_all (rule_11 past) (right, tt)));
       lent = λ _. record { by_id = by_id linked; even = (kept past).even; short = (kept past).short };

@@ -1,5 +1,4 @@
 -- `link_gaps` is refused by its verdict, or writes its rows: the words by row numbers are the model's content.
-use borrow.Author.Tests.{not-true, not-false}
 use lib.ListN.{length}
 use mathlib.Core.Bool.{true}
 use mathlib.Core.List.{List}
@@ -82,7 +81,7 @@ module _ (past : Else-not-admitted) where
   begun = start tried
 
   free : admits (verdict tried) ≡ true
-  free = sym tried.admitted.ensures ∙ not-false _ past.if-not-admitted.false-raw
+  free = sym tried.admitted.ensures ∙ past.if-not-admitted.false
 
   admitted : refusal_of (verdict tried) ≡ none
   admitted = is_none (refusal_of (verdict tried)) free
@@ -103,12 +102,12 @@ module _ (past : Else-not-admitted) where
   content_same = content_is (tables begun) (offsets begun) (ids begun) kept.even kept.once right
 
 pub gap_verdict-v-requires : goal.gap_verdict-v-requires
-gap_verdict-v-requires c = fresh
+gap_verdict-v-requires c = record { empty = fresh }
 
 pub returns-then-not-admitted : goal.returns-then-not-admitted
 unfolding gap_call
 returns-then-not-admitted c = let tried : After-admitted = search in
-    let barred = sym tried.admitted.ensures ∙ not-true _ c.if-not-admitted.true-raw in
+    let barred = sym tried.admitted.ensures ∙ c.if-not-admitted.true in
     call_refused (table_writing gap_width) (rule_list (start tried)) (content (start tried)) _ (verdict tried) barred
     (first tried)
 
@@ -130,5 +129,5 @@ returns c = let past : Else-not-admitted = search in
     let out = (begun past).args.out.now in
     c.write_rows.ensures
     ∙ ap (λ (rows : List ℕ). written_or9 (table_writing gap_width) rows out) (content_same past)
-    ∙ call_admitted (table_writing gap_width) (rule_list (begun past)) (content (begun past)) out (verdict tried) (free past)
-    (first tried)
+    ∙ call_admitted (table_writing gap_width) (rule_list (begun past)) (content (begun past)) out (verdict tried)
+    (free past) (first tried)

@@ -93,8 +93,8 @@ all_rows-n-requires c = let roomy : Then-ids-out = search in
     let start : Start = search in
     record {
       lent = lent start;
-      ids_value = ((right start, λ _. omega (arith, enough roomy))).0;
-      room = ((right start, λ _. omega (arith, enough roomy))).1;
+      ids_value = right start;
+      room = λ _. omega (arith, enough roomy);
     }
 
 pub shape_of-out-then-ids-out : goal.shape_of-out-then-ids-out
@@ -108,8 +108,8 @@ pub all_rows-n-requires-2 : goal.all_rows-n-requires-2
 all_rows-n-requires-2 c = let start : Start = search in
     record {
       lent = lent start;
-      ids_value = ((right start, λ w. absurd (true≢false (sym w)))).0;
-      room = ((right start, λ w. absurd (true≢false (sym w)))).1;
+      ids_value = right start;
+      room = λ w. absurd (true≢false (sym w));
     }
 
 pub shape_of-out-then-out-n : goal.shape_of-out-then-out-n
@@ -128,8 +128,8 @@ all_rows-m-requires c = let past : Else-out-n = search in
     let start : Start = search in
     record {
       lent = lent start;
-      ids_value = ((right start, λ _. omega (arith, fits past, ap length (kept (counted past))))).0;
-      room = ((right start, λ _. omega (arith, fits past, ap length (kept (counted past))))).1;
+      ids_value = right start;
+      room = λ _. omega (arith, fits past, ap length (kept (counted past)));
     }
 
 pub shape_of-out : goal.shape_of-out

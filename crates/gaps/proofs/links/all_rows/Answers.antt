@@ -16,19 +16,24 @@ use Rattle.gaps.proofs.links.all_rows.Reads as reads
 use Rattle.gaps.proofs.links.all_rows.Goals as goal
 
 abbrev Start : Type 0
-Start = lts.Start tie.the-claims reads.Pre reads.Post goal.the-invariant-loop-i goal.the-decreases-loop-i tie.handed_clauses
+Start = lts.Start tie.the-claims reads.Pre reads.Post
+    goal.the-invariant-loop-i goal.the-decreases-loop-i tie.handed_clauses
 
 abbrev In-loop-i : Type 0
-In-loop-i = lts.In-loop tie.the-claims reads.Pre reads.Post goal.the-invariant-loop-i goal.the-decreases-loop-i tie.handed_clauses
+In-loop-i = lts.In-loop tie.the-claims reads.Pre reads.Post
+    goal.the-invariant-loop-i goal.the-decreases-loop-i tie.handed_clauses
 
 abbrev After-word-first : Type 0
-After-word-first = lts.After-word tie.the-claims reads.Pre reads.Post goal.the-invariant-loop-i goal.the-decreases-loop-i tie.handed_clauses
+After-word-first = lts.After-word tie.the-claims reads.Pre reads.Post
+    goal.the-invariant-loop-i goal.the-decreases-loop-i tie.handed_clauses
 
 abbrev After-word : Type 0
-After-word = lts.After-word2 tie.the-claims reads.Pre reads.Post goal.the-invariant-loop-i goal.the-decreases-loop-i tie.handed_clauses
+After-word = lts.After-word2 tie.the-claims reads.Pre reads.Post
+    goal.the-invariant-loop-i goal.the-decreases-loop-i tie.handed_clauses
 
 abbrev At-loop-i : Type 0
-At-loop-i = lts.At-loop tie.the-claims reads.Pre reads.Post goal.the-invariant-loop-i goal.the-decreases-loop-i tie.handed_clauses
+At-loop-i = lts.At-loop tie.the-claims reads.Pre reads.Post
+    goal.the-invariant-loop-i goal.the-decreases-loop-i tie.handed_clauses
 
 -- ---- what is known throughout
 module _ (start : Start) where
@@ -148,39 +153,13 @@ lane_rows-place-requires c = let read : After-word = search in
     let next_is = read.word.ensures.0 in
     record {
       lent = lent begin;
-      ids_value = ((
-        right_borne (lanes begin) (offsets begin) (ids begin) (right begin),
-        (
-          (
-            below turn,
-            omega (arith, climb, first_is, next_is),
-            omega (arith, most begin (i turn) inv.0, inv.1.end_is, first_is),
-          ),
-          λ w. omega (arith, room_more turn w, more_long read, inv.1.end_is, inv.2),
-        ),
-      )).0;
-      lane_in_bounds = ((
-        right_borne (lanes begin) (offsets begin) (ids begin) (right begin),
-        (
-          (
-            below turn,
-            omega (arith, climb, first_is, next_is),
-            omega (arith, most begin (i turn) inv.0, inv.1.end_is, first_is),
-          ),
-          λ w. omega (arith, room_more turn w, more_long read, inv.1.end_is, inv.2),
-        ),
-      )).1.0;
-      room = ((
-        right_borne (lanes begin) (offsets begin) (ids begin) (right begin),
-        (
-          (
-            below turn,
-            omega (arith, climb, first_is, next_is),
-            omega (arith, most begin (i turn) inv.0, inv.1.end_is, first_is),
-          ),
-          λ w. omega (arith, room_more turn w, more_long read, inv.1.end_is, inv.2),
-        ),
-      )).1.1;
+      ids_value = right_borne (lanes begin) (offsets begin) (ids begin) (right begin);
+      lane_in_bounds = (
+        below turn,
+        omega (arith, climb, first_is, next_is),
+        omega (arith, most begin (i turn) inv.0, inv.1.end_is, first_is),
+      );
+      room = λ w. omega (arith, room_more turn w, more_long read, inv.1.end_is, inv.2);
     }
 
 pub overflow_add-i-in-loop-i : goal.overflow_add-i-in-loop-i

@@ -1,10 +1,9 @@
 use lib.Ieee.{Float}
 use lib.ListN.{length, get_or, length-append}
-use mathlib.Core.Bool.{true}
 use mathlib.Core.List.{List, [], ◌++◌}
 use mathlib.Core.Path.{◌≡◌, refl, sym, ap, ◌∙◌}
 use native.Mathlib.Omega.{arith}
-use Prim.Native.Nat.{ℕ, ◌+◌, ◌*◌, ◌-◌, ◌/◌, ◌≤◌, ◌<◌}
+use Prim.Native.Nat.{ℕ, ◌+◌, ◌*◌, ◌/◌, ◌≤◌, ◌<◌}
 use Rattle.model.specs.Calls.{gap_width}
 use Rattle.words.specs.Keys.{is_id}
 use Rattle.words.specs.Rows.{last_of}
@@ -18,13 +17,16 @@ use Rattle.gaps.proofs.links.lane_rows.Reads as reads
 use Rattle.gaps.proofs.links.lane_rows.Goals as goal
 
 abbrev Start : Type 0
-Start = lts.Start tie.the-claims reads.Pre reads.Post goal.the-invariant-loop-k goal.the-decreases-loop-k tie.handed_clauses
+Start = lts.Start tie.the-claims reads.Pre reads.Post
+    goal.the-invariant-loop-k goal.the-decreases-loop-k tie.handed_clauses
 
 abbrev In-loop-k : Type 0
-In-loop-k = lts.In-loop tie.the-claims reads.Pre reads.Post goal.the-invariant-loop-k goal.the-decreases-loop-k tie.handed_clauses
+In-loop-k = lts.In-loop tie.the-claims reads.Pre reads.Post
+    goal.the-invariant-loop-k goal.the-decreases-loop-k tie.handed_clauses
 
 abbrev At-loop-k : Type 0
-At-loop-k = lts.At-loop tie.the-claims reads.Pre reads.Post goal.the-invariant-loop-k goal.the-decreases-loop-k tie.handed_clauses
+At-loop-k = lts.At-loop tie.the-claims reads.Pre reads.Post
+    goal.the-invariant-loop-k goal.the-decreases-loop-k tie.handed_clauses
 
 -- ---- what is known throughout
 module _ (start : Start) where
@@ -116,34 +118,10 @@ link_row-place-requires c = let turn : In-loop-k = search in
     λ w. omega (arith, room_more turn w, more_long start k, inv.1.end_is, inv.2) in
     record {
       by_id = (lent start).by_id;
-      edges_len = ((
-        (lent start).even,
-        (
-          ((bounds start).0, low),
-          (bears start k (id_there turn), room-now),
-        ),
-      )).0;
-      lane_in_bounds = ((
-        (lent start).even,
-        (
-          ((bounds start).0, low),
-          (bears start k (id_there turn), room-now),
-        ),
-      )).1.0;
-      nonzero = ((
-        (lent start).even,
-        (
-          ((bounds start).0, low),
-          (bears start k (id_there turn), room-now),
-        ),
-      )).1.1.0;
-      room = ((
-        (lent start).even,
-        (
-          ((bounds start).0, low),
-          (bears start k (id_there turn), room-now),
-        ),
-      )).1.1.1;
+      edges_len = (lent start).even;
+      lane_in_bounds = ((bounds start).0, low);
+      nonzero = bears start k (id_there turn);
+      room = room-now;
     }
 
 pub overflow_add-k : goal.overflow_add-k

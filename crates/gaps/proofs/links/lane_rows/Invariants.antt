@@ -6,7 +6,10 @@ use Rattle.gaps.specs.Links.{Put, lane_rows}
 use Rattle.gaps.proofs.links.lane_rows.Given as goal
 
 abbrev pub invariant-loop-k : goal.invariant-loop-k
-invariant-loop-k l = (l.k ≤ l.count) × Put l.write l.at (lane_rows l.lanes l.edges l.ids l.lane l.first l.k) l.initial.out l.out l.place × (length l.out ≡ length l.initial.out)
+invariant-loop-k l =
+    (l.k ≤ l.count)
+    × Put l.write l.at (lane_rows l.lanes l.edges l.ids l.lane l.first l.k) l.initial.out l.out l.place
+    × (length l.out ≡ length l.initial.out)
 
 abbrev pub decreases-loop-k : goal.decreases-loop-k
 decreases-loop-k l = l.count - l.k

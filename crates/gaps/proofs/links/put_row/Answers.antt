@@ -1,5 +1,4 @@
 -- `put_row`: a passed gap has no row; a wide one has a row, which is counted or put.
-use borrow.Author.Tests.{not-true, not-false}
 use lib.ListN.{length}
 use mathlib.Core.Path.{sym, ap}
 use Rattle.gaps.specs.Links.{Numbers}
@@ -17,7 +16,7 @@ numbers start = start.requires.at_bound.1
 
 pub returns-then-not-write : goal.returns-then-not-write
 returns-then-not-write c = wide_counted c.args.lane c.args.next c.args.at c.args.out.now
-    c.args.seen c.in-Wide.is (not-true _ c.if-not-write.true-raw)
+    c.args.seen c.in-Wide.is c.if-not-write.true
 
 pub wide_row-row-requires : goal.wide_row-row-requires
 wide_row-row-requires c = let start : Start = search in
@@ -29,7 +28,7 @@ slice_bounds-put-end c = sym (ap length c.wide_row-row.ensures)
 pub put-requires : goal.put-requires
 put-requires c = wide_room c.args.lane c.args.next c.args.at c.args.out.now
     c.args.seen c.in-Wide.is c.wide_row-row.ensures
-    (not-false _ c.if-not-write.false-raw) c.requires.room
+    c.if-not-write.false c.requires.room
 
 pub returns-in-Passed : goal.returns-in-Passed
 returns-in-Passed c = passed_row c.args.lane c.args.next c.args.at c.args.out.now
@@ -38,4 +37,4 @@ returns-in-Passed c = passed_row c.args.lane c.args.next c.args.at c.args.out.no
 pub returns-else-not-write : goal.returns-else-not-write
 returns-else-not-write c = wide_put c.args.lane c.args.next c.args.at c.args.out.now
     c.args.seen c.in-Wide.is c.wide_row-row.ensures
-    (not-false _ c.if-not-write.false-raw) c.put.ensures
+    c.if-not-write.false c.put.ensures

@@ -1,10 +1,9 @@
-use borrow.Author.Tests.{not-true, not-false}
 use lib.Dec.{eqb}
 use lib.ListN.{length, get_or}
 use mathlib.Core.Bool.{not}
 use mathlib.Core.Path.{◌≡◌, refl, sym, ap, ◌∙◌}
 use native.Mathlib.Omega.{arith}
-use Prim.Native.Nat.{ℕ, ◌-◌, ◌/◌, ◌≤◌}
+use Prim.Native.Nat.{ℕ, ◌/◌, ◌≤◌}
 use Rattle.words.specs.Keys.{is_id}
 use Rattle.words.specs.Rows.{last_of}
 use Rattle.words.proofs.KeyLaws.{rows_in}
@@ -15,16 +14,20 @@ use Rattle.gaps.proofs.lists.all_borne.Reads as reads
 use Rattle.gaps.proofs.lists.all_borne.Goals as goal
 
 abbrev Start : Type 0
-Start = lts.Start tie.the-claims reads.Pre reads.Post goal.the-invariant-loop-i goal.the-decreases-loop-i tie.handed_clauses
+Start = lts.Start tie.the-claims reads.Pre reads.Post
+    goal.the-invariant-loop-i goal.the-decreases-loop-i tie.handed_clauses
 
 abbrev After-found : Type 0
-After-found = lts.After-found tie.the-claims reads.Pre reads.Post goal.the-invariant-loop-i goal.the-decreases-loop-i tie.handed_clauses
+After-found = lts.After-found tie.the-claims reads.Pre reads.Post
+    goal.the-invariant-loop-i goal.the-decreases-loop-i tie.handed_clauses
 
 abbrev At-loop-i : Type 0
-At-loop-i = lts.At-loop tie.the-claims reads.Pre reads.Post goal.the-invariant-loop-i goal.the-decreases-loop-i tie.handed_clauses
+At-loop-i = lts.At-loop tie.the-claims reads.Pre reads.Post
+    goal.the-invariant-loop-i goal.the-decreases-loop-i tie.handed_clauses
 
 abbrev After-find_id-f : Type 0
-After-find_id-f = lts.After-find_id tie.the-claims reads.Pre reads.Post goal.the-invariant-loop-i goal.the-decreases-loop-i tie.handed_clauses
+After-find_id-f = lts.After-find_id tie.the-claims reads.Pre reads.Post
+    goal.the-invariant-loop-i goal.the-decreases-loop-i tie.handed_clauses
 
 -- ---- a turn: whether identity i was found
 module _ (asked : After-found) where
@@ -60,7 +63,7 @@ find_id-f-requires c = let by_id = c.requires in
 
 pub returns-then-not-found : goal.returns-then-not-found
 returns-then-not-found c = let asked : After-found = search in
-    let missed = sym (found_is asked) ∙ not-true _ c.if-not-found.true-raw in
+    let missed = sym (found_is asked) ∙ c.if-not-found.true in
     sym ((head asked).loop-i.invariant ∙ borne_miss _ _ _ c.loop-i-test.true missed)
 
 pub overflow_add-i : goal.overflow_add-i
@@ -71,7 +74,7 @@ loop-i-smaller c = omega (arith, c.loop-i-test.true)
 
 pub loop-i-preserved : goal.loop-i-preserved
 loop-i-preserved c = let asked : After-found = search in
-    let borne-too = sym (found_is asked) ∙ not-false _ c.if-not-found.false-raw in
+    let borne-too = sym (found_is asked) ∙ c.if-not-found.false in
     (head asked).loop-i.invariant ∙ borne_on _ _ _ c.loop-i-test.true borne-too
 
 pub returns : goal.returns

@@ -1,7 +1,7 @@
 use lib.ListN.{length, drop}
 use mathlib.Core.Path.{sym, ap, ◌∙◌}
 use native.Mathlib.Omega.{arith}
-use Prim.Native.Nat.{ℕ, ◌+◌, ◌-◌, ◌≤◌}
+use Prim.Native.Nat.{ℕ, ◌+◌, ◌≤◌}
 use Rattle.model.specs.Rules.{climbs_to}
 use Rattle.gaps.proofs.Climbs.{climbs_begin, climbs_end, climbs_falls, climbs_none, climbs_off, climbs_on}
 use Rattle.gaps.proofs.lists.offsets_climb.Goals as goal
@@ -33,12 +33,12 @@ loop-i-smaller c = omega (arith, c.loop-i-test.true)
 
 pub loop-i-preserved : goal.loop-i-preserved
 loop-i-preserved c = let word-is = c.word-o.ensures.0 in (
-      omega (arith, c.loop-i.invariant.0),
-      c.loop-i.invariant.1
-          ∙ climbs_on _ _ _ _ c.loop-i-test.true (omega (arith, c.if-o-last.false, word-is))
-          ∙ ap (λ (w : ℕ). climbs_to c.args.end w (drop (c.loop-i.i + 1) c.args.offsets.now))
-          (sym word-is),
-    )
+  omega (arith, c.loop-i.invariant.0),
+  c.loop-i.invariant.1
+      ∙ climbs_on _ _ _ _ c.loop-i-test.true (omega (arith, c.if-o-last.false, word-is))
+      ∙ ap (λ (w : ℕ). climbs_to c.args.end w (drop (c.loop-i.i + 1) c.args.offsets.now))
+      (sym word-is),
+)
 
 pub returns : goal.returns
 returns c = let past : length c.args.offsets.now ≤ c.loop-i.i = omega (arith, c.loop-i-test.false) in

@@ -6,7 +6,6 @@ use mathlib.Core.Option.{none}
 use mathlib.Core.Path.{◌≡◌, sym, ap, ◌∙◌}
 use native.Mathlib.Omega.{arith}
 use lib.ListN.{length-replicate}
-use borrow.Author.Tests.{not-true, not-false}
 use Rattle.model.specs.Calls.{ReversalOutputs, put_reversed, reversal_call, reversal_content, reversal_lengths}
 use Rattle.model.specs.Calls.{reversal_rules, reversal_writing, written_or9}
 use Rattle.model.specs.Rules.{Rule, first_broken, fits}
@@ -75,7 +74,7 @@ module _ (past : Else-not-admitted) where
   judged = search
 
   free : admits (verdict judged) ≡ true
-  free = let asked : After-admitted = search in sym asked.admitted.ensures ∙ not-false _ past.if-not-admitted.false-raw
+  free = let asked : After-admitted = search in sym asked.admitted.ensures ∙ past.if-not-admitted.false
 
   no_rule : none ≡ first_broken (rule_list judged)
   no_rule = sym (is_none (refusal_of (verdict judged)) free) ∙ first_rule judged
@@ -102,23 +101,23 @@ module _ (measured : After-enough) where
 
 pub reversal_verdict-v-requires : goal.reversal_verdict-v-requires
 reversal_verdict-v-requires c = record {
-      empty = fresh;
-      owner_len = ((length-replicate {A = ℕ} 16384 0, fresh)).0;
-      empty_2 = ((length-replicate {A = ℕ} 16384 0, fresh)).1;
-    }
+  empty = fresh;
+  owner_len = length-replicate {A = ℕ} 16384 0;
+  empty_2 = fresh;
+}
 
 -- refused by the verdict
 pub returns-then-not-admitted : goal.returns-then-not-admitted
 unfolding reversal_call
 returns-then-not-admitted c = let met : After-reversal_verdict-v = search in
-    let barred = sym c.admitted.ensures ∙ not-true _ c.if-not-admitted.true-raw in
+    let barred = sym c.admitted.ensures ∙ c.if-not-admitted.true in
     call_refused reversal_writing (rule_list met) (content met) (lent met) (verdict met) barred (first_rule met)
 
 -- 9
 pub returns-then-not-enough : goal.returns-then-not-enough
 returns-then-not-enough c = let measured : After-enough = search in
     let met = judged (past measured) in
-    too_short reversal_writing (content met) (lent met) (sym (room_for measured) ∙ not-true _ c.if-not-enough.true-raw)
+    too_short reversal_writing (content met) (lent met) (sym (room_for measured) ∙ c.if-not-enough.true)
     ∙ written_or_9 (past measured)
 
 pub write_all-requires : goal.write_all-requires
@@ -127,12 +126,12 @@ write_all-requires c = let measured : After-enough = search in
     let met = judged (past measured) in
     let known = facts (tables met) (marks met) (no_rule (past measured)) in
     let linked = met.reversal_verdict-v.ensures.linked (is_none _ (free (past measured))) in
-    let kept = (met.reversal_verdict-v.auto.heads, met.reversal_verdict-v.auto.next, met.reversal_verdict-v.auto.owner, met.reversal_verdict-v.auto.kheads, met.reversal_verdict-v.auto.knext) in
+    let kept = met.reversal_verdict-v.auto in
     let full = length-replicate {A = ℕ} 16384 0 in
     record {
       writable = writable (tables met) (marks met) known linked
-          (omega (arith, full, kept)) (omega (arith, full, kept)) (omega (arith, full, kept));
-      room = room _ _ (sym measured.enough.ensures ∙ not-false _ c.if-not-enough.false-raw);
+          (omega (arith, full, kept.heads)) (omega (arith, full, kept.next)) (omega (arith, full, kept.owner));
+      room = room _ _ (sym measured.enough.ensures ∙ c.if-not-enough.false);
     }
 
 -- written
@@ -144,6 +143,6 @@ returns c = let measured : After-enough = search in
     let turned = content_is (tables met) (marks met) (facts (tables met) (marks met) clear) linked in
     let written = c.write_all.ensures
     ∙ ap (λ (new : ReversalOutputs). put_reversed new (lent met)) (sym turned) in
-    all_written reversal_writing (content met) (lent met) (sym (room_for measured) ∙ not-false _ c.if-not-enough.false-raw)
+    all_written reversal_writing (content met) (lent met) (sym (room_for measured) ∙ c.if-not-enough.false)
     (counted (tables met) (marks met) clear) written
     ∙ written_or_9 (past measured)

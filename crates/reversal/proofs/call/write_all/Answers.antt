@@ -20,9 +20,9 @@ module _ (near : After-put_connections) where
 
 pub put_roads-requires : goal.put_roads-requires
 put_roads-requires c = record {
-      ready = c.requires.writable.ready;
-      roads_in_bounds = c.requires.room.roads;
-    }
+  ready = c.requires.writable.ready;
+  roads_in_bounds = c.requires.room.roads;
+}
 
 pub put_sections-requires : goal.put_sections-requires
 put_sections-requires c = let tables = c.requires.writable in
@@ -36,9 +36,9 @@ put_sections-requires c = let tables = c.requires.writable in
 
 pub put_connections-requires : goal.put_connections-requires
 put_connections-requires c = record {
-      ready = c.requires.writable.ready;
-      connections_in_bounds = c.requires.room.connections;
-    }
+  ready = c.requires.writable.ready;
+  connections_in_bounds = c.requires.room.connections;
+}
 
 pub put_pairs-requires : goal.put_pairs-requires
 put_pairs-requires c = let tables = c.requires.writable in

@@ -1,4 +1,3 @@
-use Prim.Native.Nat.{◌-◌}
 use mathlib.Core.Path.{◌≡◌}
 use native.Mathlib.Nat.{le_refl}
 use native.Mathlib.Omega.{arith}
@@ -17,16 +16,19 @@ abbrev Start : Type 0
 Start = lts.Start tie.the-claims reads.Pre reads.Post goal.the-invariant-loop-i goal.the-decreases-loop-i
 
 abbrev After-floats-row : Type 0
-After-floats-row = lts.After-floats tie.the-claims reads.Pre reads.Post goal.the-invariant-loop-i goal.the-decreases-loop-i
+After-floats-row = lts.After-floats tie.the-claims reads.Pre reads.Post
+    goal.the-invariant-loop-i goal.the-decreases-loop-i
 
 abbrev At-loop-i : Type 0
 At-loop-i = lts.At-loop tie.the-claims reads.Pre reads.Post goal.the-invariant-loop-i goal.the-decreases-loop-i
 
 abbrev After-turned_ends : Type 0
-After-turned_ends = lts.After-turned_ends tie.the-claims reads.Pre reads.Post goal.the-invariant-loop-i goal.the-decreases-loop-i
+After-turned_ends = lts.After-turned_ends tie.the-claims reads.Pre reads.Post
+    goal.the-invariant-loop-i goal.the-decreases-loop-i
 
 abbrev After-mark_at-mark : Type 0
-After-mark_at-mark = lts.After-mark_at tie.the-claims reads.Pre reads.Post goal.the-invariant-loop-i goal.the-decreases-loop-i
+After-mark_at-mark = lts.After-mark_at tie.the-claims reads.Pre reads.Post
+    goal.the-invariant-loop-i goal.the-decreases-loop-i
 
 abbrev After-word : Type 0
 After-word = lts.After-word tie.the-claims reads.Pre reads.Post goal.the-invariant-loop-i goal.the-decreases-loop-i
@@ -62,7 +64,8 @@ turned_ends-requires c = row_room (length c.args.edges.now) 12 _ _ c.loop-i-test
 
 pub put_floats-requires : goal.put_floats-requires
 put_floats-requires c = let laid : After-floats-row = search in
-    row_fits 12 (edges_12 _ _ _) (start laid).requires.room (head laid).loop-i.invariant c.loop-i-test.true (turned laid)
+    row_fits 12 (edges_12 _ _ _) (start laid).requires.room (head laid).loop-i.invariant c.loop-i-test.true
+    (turned laid)
 
 pub overflow_add-i : goal.overflow_add-i
 overflow_add-i c = omega (arith, c.loop-i-test.true)
@@ -72,7 +75,8 @@ loop-i-smaller c = omega (arith, c.loop-i-test.true)
 
 pub loop-i-preserved : goal.loop-i-preserved
 loop-i-preserved c = let laid : After-floats-row = search in
-    wrote_row 12 (edges_12 _ _ _) (start laid).requires.room (head laid).loop-i.invariant c.loop-i-test.true (turned laid)
+    wrote_row 12 (edges_12 _ _ _) (start laid).requires.room (head laid).loop-i.invariant c.loop-i-test.true
+    (turned laid)
     c.put_floats.ensures c.put_floats.auto.out
 
 pub shape_of-out : goal.shape_of-out

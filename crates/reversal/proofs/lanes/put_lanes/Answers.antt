@@ -1,4 +1,3 @@
-use Prim.Native.Nat.{◌-◌}
 use mathlib.Core.Path.{◌≡◌}
 use native.Mathlib.Omega.{arith}
 use Rattle.reversal.specs.Turned.{Kept, turned_lane}
@@ -11,25 +10,32 @@ use Rattle.reversal.proofs.lanes.put_lanes.Reads as reads
 use Rattle.reversal.proofs.lanes.put_lanes.Goals as goal
 
 abbrev Start : Type 0
-Start = lts.Start tie.the-claims reads.Pre reads.Post goal.the-invariant-loop-i goal.the-decreases-loop-i tie.handed_clauses
+Start = lts.Start tie.the-claims reads.Pre reads.Post
+    goal.the-invariant-loop-i goal.the-decreases-loop-i tie.handed_clauses
 
 abbrev In-loop-i : Type 0
-In-loop-i = lts.In-loop tie.the-claims reads.Pre reads.Post goal.the-invariant-loop-i goal.the-decreases-loop-i tie.handed_clauses
+In-loop-i = lts.In-loop tie.the-claims reads.Pre reads.Post
+    goal.the-invariant-loop-i goal.the-decreases-loop-i tie.handed_clauses
 
 abbrev After-word-o : Type 0
-After-word-o = lts.After-word tie.the-claims reads.Pre reads.Post goal.the-invariant-loop-i goal.the-decreases-loop-i tie.handed_clauses
+After-word-o = lts.After-word tie.the-claims reads.Pre reads.Post
+    goal.the-invariant-loop-i goal.the-decreases-loop-i tie.handed_clauses
 
 abbrev After-numbers-part : Type 0
-After-numbers-part = lts.After-numbers tie.the-claims reads.Pre reads.Post goal.the-invariant-loop-i goal.the-decreases-loop-i tie.handed_clauses
+After-numbers-part = lts.After-numbers tie.the-claims reads.Pre reads.Post
+    goal.the-invariant-loop-i goal.the-decreases-loop-i tie.handed_clauses
 
 abbrev After-lane_on-row : Type 0
-After-lane_on-row = lts.After-lane_on tie.the-claims reads.Pre reads.Post goal.the-invariant-loop-i goal.the-decreases-loop-i tie.handed_clauses
+After-lane_on-row = lts.After-lane_on tie.the-claims reads.Pre reads.Post
+    goal.the-invariant-loop-i goal.the-decreases-loop-i tie.handed_clauses
 
 abbrev At-loop-i : Type 0
-At-loop-i = lts.At-loop tie.the-claims reads.Pre reads.Post goal.the-invariant-loop-i goal.the-decreases-loop-i tie.handed_clauses
+At-loop-i = lts.At-loop tie.the-claims reads.Pre reads.Post
+    goal.the-invariant-loop-i goal.the-decreases-loop-i tie.handed_clauses
 
 abbrev After-mark_at-mark : Type 0
-After-mark_at-mark = lts.After-mark_at tie.the-claims reads.Pre reads.Post goal.the-invariant-loop-i goal.the-decreases-loop-i tie.handed_clauses
+After-mark_at-mark = lts.After-mark_at tie.the-claims reads.Pre reads.Post
+    goal.the-invariant-loop-i goal.the-decreases-loop-i tie.handed_clauses
 
 -- ---- in a turn: lane i, whose road is known
 module _ (turn : In-loop-i) where
@@ -88,40 +94,24 @@ lane_on-row-requires c = let turn : In-loop-i = search in
     let road = known turn in
     record {
       ready = (start turn).requires.ready;
-      i_in_bounds = ((
-        turn.loop-i-test.true,
-        (
-          omega (arith, c.word-o.ensures.0, road.known, road.below),
-          section_within _ _ _ _ _ road c.word-o.ensures.0 c.numbers-part.ensures,
-        ),
-      )).0;
-      road_in_bounds = ((
-        turn.loop-i-test.true,
-        (
-          omega (arith, c.word-o.ensures.0, road.known, road.below),
-          section_within _ _ _ _ _ road c.word-o.ensures.0 c.numbers-part.ensures,
-        ),
-      )).1.0;
-      within = ((
-        turn.loop-i-test.true,
-        (
-          omega (arith, c.word-o.ensures.0, road.known, road.below),
-          section_within _ _ _ _ _ road c.word-o.ensures.0 c.numbers-part.ensures,
-        ),
-      )).1.1;
+      i_in_bounds = turn.loop-i-test.true;
+      road_in_bounds = omega (arith, c.word-o.ensures.0, road.known, road.below);
+      within = section_within _ _ _ _ _ road c.word-o.ensures.0 c.numbers-part.ensures;
     }
 
 pub overflow_mul-i : goal.overflow_mul-i
-overflow_mul-i c = let turn : In-loop-i = search in omega (arith, turn.loop-i-test.true, (start turn).requires.ready_lanes.few)
+overflow_mul-i c = let turn : In-loop-i = search in
+    omega (arith, turn.loop-i-test.true, (start turn).requires.ready_lanes.few)
 
 pub put-requires : goal.put-requires
 put-requires c = let laid : After-lane_on-row = search in
     let here = turn laid in
-    row_fits 10 (lane_10 _ _ _ _ _ _) (start here).requires.ready_lanes.room (head here).loop-i.invariant here.loop-i-test.true
-    (turned laid)
+    row_fits 10 (lane_10 _ _ _ _ _ _) (start here).requires.ready_lanes.room (head here).loop-i.invariant
+    here.loop-i-test.true (turned laid)
 
 pub overflow_add-i : goal.overflow_add-i
-overflow_add-i c = let turn : In-loop-i = search in omega (arith, turn.loop-i-test.true, (start turn).requires.ready_lanes.few)
+overflow_add-i c = let turn : In-loop-i = search in
+    omega (arith, turn.loop-i-test.true, (start turn).requires.ready_lanes.few)
 
 pub loop-i-smaller : goal.loop-i-smaller
 loop-i-smaller c = omega (arith, c.loop-i-test.true)
@@ -129,8 +119,8 @@ loop-i-smaller c = omega (arith, c.loop-i-test.true)
 pub loop-i-preserved : goal.loop-i-preserved
 loop-i-preserved c = let laid : After-lane_on-row = search in
     let here = turn laid in
-    wrote_row 10 (lane_10 _ _ _ _ _ _) (start here).requires.ready_lanes.room (head here).loop-i.invariant here.loop-i-test.true
-    (turned laid) c.put.ensures c.put.auto.out
+    wrote_row 10 (lane_10 _ _ _ _ _ _) (start here).requires.ready_lanes.room (head here).loop-i.invariant
+    here.loop-i-test.true (turned laid) c.put.ensures c.put.auto.out
 
 pub shape_of-out : goal.shape_of-out
 shape_of-out c = c.loop-i.invariant.as_long

@@ -1,4 +1,3 @@
-use Prim.Native.Nat.{◌-◌}
 use native.Mathlib.Omega.{arith}
 use Rattle.reversal.proofs.Leaves.{connection_7}
 use Rattle.reversal.proofs.Writers.{row_fits, wrote_all, wrote_none, wrote_row}
@@ -9,13 +8,13 @@ loop-i-init c = wrote_none
 
 pub turned_connection-row-requires : goal.turned_connection-row-requires
 turned_connection-row-requires c = record {
-      ready = c.requires.ready;
-      i_in_bounds = c.loop-i-test.true;
-    }
+  ready = c.requires.ready;
+  i_in_bounds = c.loop-i-test.true;
+}
 
 pub put-requires : goal.put-requires
-put-requires c = row_fits 7 (connection_7 _ _ _ _) c.requires.connections_in_bounds c.loop-i.invariant c.loop-i-test.true
-    c.turned_connection-row.ensures
+put-requires c = row_fits 7 (connection_7 _ _ _ _) c.requires.connections_in_bounds c.loop-i.invariant
+    c.loop-i-test.true c.turned_connection-row.ensures
 
 pub overflow_add-i : goal.overflow_add-i
 overflow_add-i c = omega (arith, c.loop-i-test.true)
@@ -24,8 +23,8 @@ pub loop-i-smaller : goal.loop-i-smaller
 loop-i-smaller c = omega (arith, c.loop-i-test.true)
 
 pub loop-i-preserved : goal.loop-i-preserved
-loop-i-preserved c = wrote_row 7 (connection_7 _ _ _ _) c.requires.connections_in_bounds c.loop-i.invariant c.loop-i-test.true
-    c.turned_connection-row.ensures c.put.ensures c.put.auto.out
+loop-i-preserved c = wrote_row 7 (connection_7 _ _ _ _) c.requires.connections_in_bounds c.loop-i.invariant
+    c.loop-i-test.true c.turned_connection-row.ensures c.put.ensures c.put.auto.out
 
 pub shape_of-out : goal.shape_of-out
 shape_of-out c = c.loop-i.invariant.as_long

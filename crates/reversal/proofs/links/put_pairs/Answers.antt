@@ -1,4 +1,4 @@
-use Prim.Native.Nat.{ℕ, ◌+◌, ◌*◌, ◌-◌, ◌/◌, ◌≤◌}
+use Prim.Native.Nat.{ℕ, ◌+◌, ◌*◌, ◌/◌, ◌≤◌}
 use mathlib.Core.List.{List}
 use mathlib.Core.Path.{◌≡◌, sym}
 use native.Mathlib.Nat.{le_refl}
@@ -16,13 +16,16 @@ use Rattle.reversal.proofs.links.put_pairs.Reads as reads
 use Rattle.reversal.proofs.links.put_pairs.Goals as goal
 
 abbrev In-loop-i : Type 0
-In-loop-i = lts.In-loop tie.the-claims reads.Pre reads.Post goal.the-invariant-loop-i goal.the-decreases-loop-i tie.handed_clauses
+In-loop-i = lts.In-loop tie.the-claims reads.Pre reads.Post
+    goal.the-invariant-loop-i goal.the-decreases-loop-i tie.handed_clauses
 
 abbrev At-loop-i : Type 0
-At-loop-i = lts.At-loop tie.the-claims reads.Pre reads.Post goal.the-invariant-loop-i goal.the-decreases-loop-i tie.handed_clauses
+At-loop-i = lts.At-loop tie.the-claims reads.Pre reads.Post
+    goal.the-invariant-loop-i goal.the-decreases-loop-i tie.handed_clauses
 
 abbrev Start : Type 0
-Start = lts.Start tie.the-claims reads.Pre reads.Post goal.the-invariant-loop-i goal.the-decreases-loop-i tie.handed_clauses
+Start = lts.Start tie.the-claims reads.Pre reads.Post
+    goal.the-invariant-loop-i goal.the-decreases-loop-i tie.handed_clauses
 
 -- ---- in a turn: connection i and its pairs
 module _ (turn : In-loop-i) where
@@ -65,8 +68,8 @@ module _ (turn : In-loop-i) where
   -- these begin where those before them end
   in_place : first * 2 ≡ length (joined i turned)
   in_place =
-      sym (place 7 5 6 (length pairs / 2) connections (omega arith) (omega arith) start.requires.ready_pairs.parts 2 turned
-      (λ j h. count j) i turn.loop-i-test.true)
+      sym (place 7 5 6 (length pairs / 2) connections (omega arith) (omega arith) start.requires.ready_pairs.parts 2
+      turned (λ j h. count j) i turn.loop-i-test.true)
 
   -- and have room
   room : first * 2 + length (turned i) ≤ length start.args.out.now
@@ -124,7 +127,8 @@ put_part-requires c = let turn : In-loop-i = search in
     }
 
 pub overflow_add-i-in-loop-i-3 : goal.overflow_add-i-in-loop-i-3
-overflow_add-i-in-loop-i-3 c = let turn : In-loop-i = search in omega (arith, turn.loop-i-test.true, (start turn).requires.ready_pairs.few)
+overflow_add-i-in-loop-i-3 c = let turn : In-loop-i = search in
+    omega (arith, turn.loop-i-test.true, (start turn).requires.ready_pairs.few)
 
 pub loop-i-smaller : goal.loop-i-smaller
 loop-i-smaller c = omega (arith, c.loop-i-test.true)

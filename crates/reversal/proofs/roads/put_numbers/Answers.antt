@@ -30,11 +30,13 @@ module _ (start : Start) where
 
   room : get_or roads (row * 20 + 18) 0 + length (numbers row) ≤ length start.args.out.now
   room =
-      sections_room roads start.args.sections.now start.requires.ready_sections.parts row start.requires.road_in_bounds _
-      start.requires.ready_sections.room
+      sections_room roads start.args.sections.now start.requires.ready_sections.parts row
+      start.requires.road_in_bounds _ start.requires.ready_sections.room
 
   up : ascends (numbers row) ≡ true
-  up = all_at (length roads / 20) row (λ i. ascends (numbers i)) start.requires.ready_sections.up start.requires.road_in_bounds
+  up =
+      all_at (length roads / 20) row (λ i. ascends (numbers i)) start.requires.ready_sections.up
+      start.requires.road_in_bounds
 
 pub put_mirrored-requires : goal.put_mirrored-requires
 put_mirrored-requires c = let start : Start = search in

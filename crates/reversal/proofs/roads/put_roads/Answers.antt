@@ -1,4 +1,3 @@
-use Prim.Native.Nat.{◌-◌}
 use native.Mathlib.Omega.{arith}
 use Rattle.reversal.proofs.Leaves.{road_20}
 use Rattle.reversal.proofs.Writers.{row_fits, wrote_all, wrote_none, wrote_row}
@@ -12,9 +11,9 @@ overflow_cast-r c = omega (arith, c.loop-i-test.true, c.requires.ready.few)
 
 pub turned_road-row-requires : goal.turned_road-row-requires
 turned_road-row-requires c = record {
-      ready = c.requires.ready;
-      road_in_bounds = c.loop-i-test.true;
-    }
+  ready = c.requires.ready;
+  road_in_bounds = c.loop-i-test.true;
+}
 
 pub put-requires : goal.put-requires
 put-requires c = row_fits 20 (road_20 _ _ _) c.requires.roads_in_bounds c.loop-i.invariant c.loop-i-test.true
