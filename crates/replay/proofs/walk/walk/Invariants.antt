@@ -1,8 +1,6 @@
-use Rattle.std.proofs.Common.{◌≡◌, ◌-◌, length}
+-- Each step begins after the last. Assumes nothing.
+use Rattle.std.proofs.Common.{length, ◌-◌}
 use Rattle.replay.proofs.walk.walk.Given as goal
 
-abbrev pub invariant-loop-at : goal.invariant-loop-at
-invariant-loop-at l = length l.tally ≡ length l.initial.tally
-
 abbrev pub decreases-loop-at : goal.decreases-loop-at
-decreases-loop-at l = length l.words - l.at
+decreases-loop-at g l = length l.words - l.at
