@@ -172,18 +172,18 @@ contact_is text roads marks a found turned = turned ∙ ap (λ b. turn_bit b (ge
 -- the road, marked or not, with the contacts of its predecessor and its successor
 module _ (text roads marks : List ℕ) (i : ℕ) {p q : ℕ} {row : List ℕ}
     (before : p ≡ contact_at text roads marks (i * 20 + 4)) (after : q ≡ contact_at text roads marks (i * 20 + 11))
-    where
-  pub road_marked : eqb (get_or marks i 0) 1 ≡ true
-      → row ≡ road_with roads (i * 20) (i * 20 + 11) (i * 20 + 4) q p → row ≡ turned_road text roads marks i
-  unfolding turned_road
-  road_marked marked is = if_on _ _ _ marked
-      (is ∙ ap₂ (λ (a b : ℕ). road_with roads (i * 20) (i * 20 + 11) (i * 20 + 4) a b) after before)
+  where
+    pub road_marked : eqb (get_or marks i 0) 1 ≡ true
+        → row ≡ road_with roads (i * 20) (i * 20 + 11) (i * 20 + 4) q p → row ≡ turned_road text roads marks i
+    unfolding turned_road
+    road_marked marked is = if_on _ _ _ marked
+        (is ∙ ap₂ (λ (a b : ℕ). road_with roads (i * 20) (i * 20 + 11) (i * 20 + 4) a b) after before)
 
-  pub road_unmarked : eqb (get_or marks i 0) 1 ≡ false
-      → row ≡ road_with roads (i * 20) (i * 20 + 4) (i * 20 + 11) p q → row ≡ turned_road text roads marks i
-  unfolding turned_road
-  road_unmarked unmarked is = if_off _ _ _ unmarked
-      (is ∙ ap₂ (λ (a b : ℕ). road_with roads (i * 20) (i * 20 + 4) (i * 20 + 11) a b) before after)
+    pub road_unmarked : eqb (get_or marks i 0) 1 ≡ false
+        → row ≡ road_with roads (i * 20) (i * 20 + 4) (i * 20 + 11) p q → row ≡ turned_road text roads marks i
+    unfolding turned_road
+    road_unmarked unmarked is = if_off _ _ _ unmarked
+        (is ∙ ap₂ (λ (a b : ℕ). road_with roads (i * 20) (i * 20 + 4) (i * 20 + 11) a b) before after)
 
 -- lane i on its road
 pub lane_is : (text roads marks lanes : List ℕ) (i r : ℕ) (m : Bool) (ss : List ℕ) {row : List ℕ} {s h l : ℕ}

@@ -50,7 +50,8 @@ fn link_rows(
     names::link_ends(text, roads, heads, next, junctions, &jheads, &jnext, ends);
 }
 
-// Every lane's own list, where there is no refusal and the checks left their links. The chains of the roads make room for those of the connections.
+// Every lane's own list, where there is no refusal and the checks left their links. The chains of the roads make room
+// for those of the connections.
 fn find_own(
     text: &[u8],
     roads: &[u32],
@@ -67,11 +68,13 @@ fn find_own(
     offsets: &mut [u32],
     own: &mut [u32],
 )
-    requires t_value { let t : Tables = lane_tables text.now roads.now sections.now junctions.now connections.now pairs.now lanes.now in
+    requires t_value { let t : Tables =
+        lane_tables text.now roads.now sections.now junctions.now connections.now pairs.now lanes.now in
         first_broken (succession_rules t) ≡ none }
     requires linked { Linked text.now roads.now lanes.now heads.old next.old owner.now kheads.now knext.now }
     requires lent { Lent heads.old next.old owner.now kheads.now knext.now offsets.old own.old }
-    ensures { let t : Tables = lane_tables text.now roads.now sections.now junctions.now connections.now pairs.now lanes.now in
+    ensures { let t : Tables =
+        lane_tables text.now roads.now sections.now junctions.now connections.now pairs.now lanes.now in
         Filled (length t.lanes / 10) (own_list t)
         offsets.old own.old offsets.new own.new }
 {
@@ -120,9 +123,11 @@ fn resolve_own(
     own: &mut [u32],
 ) -> Verdict
     requires offsets_len { (length offsets.old ≡ 16385) × (length own.old ≡ 65536) }
-    ensures result_value { let t : Tables = lane_tables text.now roads.now sections.now junctions.now connections.now pairs.now lanes.now in
+    ensures result_value { let t : Tables =
+        lane_tables text.now roads.now sections.now junctions.now connections.now pairs.now lanes.now in
         refusal_of result ≡ first_broken (succession_rules t) }
-    ensures filled { let t : Tables = lane_tables text.now roads.now sections.now junctions.now connections.now pairs.now lanes.now in
+    ensures filled { let t : Tables =
+        lane_tables text.now roads.now sections.now junctions.now connections.now pairs.now lanes.now in
         refusal_of result ≡ none → Filled (length t.lanes / 10) (own_list t)
         offsets.old own.old offsets.new own.new }
 {
@@ -241,7 +246,8 @@ fn write_lists(
     predecessor_offsets: &mut [u32],
     predecessor_ids: &mut [u32],
 ) -> Succession
-    requires lanes_len_bound { (length lanes.now / 10 ≤ 16384) × (any (length lanes.now / 10) (id_before lanes.now) ≡ false) }
+    requires lanes_len_bound { (length lanes.now / 10 ≤ 16384)
+        × (any (length lanes.now / 10) (id_before lanes.now) ≡ false) }
     requires all_rise { AllRise (length lanes.now / 10) starts.now ids.now }
     requires lanes_bound { start_of (list_part starts.now ids.now) (length lanes.now / 10) ≤ 65536 }
     requires as_many { let onward : ℕ → List ℕ = onward_at lanes.now starts.now ids.now in

@@ -271,7 +271,8 @@ pub fn successors_of(
     requires chained { Meeting junctions.now connections.now sides.now mheads.now mnext.now }
     requires in_bounds { let read : Rows = rows_of roads.now sections.now junctions.now connections.now pairs.now
         lanes.now owner.now sides.now ends.now in
-        (l < length lanes.now / 10) × (length (exits_by_row read l true) + length (exits_by_row read l false) ≤ length run.old) }
+        (l < length lanes.now / 10)
+        × (length (exits_by_row read l true) + length (exits_by_row read l false) ≤ length run.old) }
     ensures { let read : Rows = rows_of roads.now sections.now junctions.now connections.now pairs.now
         lanes.now owner.now sides.now ends.now in
         Resolved read l run.old run.new result }

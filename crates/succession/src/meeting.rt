@@ -1,5 +1,5 @@
-// Connections chained by their junction and incoming road: `heads` has a word for each bucket and `next` one for each connection, counted back from
-// the last; a word is such a count plus 1, and 0 for none.
+// Connections chained by their junction and incoming road: `heads` has a word for each bucket and `next` one for each
+// connection, counted back from the last; a word is such a count plus 1, and 0 for none.
 ghost use Rattle.std.specs.Prelude.{◌≡◌, true, ◌+◌, ◌-◌, ◌*◌, ◌/◌, ◌≤◌, ◌<◌, length};
 ghost use Rattle.model.specs.Rows.{parts_fit, table};
 ghost use Rattle.words.specs.Chain.{Chained};
@@ -40,7 +40,8 @@ fn link_part(
     requires n_bound { (n ≤ 16384) × (n * 2 ≤ length sides.now) × (length heads.old ≡ 16384) × (n ≤ length next.old)
         × (j < length junctions.now / 5) × (length junctions.now / 5 ≤ 16384) }
     requires j_bound { (end_of junctions.now j ≤ n) × Homes junctions.now }
-    requires chained { Chained (connection_hash junctions.now sides.now n) (n - end_of junctions.now j) heads.old next.old }
+    requires chained { Chained (connection_hash junctions.now sides.now n) (n - end_of junctions.now j) heads.old
+        next.old }
     ensures { Chained (connection_hash junctions.now sides.now n)
         (n - first_of junctions.now j) heads.new next.new }
 {

@@ -55,7 +55,8 @@ pub fn through_pair(
     requires road_bound { (road < 4294967296) × (length lanes.now / 10 ≤ length owner.now)
         × (length heads.now ≡ 16384) × (length lanes.now / 10 ≤ length next.now) × (length lanes.now / 10 ≤ 16384) }
     requires chained { Chained (lane_hash lanes.now owner.now) (length lanes.now / 10) heads.now next.now }
-    requires p_in_bounds { (p < length pairs.now / 2) × Room n (pair_entry pairs.now lanes.now owner.now road section (flag contact) k p) run.old }
+    requires p_in_bounds { (p < length pairs.now / 2)
+        × Room n (pair_entry pairs.now lanes.now owner.now road section (flag contact) k p) run.old }
     ensures { Took both n
         (pair_entry pairs.now lanes.now owner.now road section (flag contact) k p)
         run.old run.new result }
@@ -102,7 +103,8 @@ pub fn within_road(
     run: &mut [u32],
     n: usize,
 ) -> usize
-    requires l_in_bounds { (l < length lanes.now / 10) × (link + 1 < length lanes.now) × (length lanes.now / 10 ≤ length owner.now)
+    requires l_in_bounds { (l < length lanes.now / 10) × (link + 1 < length lanes.now)
+        × (length lanes.now / 10 ≤ length owner.now)
         × (length heads.now ≡ 16384) × (length lanes.now / 10 ≤ length next.now) × (length lanes.now / 10 ≤ 16384) }
     requires chained { Chained (lane_hash lanes.now owner.now) (length lanes.now / 10) heads.now next.now }
     requires room { Room n (step_by_row lanes.now owner.now l s link (flag contact)) run.old }
