@@ -1,4 +1,4 @@
--- `cards::value` is proved: a pattern up to the infinity's, the sign aside, is no NaN's. Assumes nothing.
+-- A pattern up to the infinity's, the sign aside, is no NaN's. Assumes nothing.
 use Rattle.geometry.proofs.Patterns.{no_nan_below}
 use Rattle.vectors.proofs.cards.value.Goals as goal
 
