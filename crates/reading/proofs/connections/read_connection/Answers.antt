@@ -202,12 +202,14 @@ pub read_links-q-requires : goal.read_links-q-requires
 read_links-q-requires c = let warned : After-warn_if-v = search in
     let room = has_room (start (past warned)) in
     let first_is = (first warned).word-first.ensures.0 in
-    let count_is = (count warned).word-count.ensures.0 in (
-      omega (arith, room.part),
-      omega (arith, room.few),
-      omega (arith, room.pairs),
-      omega (arith, room.warnings, warned_few warned),
-    )
+    let count_is = (count warned).word-count.ensures.0 in record {
+      count_in_bounds = (
+        omega (arith, room.part),
+        omega (arith, room.few),
+        omega (arith, room.pairs),
+        omega (arith, room.warnings, warned_few warned),
+      );
+    }
 
 pub overflow_sub-q : goal.overflow_sub-q
 overflow_sub-q c = omega (arith, c.read_links-q.ensures.0.pairs.count)
@@ -217,8 +219,8 @@ connection_row-row-requires c = let warned : After-warn_if-v = search in
     let room = has_room (start (past warned)) in
     let low = (road warned).road_word.ensures.0 in
     let count_is = (count warned).word-count.ensures.0 in (
-      omega (arith, room.row-1),
-      omega (arith, room.row-1),
+      omega (arith, room.row),
+      omega (arith, room.row),
       omega (arith, room.pairs),
       omega (arith, room.pairs, c.read_links-q.ensures.1),
     )

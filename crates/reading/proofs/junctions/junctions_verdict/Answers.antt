@@ -34,6 +34,9 @@ Start = lts.Start tie.the-claims reads.Pre reads.Post
 abbrev After-both-a : Type 0
 After-both-a = lts.After-both tie.the-claims reads.Pre reads.Post
 
+abbrev After-fits : Type 0
+After-fits = lts.After-fits tie.the-claims reads.Pre reads.Post
+
 abbrev After-fits-2 : Type 0
 After-fits-2 = lts.After-fits2 tie.the-claims reads.Pre reads.Post
 
@@ -71,13 +74,13 @@ module _ (tested : After-both) where
 
   sizes_tested : tested.both.result ≡ sizes (tables start)
   sizes_tested =
-      let links : goal.UNKNOWN-After-fits3 = search in
+      let links : After-fits-2 = search in
       let two : After-both-a = search in
-      let connections : After-fits-2 = search in
+      let connections : After-fits = search in
       let junctions : After-raw_sized = search in
       both_is tested.both.ensures
-      (both_is two.both-a.ensures junctions.raw_sized.ensures connections.fits-2.ensures)
-      links.fits3.ensures
+      (both_is two.both-a.ensures junctions.raw_sized.ensures connections.fits.ensures)
+      links.fits-2.ensures
 
 module _ (past : Else-not-both) where
   abbrev sizes-test : After-both

@@ -20,28 +20,28 @@ use Rattle.reading.proofs.junctions.read_junctions.Reads as reads
 use Rattle.reading.proofs.junctions.read_junctions.Goals as goal
 
 abbrev After-admitted : Type 0
-After-admitted = lts.After-admitted tie.the-claims reads.Pre reads.Post
+After-admitted = lts.After-admitted tie.the-claims reads.Pre reads.Post tie.handed_clauses
 
 abbrev After-junctions_verdict-v : Type 0
-After-junctions_verdict-v = lts.After-junctions_verdict tie.the-claims reads.Pre reads.Post
+After-junctions_verdict-v = lts.After-junctions_verdict tie.the-claims reads.Pre reads.Post tie.handed_clauses
 
 abbrev Start : Type 0
-Start = lts.Start tie.the-claims reads.Pre reads.Post
+Start = lts.Start tie.the-claims reads.Pre reads.Post tie.handed_clauses
 
 abbrev Else-not-admitted : Type 0
-Else-not-admitted = lts.Else1 tie.the-claims reads.Pre reads.Post
+Else-not-admitted = lts.Else1 tie.the-claims reads.Pre reads.Post tie.handed_clauses
 
 -- ---- the call's tables and outputs
 module _ (start : Start) where
   abbrev tables : RawTables
   tables =
-      raw_tables start.args.text.now start.args.raw-junctions.now start.args.raw-connections.now
-      start.args.raw-lane-links.now
+      raw_tables start.args.text.now start.args.raw_junctions.now start.args.raw_connections.now
+      start.args.raw_lane_links.now
 
   abbrev outs : JunctionOutputs
   outs =
-      outputs start.args.junctions-out.now start.args.connections-out.now start.args.pairs-out.now
-      start.args.warnings-out.now
+      outputs start.args.junctions_out.now start.args.connections_out.now start.args.pairs_out.now
+      start.args.warnings_out.now
 
 -- ---- not refused by a rule
 module _ (past : Else-not-admitted) where
@@ -56,8 +56,8 @@ module _ (past : Else-not-admitted) where
       let tested : After-admitted = search in
       sym tested.admitted.ensures ∙ not-false _ past.if-not-admitted.false-raw
 
-  tables_ready : Ready start.args.raw-junctions.now start.args.raw-connections.now
-      start.args.raw-lane-links.now
+  tables_ready : Ready start.args.raw_junctions.now start.args.raw_connections.now
+      start.args.raw_lane_links.now
   tables_ready = ready (tables start) (sym (is_none _ free) ∙ judged.junctions_verdict-v.ensures)
 
   only_9_left : written_or9 junction_writing (junction_content (tables start)) (outs start)
@@ -74,7 +74,7 @@ returns-then-not-admitted c = let start : Start = search in
     c.junctions_verdict-v.result barred c.junctions_verdict-v.ensures
 
 pub read_all-counted-requires : goal.read_all-counted-requires
-read_all-counted-requires c = let past : Else-not-admitted = search in tables_ready past
+read_all-counted-requires c = let past : Else-not-admitted = search in record { ready = tables_ready past }
 
 pub fit-requires : goal.fit-requires
 fit-requires c = let past : Else-not-admitted = search in
@@ -94,7 +94,7 @@ returns-then-not-fit c = let past : Else-not-admitted = search in
     counted_short (tables (start past)) _ _ _ _ c.read_all-counted.ensures.0 short ∙ only_9_left past
 
 pub read_all-rows-requires : goal.read_all-rows-requires
-read_all-rows-requires c = let past : Else-not-admitted = search in tables_ready past
+read_all-rows-requires c = let past : Else-not-admitted = search in record { ready = tables_ready past }
 
 pub shape_of-junctions_out : goal.shape_of-junctions_out
 shape_of-junctions_out c = c.read_all-rows.ensures.0.rows.kept

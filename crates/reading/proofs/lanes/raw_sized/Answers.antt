@@ -8,4 +8,4 @@ use Rattle.reading.proofs.lanes.raw_sized.Goals as goal
 
 pub returns : goal.returns
 unfolding raw_sized
-returns c = c.both.ensures ∙ ap (λ b. leb (length c.args.text.now) 1048576 && b) c.fits2.ensures
+returns c = c.both.ensures ∙ ap (λ b. leb (length c.args.text.now) 1048576 && b) c.fits.ensures

@@ -18,12 +18,14 @@ overflow_add-first c = omega (arith, c.requires.count_in_bounds.1, c.loop-k-test
 
 pub read_link-q-requires : goal.read_link-q-requires
 read_link-q-requires c = let inv = c.loop-k.invariant in
-    let inside = c.loop-k-test.true in (
-      omega (arith, c.requires.count_in_bounds.0),
-      omega (arith, c.requires.count_in_bounds.1),
-      omega (arith, c.requires.count_in_bounds.2, inv.2),
-      omega (arith, c.requires.count_in_bounds.3, inv.3),
-    )
+    let inside = c.loop-k-test.true in record {
+      l_in_bounds = (
+        omega (arith, c.requires.count_in_bounds.0),
+        omega (arith, c.requires.count_in_bounds.1),
+        omega (arith, c.requires.count_in_bounds.2, inv.2),
+        omega (arith, c.requires.count_in_bounds.3, inv.3),
+      );
+    }
 
 pub overflow_add-k : goal.overflow_add-k
 overflow_add-k c = omega (arith, c.requires.count_in_bounds.1, c.loop-k-test.true)

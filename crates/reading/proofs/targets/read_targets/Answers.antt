@@ -38,7 +38,7 @@ After-warnings_fit = lts.After-warnings_fit tie.the-claims reads.Pre reads.Post
 
 module _ (start : Start) where
   abbrev outs : TargetOutputs
-  outs = outputs start.args.targets-out.now start.args.warnings-out.now
+  outs = outputs start.args.targets_out.now start.args.warnings_out.now
 
 -- ---- not refused by a rule
 module _ (past : Else-not-admitted) where
@@ -72,12 +72,12 @@ module _ (tested : After-both) where
   begun = search
 
   room : tested.both.result
-      ≡ room_for begun.args.text.now begun.args.raw.now begun.args.targets-out.now
-      begun.args.warnings-out.now
+      ≡ room_for begun.args.text.now begun.args.raw.now begun.args.targets_out.now
+      begun.args.warnings_out.now
   room =
       let fit : After-warnings_fit = search in
       tested.both.ensures
-      ∙ ap (λ (b : Bool). leb (length begun.args.raw.now / 9 * 7) (length begun.args.targets-out.now) && b)
+      ∙ ap (λ (b : Bool). leb (length begun.args.raw.now / 9 * 7) (length begun.args.targets_out.now) && b)
       fit.warnings_fit.ensures
 
 pub returns-then-not-admitted : goal.returns-then-not-admitted

@@ -2,42 +2,27 @@
 use mathlib.Core.Path.{refl}
 use native.Mathlib.Omega.{arith}
 use Rattle.reversal.specs.Answers.{answer_of}
-use Rattle.reversal.specs.declared.call.Reversed.TheVariants.{Written}
-use Rattle.vorzhyket.specs.Exported.{Counted}
 use Rattle.vorzhyket.proofs.Left.{case_counted, case_refused, case_wrote}
-use Rattle.vorzhyket.proofs.answers.reversed.Tie as tie
-use Rattle.vorzhyket.proofs.answers.reversed.Lts as lts
-use Rattle.vorzhyket.proofs.answers.reversed.Reads as reads
 use Rattle.vorzhyket.proofs.answers.reversed.Goals as goal
 
-abbrev In-Written-2 : Type 0
-In-Written-2 = lts.After-a tie.the-claims reads.Pre reads.Post
-
-abbrev Start : Type 0
-Start = lts.Start tie.the-claims reads.Pre reads.Post
-
 -- ---- it wrote: the counts are words
-module _ (there : In-Written-2) where
-  few : Counted (answer_of (Written there.in-Written.n))
-  few = let start : Start = search in case_counted answer_of there.in-Written.is start.requires
-
 pub overflow_cast-written : goal.overflow_cast-written
-overflow_cast-written c = let there : In-Written-2 = search in omega (arith, few there)
+overflow_cast-written c = omega (arith, case_counted answer_of c.in-Written.is c.requires)
 
 pub overflow_cast-written-in-Written : goal.overflow_cast-written-in-Written
-overflow_cast-written-in-Written c = let there : In-Written-2 = search in omega (arith, few there)
+overflow_cast-written-in-Written c = omega (arith, case_counted answer_of c.in-Written.is c.requires)
 
 pub overflow_cast-written-in-Written-2 : goal.overflow_cast-written-in-Written-2
-overflow_cast-written-in-Written-2 c = let there : In-Written-2 = search in omega (arith, few there)
+overflow_cast-written-in-Written-2 c = omega (arith, case_counted answer_of c.in-Written.is c.requires)
 
 pub overflow_cast-written-in-Written-3 : goal.overflow_cast-written-in-Written-3
-overflow_cast-written-in-Written-3 c = let there : In-Written-2 = search in omega (arith, few there)
+overflow_cast-written-in-Written-3 c = omega (arith, case_counted answer_of c.in-Written.is c.requires)
 
 pub overflow_cast-written-in-Written-4 : goal.overflow_cast-written-in-Written-4
-overflow_cast-written-in-Written-4 c = let there : In-Written-2 = search in omega (arith, few there)
+overflow_cast-written-in-Written-4 c = omega (arith, case_counted answer_of c.in-Written.is c.requires)
 
 pub overflow_cast-written-in-Written-5 : goal.overflow_cast-written-in-Written-5
-overflow_cast-written-in-Written-5 c = let there : In-Written-2 = search in omega (arith, few there)
+overflow_cast-written-in-Written-5 c = omega (arith, case_counted answer_of c.in-Written.is c.requires)
 
 pub returns-in-Written : goal.returns-in-Written
 returns-in-Written c = case_wrote answer_of c.in-Written.is _
