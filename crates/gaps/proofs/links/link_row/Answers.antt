@@ -1,4 +1,4 @@
--- `link_row_lem`: the identity is borne, so its lane has a row, and the row of what is seen of that link is put.
+-- `link_row`: the identity is borne, so its lane has a row, and the row of what is seen of that link is put.
 use lib.ListN.{length}
 use mathlib.Core.List.{List}
 use mathlib.Core.Path.{◌≡◌, refl, sym}
