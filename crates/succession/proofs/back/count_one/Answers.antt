@@ -12,10 +12,13 @@ use Rattle.succession.proofs.back.count_one.Reads as reads
 use Rattle.succession.proofs.back.count_one.Goals as goal
 
 abbrev Start : Type 0
-Start = lts.Start tie.the-claims reads.Pre reads.Post goal.the-invariant-loop-k goal.the-decreases-loop-k tie.handed_clauses
+Start =
+    lts.Start tie.the-claims reads.Pre reads.Post goal.the-invariant-loop-k goal.the-decreases-loop-k tie.handed_clauses
 
 abbrev After-two_way : Type 0
-After-two_way = lts.After-two_way tie.the-claims reads.Pre reads.Post goal.the-invariant-loop-k goal.the-decreases-loop-k tie.handed_clauses
+After-two_way =
+    lts.After-two_way tie.the-claims reads.Pre reads.Post
+    goal.the-invariant-loop-k goal.the-decreases-loop-k tie.handed_clauses
 
 pub overflow_add-l : goal.overflow_add-l
 overflow_add-l c = omega (arith, c.requires.l_in_bounds.0, c.requires.by_id.few)

@@ -18,19 +18,28 @@ use Rattle.succession.proofs.back.finish_lists.Reads as reads
 use Rattle.succession.proofs.back.finish_lists.Goals as goal
 
 abbrev In-loop-i : Type 0
-In-loop-i = lts.In-loop tie.the-claims reads.Pre reads.Post goal.the-invariant-loop-i goal.the-decreases-loop-i tie.handed_clauses
+In-loop-i =
+    lts.In-loop tie.the-claims reads.Pre reads.Post
+    goal.the-invariant-loop-i goal.the-decreases-loop-i tie.handed_clauses
 
 abbrev Start : Type 0
-Start = lts.Start tie.the-claims reads.Pre reads.Post goal.the-invariant-loop-i goal.the-decreases-loop-i tie.handed_clauses
+Start =
+    lts.Start tie.the-claims reads.Pre reads.Post goal.the-invariant-loop-i goal.the-decreases-loop-i tie.handed_clauses
 
 abbrev At-loop-i : Type 0
-At-loop-i = lts.At-loop tie.the-claims reads.Pre reads.Post goal.the-invariant-loop-i goal.the-decreases-loop-i tie.handed_clauses
+At-loop-i =
+    lts.At-loop tie.the-claims reads.Pre reads.Post
+    goal.the-invariant-loop-i goal.the-decreases-loop-i tie.handed_clauses
 
 abbrev After-list_part-in-loop-i : Type 0
-After-list_part-in-loop-i = lts.After-list_part2 tie.the-claims reads.Pre reads.Post goal.the-invariant-loop-i goal.the-decreases-loop-i tie.handed_clauses
+After-list_part-in-loop-i =
+    lts.After-list_part2 tie.the-claims reads.Pre reads.Post
+    goal.the-invariant-loop-i goal.the-decreases-loop-i tie.handed_clauses
 
 abbrev After-list_part : Type 0
-After-list_part = lts.After-list_part tie.the-claims reads.Pre reads.Post goal.the-invariant-loop-i goal.the-decreases-loop-i tie.handed_clauses
+After-list_part =
+    lts.After-list_part tie.the-claims reads.Pre reads.Post
+    goal.the-invariant-loop-i goal.the-decreases-loop-i tie.handed_clauses
 
 -- ---- each lane's finished list
 module _ (start : Start) where

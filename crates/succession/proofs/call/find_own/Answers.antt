@@ -76,7 +76,13 @@ link_connections-requires c = let named : After-link_rows = search in
     let lent = start.requires.lent in
     let few = fewer t admitted in
     record {
-      connections_len_bound = (few.few_connections, fewer_junctions t admitted, sides_long named, lent.heads_long, lent.next_long);
+      connections_len_bound = (
+        few.few_connections,
+        fewer_junctions t admitted,
+        sides_long named,
+        lent.heads_long,
+        lent.next_long,
+      );
       junctions_value = (parts_good t admitted).0;
     }
 

@@ -69,18 +69,23 @@ count_lists-total-requires c = record {
 
 -- ---- the four refusals
 pub returns-then-successor_offsets-n : goal.returns-then-successor_offsets-n
-returns-then-successor_offsets-n c = too_short list_writing _ _ (onward_starts_short _ _ _ _ c.if-successor_offsets-n.true)
+returns-then-successor_offsets-n c =
+    too_short list_writing _ _ (onward_starts_short _ _ _ _ c.if-successor_offsets-n.true)
 
 pub returns-then-successor_ids-total : goal.returns-then-successor_ids-total
-returns-then-successor_ids-total c = too_short list_writing _ _ (onward_ids_short _ _ _ _ (omega (arith, c.if-successor_ids-total.true, c.count_lists-total.ensures)))
+returns-then-successor_ids-total c =
+    too_short list_writing _ _
+    (onward_ids_short _ _ _ _ (omega (arith, c.if-successor_ids-total.true, c.count_lists-total.ensures)))
 
 pub returns-then-predecessor_offsets-n : goal.returns-then-predecessor_offsets-n
-returns-then-predecessor_offsets-n c = too_short list_writing _ _ (before_starts_short _ _ _ _ c.if-predecessor_offsets-n.true)
+returns-then-predecessor_offsets-n c =
+    too_short list_writing _ _ (before_starts_short _ _ _ _ c.if-predecessor_offsets-n.true)
 
 pub returns-then-predecessor_ids-total : goal.returns-then-predecessor_ids-total
 returns-then-predecessor_ids-total c = let start : Start = search in
     too_short list_writing _ _
-    (before_ids_short _ _ _ _ (omega (arith, c.if-predecessor_ids-total.true, c.count_lists-total.ensures, as_many start)))
+    (before_ids_short _ _ _ _
+    (omega (arith, c.if-predecessor_ids-total.true, c.count_lists-total.ensures, as_many start)))
 
 -- ---- past the tests every output has room
 module _ (past : Else-predecessor_ids-total) where
@@ -91,13 +96,16 @@ module _ (past : Else-predecessor_ids-total) where
   counted = search
 
   onward_starts_fit : rows begun + 1 ≤ length begun.args.successor_offsets.now
-  onward_starts_fit = let first : Else-successor_offsets-n = search in omega (arith, first.if-successor_offsets-n.false)
+  onward_starts_fit = let first : Else-successor_offsets-n = search in
+      omega (arith, first.if-successor_offsets-n.false)
 
   onward_ids_fit : start_of (onward begun) (rows begun) ≤ length begun.args.successor_ids.now
-  onward_ids_fit = let second : Else-successor_ids-total = search in omega (arith, second.if-successor_ids-total.false, counted.count_lists-total.ensures)
+  onward_ids_fit = let second : Else-successor_ids-total = search in
+      omega (arith, second.if-successor_ids-total.false, counted.count_lists-total.ensures)
 
   before_starts_fit : rows begun + 1 ≤ length begun.args.predecessor_offsets.now
-  before_starts_fit = let third : Else-predecessor_offsets-n = search in omega (arith, third.if-predecessor_offsets-n.false)
+  before_starts_fit = let third : Else-predecessor_offsets-n = search in
+      omega (arith, third.if-predecessor_offsets-n.false)
 
   before_ids_fit : start_of (before begun) (rows begun) ≤ length begun.args.predecessor_ids.now
   before_ids_fit = omega (arith, past.if-predecessor_ids-total.false, counted.count_lists-total.ensures, as_many begun)

@@ -29,7 +29,16 @@ count_list-requires c = let lanes = c.args.lanes.now in
         omega (arith, so_far.wide, c.requires.lanes_in_bounds.0),
         λ r lr.
             let few = listed_le offsets ids (id_at lanes r) a in
-            omega (arith, so_far.counts r lr, c.requires.lanes_in_bounds.1 r lr, c.requires.lanes_in_bounds.2, few, one_more, below, long),
+            omega (
+              arith,
+              so_far.counts r lr,
+              c.requires.lanes_in_bounds.1 r lr,
+              c.requires.lanes_in_bounds.2,
+              few,
+              one_more,
+              below,
+              long,
+            ),
       );
     }
 

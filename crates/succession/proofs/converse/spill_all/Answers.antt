@@ -10,10 +10,13 @@ use Rattle.succession.proofs.converse.spill_all.Reads as reads
 use Rattle.succession.proofs.converse.spill_all.Goals as goal
 
 abbrev Start : Type 0
-Start = lts.Start tie.the-claims reads.Pre reads.Post goal.the-invariant-loop-a goal.the-decreases-loop-a tie.handed_clauses
+Start =
+    lts.Start tie.the-claims reads.Pre reads.Post goal.the-invariant-loop-a goal.the-decreases-loop-a tie.handed_clauses
 
 abbrev At-loop-a : Type 0
-At-loop-a = lts.At-loop tie.the-claims reads.Pre reads.Post goal.the-invariant-loop-a goal.the-decreases-loop-a tie.handed_clauses
+At-loop-a =
+    lts.At-loop tie.the-claims reads.Pre reads.Post
+    goal.the-invariant-loop-a goal.the-decreases-loop-a tie.handed_clauses
 
 -- a lane's row lies in the table
 row_fits : (lanes a : ℕ) → a < lanes / 10 → a * 10 + 9 < lanes

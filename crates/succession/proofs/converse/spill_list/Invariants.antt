@@ -6,7 +6,8 @@ use Prim.Native.Nat.{◌-◌, ◌≤◌}
 use Rattle.succession.proofs.converse.spill_list.Given as goal
 
 abbrev pub invariant-loop-k : goal.invariant-loop-k
-invariant-loop-k l = (l.k ≤ length l.list) × Spilled l.n (times_in l.lanes (take l.k l.list)) l.id.0 l.offsets l.initial.used l.initial.out l.used l.out
+invariant-loop-k l = (l.k ≤ length l.list)
+    × Spilled l.n (times_in l.lanes (take l.k l.list)) l.id.0 l.offsets l.initial.used l.initial.out l.used l.out
 
 abbrev pub decreases-loop-k : goal.decreases-loop-k
 decreases-loop-k l = length l.list - l.k

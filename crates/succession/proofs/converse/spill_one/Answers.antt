@@ -59,7 +59,8 @@ put_in-requires c = let past : Else-f-eq0 = search in
     let at_is = c.word-at.ensures.0 in
     let used_is = c.word-u.ensures.0 in
     let inside : c.word-at.result ≤ length out = omega (arith, room past, at_is) in (
-      subst Rising (sym (tail_run _ out inside _ _ _ at_is used_is)) ((start past).requires.1.rising (row past) (low past)),
+      subst Rising (sym (tail_run _ out inside _ _ _ at_is used_is))
+          ((start past).requires.1.rising (row past) (low past)),
       omega (arith, tail_size _ out inside, room past, at_is, used_is),
     )
 

@@ -9,10 +9,14 @@ use Rattle.succession.proofs.junction.through_junction.Reads as reads
 use Rattle.succession.proofs.junction.through_junction.Goals as goal
 
 abbrev Start : Type 0
-Start = lts.Start tie.the-claims reads.Pre reads.Post goal.the-invariant-loop-at goal.the-decreases-loop-at tie.handed_clauses
+Start =
+    lts.Start tie.the-claims reads.Pre reads.Post
+    goal.the-invariant-loop-at goal.the-decreases-loop-at tie.handed_clauses
 
 abbrev At-loop-at : Type 0
-At-loop-at = lts.At-loop tie.the-claims reads.Pre reads.Post goal.the-invariant-loop-at goal.the-decreases-loop-at tie.handed_clauses
+At-loop-at =
+    lts.At-loop tie.the-claims reads.Pre reads.Post
+    goal.the-invariant-loop-at goal.the-decreases-loop-at tie.handed_clauses
 
 module _ (near : At-loop-at) where
   abbrev begun : Start

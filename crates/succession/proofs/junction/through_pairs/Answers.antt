@@ -13,10 +13,13 @@ use Rattle.succession.proofs.junction.through_pairs.Reads as reads
 use Rattle.succession.proofs.junction.through_pairs.Goals as goal
 
 abbrev Start : Type 0
-Start = lts.Start tie.the-claims reads.Pre reads.Post goal.the-invariant-loop-p goal.the-decreases-loop-p tie.handed_clauses
+Start =
+    lts.Start tie.the-claims reads.Pre reads.Post goal.the-invariant-loop-p goal.the-decreases-loop-p tie.handed_clauses
 
 abbrev After-word-road : Type 0
-After-word-road = lts.After-word tie.the-claims reads.Pre reads.Post goal.the-invariant-loop-p goal.the-decreases-loop-p tie.handed_clauses
+After-word-road =
+    lts.After-word tie.the-claims reads.Pre reads.Post
+    goal.the-invariant-loop-p goal.the-decreases-loop-p tie.handed_clauses
 
 module _ (near : After-word-road) where
   abbrev begun : Start

@@ -40,7 +40,8 @@ pub overflow_add-j-in-loop-c : goal.overflow_add-j-in-loop-c
 overflow_add-j-in-loop-c c = omega arith
 
 pub word-requires-in-loop-c : goal.word-requires-in-loop-c
-word-requires-in-loop-c c = omega (arith, c.loop-c.invariant.1, c.requires.j_bound.0, c.requires.n_bound.1, c.loop-c-test.true)
+word-requires-in-loop-c c =
+    omega (arith, c.loop-c.invariant.1, c.requires.j_bound.0, c.requires.n_bound.1, c.loop-c-test.true)
 
 pub bucket-h-requires : goal.bucket-h-requires
 bucket-h-requires c = (omega (arith, c.requires.n_bound.4, c.requires.n_bound.5), c.word-in-loop-c.ensures.1)

@@ -94,7 +94,8 @@ pub overflow_cast-ends : goal.overflow_cast-ends
 overflow_cast-ends c = omega (arith, c.target_row-start.ensures.1)
 
 pub bounds-ends-i : goal.bounds-ends-i
-bounds-ends-i c = omega (arith, c.loop-i.invariant.1, c.loop-i.invariant.2, c.loop-i-test.true, c.requires.roads_len_bound.0)
+bounds-ends-i c =
+    omega (arith, c.loop-i.invariant.1, c.loop-i.invariant.2, c.loop-i-test.true, c.requires.roads_len_bound.0)
 
 pub overflow_cast-ends-in-loop-i : goal.overflow_cast-ends-in-loop-i
 overflow_cast-ends-in-loop-i c = omega (arith, c.target_row-end.ensures.1)

@@ -86,7 +86,8 @@ pub overflow_cast-sides : goal.overflow_cast-sides
 overflow_cast-sides c = omega (arith, c.row_named-incoming.ensures.1)
 
 pub bounds-sides-i : goal.bounds-sides-i
-bounds-sides-i c = omega (arith, c.loop-i.invariant.1, c.loop-i.invariant.2, c.loop-i-test.true, c.requires.roads_len_bound.3)
+bounds-sides-i c =
+    omega (arith, c.loop-i.invariant.1, c.loop-i.invariant.2, c.loop-i-test.true, c.requires.roads_len_bound.3)
 
 pub overflow_cast-sides-in-loop-i : goal.overflow_cast-sides-in-loop-i
 overflow_cast-sides-in-loop-i c = omega (arith, c.row_named-connecting.ensures.1)

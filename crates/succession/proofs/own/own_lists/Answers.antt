@@ -17,13 +17,18 @@ use Rattle.succession.proofs.own.own_lists.Reads as reads
 use Rattle.succession.proofs.own.own_lists.Goals as goal
 
 abbrev In-loop-i : Type 0
-In-loop-i = lts.In-loop tie.the-claims reads.Pre reads.Post goal.the-invariant-loop-i goal.the-decreases-loop-i tie.handed_clauses
+In-loop-i =
+    lts.In-loop tie.the-claims reads.Pre reads.Post
+    goal.the-invariant-loop-i goal.the-decreases-loop-i tie.handed_clauses
 
 abbrev Start : Type 0
-Start = lts.Start tie.the-claims reads.Pre reads.Post goal.the-invariant-loop-i goal.the-decreases-loop-i tie.handed_clauses
+Start =
+    lts.Start tie.the-claims reads.Pre reads.Post goal.the-invariant-loop-i goal.the-decreases-loop-i tie.handed_clauses
 
 abbrev At-loop-i : Type 0
-At-loop-i = lts.At-loop tie.the-claims reads.Pre reads.Post goal.the-invariant-loop-i goal.the-decreases-loop-i tie.handed_clauses
+At-loop-i =
+    lts.At-loop tie.the-claims reads.Pre reads.Post
+    goal.the-invariant-loop-i goal.the-decreases-loop-i tie.handed_clauses
 
 -- ---- each lane's own list
 module _ (start : Start) where
@@ -95,7 +100,8 @@ overflow_add-at c = let turn : In-loop-i = search in
     omega (arith, few turn, c.successors_of-at.ensures.size, most)
 
 pub overflow_add-i : goal.overflow_add-i
-overflow_add-i c = let turn : In-loop-i = search in omega (arith, turn.loop-i-test.true, (begun turn).requires.sound.few)
+overflow_add-i c = let turn : In-loop-i = search in
+    omega (arith, turn.loop-i-test.true, (begun turn).requires.sound.few)
 
 pub loop-i-smaller : goal.loop-i-smaller
 loop-i-smaller c = omega (arith, c.loop-i-test.true)

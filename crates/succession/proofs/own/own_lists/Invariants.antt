@@ -10,7 +10,9 @@ use mathlib.Core.Path.{◌≡◌}
 use Rattle.succession.proofs.own.own_lists.Given as goal
 
 abbrev pub invariant-loop-i : goal.invariant-loop-i
-invariant-loop-i l = let lists = successors_by_row (rows_of l.roads l.sections l.junctions l.connections l.pairs l.lanes l.owner l.sides l.ends) in
+invariant-loop-i l =
+    let lists = successors_by_row
+    (rows_of l.roads l.sections l.junctions l.connections l.pairs l.lanes l.owner l.sides l.ends) in
     (l.i ≤ l.n)
     × (l.at ≡ start_of lists l.i)
     × (length l.offsets ≡ length l.initial.offsets)
