@@ -26,16 +26,16 @@ module _ (start : Start) where
 
 pub loop-j-init : goal.loop-j-init
 loop-j-init c = let args = c.args in (
-      omega arith,
-      junctions_none (junction_outs args.jo.now 0 args.co.now 0 args.po.now 0 args.wo.now 0),
-      before_all args.junctions.now args.connections.now,
-    )
+  omega arith,
+  junctions_none (junction_outs args.jo.now 0 args.co.now 0 args.po.now 0 args.wo.now 0),
+  before_all args.junctions.now args.connections.now,
+)
 
 pub read_junction-read-requires : goal.read_junction-read-requires
 read_junction-read-requires c = record {
-      ready = c.requires.ready;
-      j_in_bounds = (c.loop-j-test.true, c.loop-j.invariant.2);
-    }
+  ready = c.requires.ready;
+  j_in_bounds = (c.loop-j-test.true, c.loop-j.invariant.2);
+}
 
 pub overflow_add-j : goal.overflow_add-j
 overflow_add-j c = omega (arith, c.requires.ready.few_junctions, c.loop-j-test.true)
