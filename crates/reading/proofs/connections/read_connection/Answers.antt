@@ -188,7 +188,8 @@ pub overflow_cast-c-2 : goal.overflow_cast-c-2
 overflow_cast-c-2 c = let past : Else-passed_over = search in omega (arith, (has_room (start past)).small)
 
 pub warn_if-v-requires : goal.warn_if-v-requires
-warn_if-v-requires c = let past : Else-passed_over = search in (omega arith, omega (arith, (has_room (start past)).warnings))
+warn_if-v-requires c = let past : Else-passed_over = search in
+    (omega arith, omega (arith, (has_room (start past)).warnings))
 
 pub overflow_cast-j-3 : goal.overflow_cast-j-3
 overflow_cast-j-3 c = let warned : After-warn_if-v = search in

@@ -1,5 +1,5 @@
 use lib.ListN.{length, drop}
-use Prim.Native.Nat.{◌<◌, ◌+◌, ◌-◌}
+use Prim.Native.Nat.{◌<◌, ◌+◌}
 use mathlib.Core.Path.{◌≡◌, sym, ◌∙◌}
 use native.Mathlib.Omega.{arith}
 use Rattle.model.specs.Reading.{digits, digits_from}
@@ -14,13 +14,15 @@ abbrev Start : Type 0
 Start = lts.Start tie.the-claims reads.Pre reads.Post goal.the-invariant-loop-i goal.the-decreases-loop-i
 
 abbrev After-is_digit : Type 0
-After-is_digit = lts.After-is_digit tie.the-claims reads.Pre reads.Post goal.the-invariant-loop-i goal.the-decreases-loop-i
+After-is_digit =
+    lts.After-is_digit tie.the-claims reads.Pre reads.Post goal.the-invariant-loop-i goal.the-decreases-loop-i
 
 abbrev At-loop-i : Type 0
 At-loop-i = lts.At-loop tie.the-claims reads.Pre reads.Post goal.the-invariant-loop-i goal.the-decreases-loop-i
 
 abbrev After-longer-v : Type 0
-After-longer-v = lts.After-longer tie.the-claims reads.Pre reads.Post goal.the-invariant-loop-i goal.the-decreases-loop-i
+After-longer-v =
+    lts.After-longer tie.the-claims reads.Pre reads.Post goal.the-invariant-loop-i goal.the-decreases-loop-i
 
 abbrev Else-not-is_digit : Type 0
 Else-not-is_digit = lts.Else2 tie.the-claims reads.Pre reads.Post goal.the-invariant-loop-i goal.the-decreases-loop-i
@@ -51,7 +53,8 @@ returns-then-start-bytes c = c.no_link.ensures
     ∙ digits_none c.args.most c.args.start c.args.bytes.now c.if-start-bytes.true
 
 pub loop-i-init : goal.loop-i-init
-loop-i-init c = let inside : c.args.start < length c.args.bytes.now = omega (arith, c.if-start-bytes.false, c.requires.0) in
+loop-i-init c =
+    let inside : c.args.start < length c.args.bytes.now = omega (arith, c.if-start-bytes.false, c.requires.0) in
     (omega arith, omega arith, digits_begin c.args.start c.args.bytes.now inside)
 
 pub bounds-bytes-i : goal.bounds-bytes-i
@@ -64,7 +67,8 @@ returns-then-not-is_digit c = let no_digit = sym c.is_digit.ensures ∙ c.if-not
     (omega arith) c.loop-i.invariant.2 no_digit
 
 pub longer-v-requires : goal.longer-v-requires
-longer-v-requires c = (omega (arith, c.loop-i.invariant.1, c.requires.1), sym c.is_digit.ensures ∙ c.if-not-is_digit.false)
+longer-v-requires c =
+    (omega (arith, c.loop-i.invariant.1, c.requires.1), sym c.is_digit.ensures ∙ c.if-not-is_digit.false)
 
 pub returns-then-most-v : goal.returns-then-most-v
 returns-then-most-v c = let added : After-longer-v = search in
