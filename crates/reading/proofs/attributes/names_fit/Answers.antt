@@ -1,4 +1,3 @@
-use borrow.Author.Tests.{not-true, not-false}
 use Prim.Native.Nat.{ℕ, ◌+◌, ◌*◌, ◌-◌}
 use mathlib.Core.Path.{◌≡◌, sym, ap, ap₂, ◌∙◌}
 use native.Mathlib.Omega.{arith}
@@ -18,7 +17,7 @@ pub overflow_add-at : goal.overflow_add-at
 overflow_add-at c = omega arith
 
 pub returns-then-not-name_fits : goal.returns-then-not-name_fits
-returns-then-not-name_fits c = let unfit = sym c.name_fits.ensures ∙ not-true _ c.if-not-name_fits.true-raw in
+returns-then-not-name_fits c = let unfit = sym c.name_fits.ensures ∙ c.if-not-name_fits.true in
     sym (c.loop-i.invariant.1
     ∙ names_step c.args.text.now c.args.n c.loop-i.i c.args.at c.args.ws.now
     (omega arith)
@@ -31,13 +30,13 @@ pub loop-i-smaller : goal.loop-i-smaller
 loop-i-smaller c = omega arith
 
 pub loop-i-preserved : goal.loop-i-preserved
-loop-i-preserved c = let fits = sym c.name_fits.ensures ∙ not-false _ c.if-not-name_fits.false-raw in (
-      omega arith,
-      c.loop-i.invariant.1
-          ∙ names_step c.args.text.now c.args.n c.loop-i.i c.args.at
-          c.args.ws.now (omega arith)
-          ∙ and_on _ _ fits,
-    )
+loop-i-preserved c = let fits = sym c.name_fits.ensures ∙ c.if-not-name_fits.false in (
+  omega arith,
+  c.loop-i.invariant.1
+      ∙ names_step c.args.text.now c.args.n c.loop-i.i c.args.at
+      c.args.ws.now (omega arith)
+      ∙ and_on _ _ fits,
+)
 
 pub returns : goal.returns
 returns c = let at = c.args.at + c.loop-i.i * 2 in

@@ -1,6 +1,5 @@
-use borrow.Author.Tests.{not-true, not-false}
 use lib.ListN.{length}
-use Prim.Native.Nat.{ℕ, ◌+◌, ◌*◌, ◌/◌, ◌-◌, ◌≤◌}
+use Prim.Native.Nat.{ℕ, ◌+◌, ◌*◌, ◌/◌, ◌≤◌}
 use mathlib.Core.Bool.{true}
 use mathlib.Core.Path.{◌≡◌, sym, ap, ◌∙◌}
 use native.Mathlib.Nat.{div-le_self}
@@ -56,7 +55,7 @@ returns-then-not-names_fit c = let text = c.args.text.now in
     let ws = c.args.ws.now in
     let w = c.args.w in
     let n = c.args.n in
-    let unfit = sym c.names_fit.ensures ∙ not-true _ c.if-not-names_fit.true-raw in
+    let unfit = sym c.names_fit.ensures ∙ c.if-not-names_fit.true in
     sym (rows_named_lem text w n ws c.requires.2
     ∙ all_miss (length ws / w) c.loop-i.i (λ k. names_worded text n ws (k * w)) (omega arith) unfit)
 
@@ -67,7 +66,7 @@ pub loop-i-smaller : goal.loop-i-smaller
 loop-i-smaller c = omega arith
 
 pub loop-i-preserved : goal.loop-i-preserved
-loop-i-preserved c = let fit = sym c.names_fit.ensures ∙ not-false _ c.if-not-names_fit.false-raw in
+loop-i-preserved c = let fit = sym c.names_fit.ensures ∙ c.if-not-names_fit.false in
     (omega arith, all_step _ _ c.loop-i.invariant.1 fit)
 
 pub returns : goal.returns

@@ -10,5 +10,6 @@ returns c = let connections = c.args.connections.now in
     let k = c.args.k in
     let contact = c.bit.ensures in
     λ z.
-    get_or connections (at + 4) 0 ∷ get_or connections (at + 4 + 1) 0 ∷ get_or connections k 0 ∷ get_or connections (k + 1) 0
+    get_or connections (at + 4) 0 ∷ get_or connections (at + 4 + 1) 0 ∷ get_or connections k 0
+    ∷ get_or connections (k + 1) 0
     ∷ contact z ∷ c.args.first ∷ c.args.count ∷ []

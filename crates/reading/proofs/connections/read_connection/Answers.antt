@@ -1,6 +1,5 @@
 -- `read_connection` passes connection `c` over, drops it with warning 1, or keeps it, with warning 4 where its
 -- contactPoint is loose, and with its pairs.
-use borrow.Author.Tests.{not-true, not-false}
 use lib.ListN.{length}
 use Prim.Native.Nat.{ℕ, ◌+◌, ◌*◌, ◌-◌, ◌≤◌}
 use mathlib.Core.Bool.{false, true, ◌&&◌}
@@ -95,7 +94,7 @@ module _ (warned : After-warn_if-v) where
   there =
       let with-both : Else-not-both_there = search in
       let tested : After-both_there = search in
-      sym tested.both_there.ensures ∙ not-false _ with-both.if-not-both_there.false-raw
+      sym tested.both_there.ensures ∙ with-both.if-not-both_there.false
 
 pub passed_over-requires : goal.passed_over-requires
 passed_over-requires c = let start : Start = search in
@@ -154,7 +153,7 @@ shape_of-wo-then-not-both_there c = c.put_if.auto.out
 pub returns-then-not-both_there : goal.returns-then-not-both_there
 returns-then-not-both_there c = let past : Else-passed_over = search in
     let args = (start past).args in
-    let missing = sym c.both_there.ensures ∙ not-true _ c.if-not-both_there.true-raw in (
+    let missing = sym c.both_there.ensures ∙ c.if-not-both_there.true in (
       read_dropped args.text.now args.junctions.now args.connections.now args.links.now args.j
           args.c args.kind c.road_word.result (start past).requires.at.kind_is c.road_word.ensures.0
           c.road_word.ensures.1 c.road_word.ensures.2 (not_passed past) missing
@@ -189,7 +188,8 @@ pub overflow_cast-c-2 : goal.overflow_cast-c-2
 overflow_cast-c-2 c = let past : Else-passed_over = search in omega (arith, (has_room (start past)).small)
 
 pub warn_if-v-requires : goal.warn_if-v-requires
-warn_if-v-requires c = let past : Else-passed_over = search in (omega arith, omega (arith, (has_room (start past)).warnings))
+warn_if-v-requires c = let past : Else-passed_over = search in
+    (omega arith, omega (arith, (has_room (start past)).warnings))
 
 pub overflow_cast-j-3 : goal.overflow_cast-j-3
 overflow_cast-j-3 c = let warned : After-warn_if-v = search in

@@ -1,4 +1,3 @@
-use Prim.Native.Nat.{◌-◌}
 use mathlib.Core.Path.{◌≡◌, sym}
 use native.Mathlib.Nat.{add_assoc, add-zero}
 use native.Mathlib.Omega.{arith}
@@ -12,7 +11,8 @@ use Rattle.reading.proofs.connections.read_connections.Reads as reads
 use Rattle.reading.proofs.connections.read_connections.Goals as goal
 
 abbrev Start : Type 0
-Start = lts.Start tie.the-claims reads.Pre reads.Post goal.the-invariant-loop-k goal.the-decreases-loop-k tie.handed_clauses
+Start =
+    lts.Start tie.the-claims reads.Pre reads.Post goal.the-invariant-loop-k goal.the-decreases-loop-k tie.handed_clauses
 
 -- the raw tables
 module _ (start : Start) where
@@ -23,19 +23,20 @@ module _ (start : Start) where
 
 pub loop-k-init : goal.loop-k-init
 loop-k-init c = let args = c.args in (
-      omega arith,
-      connections_none (connection_outs args.co.now args.n args.po.now args.p args.wo.now args.w),
-      low_at (sym (add-zero args.first)) c.requires.count_in_bounds.1,
-    )
+  omega arith,
+  connections_none (connection_outs args.co.now args.n args.po.now args.p args.wo.now args.w),
+  low_at (sym (add-zero args.first)) c.requires.count_in_bounds.1,
+)
 
 pub overflow_add-first : goal.overflow_add-first
-overflow_add-first c = omega (arith, c.requires.count_in_bounds.0, c.requires.at.ready.few_connections, c.loop-k-test.true)
+overflow_add-first c =
+    omega (arith, c.requires.count_in_bounds.0, c.requires.at.ready.few_connections, c.loop-k-test.true)
 
 pub read_connection-reach-requires : goal.read_connection-reach-requires
 read_connection-reach-requires c = record {
-      at = c.requires.at;
-      c_in_bounds = (omega (arith, c.requires.count_in_bounds.0, c.loop-k-test.true), c.loop-k.invariant.2);
-    }
+  at = c.requires.at;
+  c_in_bounds = (omega (arith, c.requires.count_in_bounds.0, c.loop-k-test.true), c.loop-k.invariant.2);
+}
 
 pub overflow_add-k : goal.overflow_add-k
 overflow_add-k c = omega (arith, c.requires.count_in_bounds.0, c.requires.at.ready.few_connections, c.loop-k-test.true)

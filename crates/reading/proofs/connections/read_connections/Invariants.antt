@@ -7,7 +7,8 @@ use Rattle.reading.proofs.connections.read_connections.Given as goal
 
 abbrev pub invariant-loop-k : goal.invariant-loop-k
 invariant-loop-k l = (l.k ≤ l.count)
-    × ConnectionsRead (gather (kept_connections (raw_tables l.text l.junctions l.connections l.links) l.j) (part_rows l.first l.k))
+    × ConnectionsRead
+    (gather (kept_connections (raw_tables l.text l.junctions l.connections l.links) l.j) (part_rows l.first l.k))
     (gather (connection_warnings (raw_tables l.text l.junctions l.connections l.links) l.j) (part_rows l.first l.k))
     (connection_outs l.initial.co l.n l.initial.po l.p l.initial.wo l.w)
     (connection_outs l.co l.reach.connections l.po l.reach.pairs l.wo l.reach.warnings)

@@ -1,4 +1,3 @@
-use Prim.Native.Nat.{◌-◌}
 use mathlib.Core.Path.{◌≡◌}
 use native.Mathlib.Omega.{arith}
 use Rattle.reading.proofs.JunctionLaws.{drop_begin, drop_turn}
@@ -30,10 +29,10 @@ loop-k-smaller c = omega (arith, c.loop-k-test.true)
 
 pub loop-k-preserved : goal.loop-k-preserved
 loop-k-preserved c = (
-      omega (arith, c.loop-k-test.true),
-      drop_turn c.args.j c.args.first c.loop-k.k c.args.w c.loop-k.invariant.1
-          c.put_if.ensures c.put_if.auto.out,
-    )
+  omega (arith, c.loop-k-test.true),
+  drop_turn c.args.j c.args.first c.loop-k.k c.args.w c.loop-k.invariant.1
+      c.put_if.ensures c.put_if.auto.out,
+)
 
 pub shape_of-wo : goal.shape_of-wo
 shape_of-wo c = c.loop-k.invariant.1.kept

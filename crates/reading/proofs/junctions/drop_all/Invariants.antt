@@ -7,7 +7,8 @@ use Rattle.reading.proofs.JunctionLaws.{dropped}
 use Rattle.reading.proofs.junctions.drop_all.Given as goal
 
 abbrev pub invariant-loop-k : goal.invariant-loop-k
-invariant-loop-k l = (l.k ≤ l.count) × Run 4 (gather (dropped l.j) (part_rows l.first l.k)) l.k (output l.initial.wo l.w) (output l.wo (l.w + l.k))
+invariant-loop-k l = (l.k ≤ l.count)
+    × Run 4 (gather (dropped l.j) (part_rows l.first l.k)) l.k (output l.initial.wo l.w) (output l.wo (l.w + l.k))
 
 abbrev pub decreases-loop-k : goal.decreases-loop-k
 decreases-loop-k l = l.count - l.k

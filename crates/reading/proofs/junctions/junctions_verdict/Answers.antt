@@ -1,5 +1,4 @@
 -- `junctions_verdict` tests 1, 2 and 5 in this order.
-use borrow.Author.Tests.{not-true, not-false}
 use mathlib.Core.Bool.{true}
 use mathlib.Core.Path.{◌≡◌, sym, ◌∙◌}
 use native.Mathlib.Omega.{arith}
@@ -87,7 +86,7 @@ module _ (past : Else-not-both) where
   sizes-test = search
 
   sized : sizes (tables (start sizes-test)) ≡ true
-  sized = sym (sizes_tested sizes-test) ∙ not-false _ past.if-not-both.false-raw
+  sized = sym (sizes_tested sizes-test) ∙ past.if-not-both.false
 
 module _ (tested : After-both-2) where
   abbrev past-sizes : Else-not-both
@@ -108,7 +107,7 @@ module _ (past : Else-not-both-2) where
   names-test = search
 
   all_named : named (tables (start (sizes-test (past-sizes names-test)))) ≡ true
-  all_named = sym (names_tested names-test) ∙ not-false _ past.if-not-both-2.false-raw
+  all_named = sym (names_tested names-test) ∙ past.if-not-both-2.false
 
 module _ (tested : After-both-3) where
   abbrev past-names : Else-not-both-2
@@ -122,12 +121,12 @@ module _ (tested : After-both-3) where
 
 pub returns-then-not-both : goal.returns-then-not-both
 returns-then-not-both c = let test : After-both = search in
-    junctions_1 (tables (start test)) (sym (sizes_tested test) ∙ not-true _ c.if-not-both.true-raw)
+    junctions_1 (tables (start test)) (sym (sizes_tested test) ∙ c.if-not-both.true)
 
 pub returns-then-not-both-2 : goal.returns-then-not-both-2
 returns-then-not-both-2 c = let test : After-both-2 = search in
     let past : Else-not-both = search in
-    junctions_2 (tables (start (sizes-test past))) (sized past) (sym (names_tested test) ∙ not-true _ c.if-not-both-2.true-raw)
+    junctions_2 (tables (start (sizes-test past))) (sized past) (sym (names_tested test) ∙ c.if-not-both-2.true)
 
 -- ---- 5
 pub parts_fit-d-requires : goal.parts_fit-d-requires
@@ -145,7 +144,7 @@ returns-then-not-both-3 c = let test : After-both-3 = search in
     let past : Else-not-both-2 = search in
     let sizes-past = past-sizes (names-test past) in
     junctions_5 (tables (start (sizes-test sizes-past))) (sized sizes-past) (all_named past)
-    (sym (parts_tested test) ∙ not-true _ c.if-not-both-3.true-raw)
+    (sym (parts_tested test) ∙ c.if-not-both-3.true)
 
 -- ---- none of them
 pub returns : goal.returns
@@ -153,4 +152,4 @@ returns c = let test : After-both-3 = search in
     let past : Else-not-both-2 = search in
     let sizes-past = past-sizes (names-test past) in
     junctions_0 (tables (start (sizes-test sizes-past))) (sized sizes-past) (all_named past)
-    (sym (parts_tested test) ∙ not-false _ c.if-not-both-3.false-raw)
+    (sym (parts_tested test) ∙ c.if-not-both-3.false)

@@ -1,5 +1,5 @@
 use lib.ListN.{length}
-use Prim.Native.Nat.{ℕ, ◌-◌, ◌/◌}
+use Prim.Native.Nat.{ℕ, ◌/◌}
 use mathlib.Core.Path.{◌≡◌, ap, ◌∙◌}
 use native.Mathlib.Omega.{arith}
 use Rattle.model.specs.Reading.{RawTables, junction_warnings, read_junction, read_junctions, read_warnings}
@@ -15,7 +15,8 @@ use Rattle.reading.proofs.junctions.read_all.Reads as reads
 use Rattle.reading.proofs.junctions.read_all.Goals as goal
 
 abbrev Start : Type 0
-Start = lts.Start tie.the-claims reads.Pre reads.Post goal.the-invariant-loop-j goal.the-decreases-loop-j tie.handed_clauses
+Start =
+    lts.Start tie.the-claims reads.Pre reads.Post goal.the-invariant-loop-j goal.the-decreases-loop-j tie.handed_clauses
 
 -- the raw tables
 module _ (start : Start) where
@@ -26,16 +27,16 @@ module _ (start : Start) where
 
 pub loop-j-init : goal.loop-j-init
 loop-j-init c = let args = c.args in (
-      omega arith,
-      junctions_none (junction_outs args.jo.now 0 args.co.now 0 args.po.now 0 args.wo.now 0),
-      before_all args.junctions.now args.connections.now,
-    )
+  omega arith,
+  junctions_none (junction_outs args.jo.now 0 args.co.now 0 args.po.now 0 args.wo.now 0),
+  before_all args.junctions.now args.connections.now,
+)
 
 pub read_junction-read-requires : goal.read_junction-read-requires
 read_junction-read-requires c = record {
-      ready = c.requires.ready;
-      j_in_bounds = (c.loop-j-test.true, c.loop-j.invariant.2);
-    }
+  ready = c.requires.ready;
+  j_in_bounds = (c.loop-j-test.true, c.loop-j.invariant.2);
+}
 
 pub overflow_add-j : goal.overflow_add-j
 overflow_add-j c = omega (arith, c.requires.ready.few_junctions, c.loop-j-test.true)
@@ -69,7 +70,8 @@ unfolding read_junctions read_warnings
 returns c = let junctions = c.args.junctions.now in
     let inv = c.loop-j.invariant in
     let past : c.loop-j.j ≡ length junctions / 8 = omega (arith, inv.0, c.loop-j-test.false) in
-    let all_connections_lem = ap (λ (j : ℕ). total j (counts 8 7 junctions)) past ∙ c.requires.ready.connection_parts.whole in (
+    let all_connections_lem =
+    ap (λ (j : ℕ). total j (counts 8 7 junctions)) past ∙ c.requires.ready.connection_parts.whole in (
       rw past at inv.1,
       omega (arith, inv.2.junctions_low, c.requires.ready.few_junctions),
       low_at all_connections_lem inv.2.low,

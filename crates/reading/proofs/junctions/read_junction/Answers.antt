@@ -39,8 +39,9 @@ module _ (count : After-word-count) where
 
   on : Ground start.args.junctions.now start.args.connections.now start.args.j first.word-first.result
       count.word-count.result start.args.n start.args.p start.args.w
-  on = ground start.requires.ready start.requires.j_in_bounds.0 start.requires.j_in_bounds.1.low first.word-first.ensures.0
-      count.word-count.ensures.0
+  on =
+      ground start.requires.ready start.requires.j_in_bounds.0 start.requires.j_in_bounds.1.low
+      first.word-first.ensures.0 count.word-count.ensures.0
 
   -- at most j junctions before it
   junctions_few : start.args.m ≤ 16384

@@ -1,6 +1,5 @@
 -- `read_junctions`: refused by its verdict, or, once a first run has counted, for an output that is too short; or a
 -- second run has written all.
-use borrow.Author.Tests.{not-true, not-false}
 use mathlib.Core.Bool.{true}
 use mathlib.Core.Path.{◌≡◌, sym, ◌∙◌}
 use native.Mathlib.Omega.{arith}
@@ -54,7 +53,7 @@ module _ (past : Else-not-admitted) where
   free : admits judged.junctions_verdict-v.result ≡ true
   free =
       let tested : After-admitted = search in
-      sym tested.admitted.ensures ∙ not-false _ past.if-not-admitted.false-raw
+      sym tested.admitted.ensures ∙ past.if-not-admitted.false
 
   tables_ready : Ready start.args.raw_junctions.now start.args.raw_connections.now
       start.args.raw_lane_links.now
@@ -69,7 +68,7 @@ module _ (past : Else-not-admitted) where
 pub returns-then-not-admitted : goal.returns-then-not-admitted
 unfolding read_junctions_call
 returns-then-not-admitted c = let start : Start = search in
-    let barred = sym c.admitted.ensures ∙ not-true _ c.if-not-admitted.true-raw in
+    let barred = sym c.admitted.ensures ∙ c.if-not-admitted.true in
     call_refused junction_writing (raw_junction_rules (tables start)) (junction_content (tables start)) (outs start)
     c.junctions_verdict-v.result barred c.junctions_verdict-v.ensures
 
@@ -90,7 +89,7 @@ fit-requires c = let past : Else-not-admitted = search in
 pub returns-then-not-fit : goal.returns-then-not-fit
 unfolding read_junctions_call
 returns-then-not-fit c = let past : Else-not-admitted = search in
-    let short = sym c.fit.ensures ∙ not-true _ c.if-not-fit.true-raw in
+    let short = sym c.fit.ensures ∙ c.if-not-fit.true in
     counted_short (tables (start past)) _ _ _ _ c.read_all-counted.ensures.0 short ∙ only_9_left past
 
 pub read_all-rows-requires : goal.read_all-rows-requires
@@ -111,6 +110,6 @@ shape_of-warnings_out c = c.read_all-rows.ensures.0.rest.rest.warnings.kept
 pub returns : goal.returns
 unfolding read_junctions_call
 returns c = let past : Else-not-admitted = search in
-    let room = sym c.fit.ensures ∙ not-false _ c.if-not-fit.false-raw in
+    let room = sym c.fit.ensures ∙ c.if-not-fit.false in
     counted_written (tables (start past)) _ _ _ _ c.read_all-counted.ensures.0 room c.read_all-rows.ensures.0
     ∙ only_9_left past

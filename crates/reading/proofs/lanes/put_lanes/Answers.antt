@@ -2,7 +2,7 @@ use lib.ListN.{length}
 use mathlib.Core.List.{List}
 use mathlib.Core.Path.{◌≡◌, refl, sym, ap, ◌∙◌}
 use native.Mathlib.Omega.{arith}
-use Prim.Native.Nat.{ℕ, ◌-◌, ◌/◌}
+use Prim.Native.Nat.{ℕ, ◌/◌}
 use Rattle.model.specs.Lists.{gather}
 use Rattle.model.specs.Reading.{part_rows}
 use Rattle.model.specs.Rows.{written}

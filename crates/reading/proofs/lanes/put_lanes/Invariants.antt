@@ -9,7 +9,9 @@ use Rattle.reading.proofs.LaneLaws.{lane_at}
 use Rattle.reading.proofs.lanes.put_lanes.Given as goal
 
 abbrev pub invariant-loop-i : goal.invariant-loop-i
-invariant-loop-i l = (l.i ≤ l.n) × (l.out ≡ written (gather (lane_at l.text l.raw) (part_rows 0 l.i)) l.initial.out) × (length l.out ≡ length l.initial.out)
+invariant-loop-i l = (l.i ≤ l.n)
+    × (l.out ≡ written (gather (lane_at l.text l.raw) (part_rows 0 l.i)) l.initial.out)
+    × (length l.out ≡ length l.initial.out)
 
 abbrev pub decreases-loop-i : goal.decreases-loop-i
 decreases-loop-i l = l.n - l.i

@@ -1,5 +1,4 @@
 -- `read_lanes`: refused by its verdict, or for an output that is too short; or all rows are written.
-use borrow.Author.Tests.{not-true, not-false}
 use lib.ListN.{length}
 use mathlib.Core.Path.{◌≡◌, sym, ◌∙◌}
 use mathlib.Core.Bool.{true}
@@ -35,13 +34,13 @@ module _ (past : Else-not-admitted) where
   free : admits judged.lanes_verdict-v.result ≡ true
   free =
       let tested : After-admitted = search in
-      sym tested.admitted.ensures ∙ not-false _ past.if-not-admitted.false-raw
+      sym tested.admitted.ensures ∙ past.if-not-admitted.false
 
 pub returns-then-not-admitted : goal.returns-then-not-admitted
 unfolding read_lanes_call
 returns-then-not-admitted c = let text = c.args.text.now in
     let raw = c.args.raw.now in
-    let barred = sym c.admitted.ensures ∙ not-true _ c.if-not-admitted.true-raw in
+    let barred = sym c.admitted.ensures ∙ c.if-not-admitted.true in
     call_refused (table_writing 4) (raw_lane_rules text raw) (raw_lane_content text raw) _
     c.lanes_verdict-v.result barred c.lanes_verdict-v.ensures
 

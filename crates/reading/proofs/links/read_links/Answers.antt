@@ -1,4 +1,3 @@
-use Prim.Native.Nat.{◌-◌}
 use mathlib.Core.Path.{◌≡◌}
 use native.Mathlib.Omega.{arith}
 use Rattle.reading.specs.Laid.{drops_at, link_outs, pairs_at}
@@ -7,11 +6,11 @@ use Rattle.reading.proofs.links.read_links.Goals as goal
 
 pub loop-k-init : goal.loop-k-init
 loop-k-init c = (
-      omega arith,
-      links_none (link_outs c.args.po.now c.args.p c.args.wo.now c.args.w),
-      omega arith,
-      omega arith,
-    )
+  omega arith,
+  links_none (link_outs c.args.po.now c.args.p c.args.wo.now c.args.w),
+  omega arith,
+  omega arith,
+)
 
 pub overflow_add-first : goal.overflow_add-first
 overflow_add-first c = omega (arith, c.requires.count_in_bounds.1, c.loop-k-test.true)

@@ -7,7 +7,8 @@ use Rattle.reading.proofs.links.read_links.Given as goal
 
 abbrev pub invariant-loop-k : goal.invariant-loop-k
 invariant-loop-k l = (l.k ≤ l.count)
-    × LinksRead (gather (pairs_at l.text l.links) (part_rows l.first l.k)) (gather (drops_at l.text l.links l.j l.c) (part_rows l.first l.k))
+    × LinksRead (gather (pairs_at l.text l.links) (part_rows l.first l.k))
+    (gather (drops_at l.text l.links l.j l.c) (part_rows l.first l.k))
     (link_outs l.initial.po l.p l.initial.wo l.w) (link_outs l.po l.at l.wo l.warned)
     × (l.at ≤ l.p + l.k)
     × (l.warned ≤ l.w + l.k)

@@ -1,6 +1,5 @@
-use borrow.Author.Tests.{not-true, not-false}
 use lib.ListN.{length, drop}
-use Prim.Native.Nat.{◌<◌, ◌+◌, ◌-◌}
+use Prim.Native.Nat.{◌<◌, ◌+◌}
 use mathlib.Core.Path.{◌≡◌, sym, ◌∙◌}
 use native.Mathlib.Omega.{arith}
 use Rattle.model.specs.Reading.{digits, digits_from}
@@ -15,13 +14,15 @@ abbrev Start : Type 0
 Start = lts.Start tie.the-claims reads.Pre reads.Post goal.the-invariant-loop-i goal.the-decreases-loop-i
 
 abbrev After-is_digit : Type 0
-After-is_digit = lts.After-is_digit tie.the-claims reads.Pre reads.Post goal.the-invariant-loop-i goal.the-decreases-loop-i
+After-is_digit =
+    lts.After-is_digit tie.the-claims reads.Pre reads.Post goal.the-invariant-loop-i goal.the-decreases-loop-i
 
 abbrev At-loop-i : Type 0
 At-loop-i = lts.At-loop tie.the-claims reads.Pre reads.Post goal.the-invariant-loop-i goal.the-decreases-loop-i
 
 abbrev After-longer-v : Type 0
-After-longer-v = lts.After-longer tie.the-claims reads.Pre reads.Post goal.the-invariant-loop-i goal.the-decreases-loop-i
+After-longer-v =
+    lts.After-longer tie.the-claims reads.Pre reads.Post goal.the-invariant-loop-i goal.the-decreases-loop-i
 
 abbrev Else-not-is_digit : Type 0
 Else-not-is_digit = lts.Else2 tie.the-claims reads.Pre reads.Post goal.the-invariant-loop-i goal.the-decreases-loop-i
@@ -43,7 +44,7 @@ module _ (added : After-longer-v) where
       let digit : Else-not-is_digit = search in
       let tested : After-is_digit = search in
       let turn : In-loop-i = search in
-      let is_digit = sym tested.is_digit.ensures ∙ not-false _ digit.if-not-is_digit.false-raw in
+      let is_digit = sym tested.is_digit.ensures ∙ digit.if-not-is_digit.false in
       digits_on start.args.start head.loop-i.v head.loop-i.i start.args.bytes.now
       (omega (arith, turn.loop-i-test.true)) head.loop-i.invariant.2 is_digit added.longer-v.ensures
 
@@ -52,20 +53,22 @@ returns-then-start-bytes c = c.no_link.ensures
     ∙ digits_none c.args.most c.args.start c.args.bytes.now c.if-start-bytes.true
 
 pub loop-i-init : goal.loop-i-init
-loop-i-init c = let inside : c.args.start < length c.args.bytes.now = omega (arith, c.if-start-bytes.false, c.requires.0) in
+loop-i-init c =
+    let inside : c.args.start < length c.args.bytes.now = omega (arith, c.if-start-bytes.false, c.requires.0) in
     (omega arith, omega arith, digits_begin c.args.start c.args.bytes.now inside)
 
 pub bounds-bytes-i : goal.bounds-bytes-i
 bounds-bytes-i c = omega arith
 
 pub returns-then-not-is_digit : goal.returns-then-not-is_digit
-returns-then-not-is_digit c = let no_digit = sym c.is_digit.ensures ∙ not-true _ c.if-not-is_digit.true-raw in
+returns-then-not-is_digit c = let no_digit = sym c.is_digit.ensures ∙ c.if-not-is_digit.true in
     c.no_link-then-not-is_digit.ensures
     ∙ digits_off c.args.most c.args.start c.loop-i.v c.loop-i.i c.args.bytes.now
     (omega arith) c.loop-i.invariant.2 no_digit
 
 pub longer-v-requires : goal.longer-v-requires
-longer-v-requires c = (omega (arith, c.loop-i.invariant.1, c.requires.1), sym c.is_digit.ensures ∙ not-false _ c.if-not-is_digit.false-raw)
+longer-v-requires c =
+    (omega (arith, c.loop-i.invariant.1, c.requires.1), sym c.is_digit.ensures ∙ c.if-not-is_digit.false)
 
 pub returns-then-most-v : goal.returns-then-most-v
 returns-then-most-v c = let added : After-longer-v = search in

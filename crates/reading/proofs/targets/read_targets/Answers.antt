@@ -1,5 +1,5 @@
 -- `read_targets`: refused by its verdict, or for an output that is too short; or all rows are written.
-use borrow.Author.Tests.{leb-true, not-true, not-false}
+use borrow.Author.Tests.{leb-true}
 use lib.Dec.{leb}
 use lib.ListN.{length}
 use mathlib.Core.Path.{◌≡◌, sym, ap, ◌∙◌}
@@ -51,7 +51,7 @@ module _ (past : Else-not-admitted) where
   free : admits judged.targets_verdict-v.result ≡ true
   free =
       let tested : After-admitted = search in
-      sym tested.admitted.ensures ∙ not-false _ past.if-not-admitted.false-raw
+      sym tested.admitted.ensures ∙ past.if-not-admitted.false
 
   few : length start.args.raw.now / 9 ≤ 16384
   few =
@@ -85,7 +85,7 @@ unfolding read_targets_call
 returns-then-not-admitted c = let start : Start = search in
     let text = start.args.text.now in
     let raw = start.args.raw.now in
-    let barred = sym c.admitted.ensures ∙ not-true _ c.if-not-admitted.true-raw in
+    let barred = sym c.admitted.ensures ∙ c.if-not-admitted.true in
     call_refused target_writing (target_rules text raw) (target_content text raw) (outs start)
     c.targets_verdict-v.result barred c.targets_verdict-v.ensures
 
@@ -96,13 +96,13 @@ pub returns-then-not-both : goal.returns-then-not-both
 unfolding read_targets_call
 returns-then-not-both c = let tested : After-both = search in
     let past : Else-not-admitted = search in
-    let short = sym (room tested) ∙ not-true _ c.if-not-both.true-raw in
+    let short = sym (room tested) ∙ c.if-not-both.true in
     targets_short _ _ _ _ short ∙ only_9_left past
 
 pub put_targets-requires : goal.put_targets-requires
 put_targets-requires c = let tested : After-both = search in
     let past : Else-not-admitted = search in
-    (few past, leb-true _ _ (left_on _ _ (sym (room tested) ∙ not-false _ c.if-not-both.false-raw)))
+    (few past, leb-true _ _ (left_on _ _ (sym (room tested) ∙ c.if-not-both.false)))
 
 pub warn_targets-w-requires : goal.warn_targets-w-requires
 warn_targets-w-requires c = let past : Else-not-admitted = search in few past
@@ -111,5 +111,5 @@ pub returns : goal.returns
 unfolding read_targets_call
 returns c = let tested : After-both = search in
     let past : Else-not-admitted = search in
-    let enough = sym (room tested) ∙ not-false _ c.if-not-both.false-raw in
+    let enough = sym (room tested) ∙ c.if-not-both.false in
     targets_written _ _ _ _ enough c.put_targets.ensures c.warn_targets-w.ensures.0 ∙ only_9_left past

@@ -1,6 +1,5 @@
-use borrow.Author.Tests.{not-true, not-false}
 use lib.ListN.{length, drop}
-use Prim.Native.Nat.{ℕ, ◌*◌, ◌/◌, ◌-◌}
+use Prim.Native.Nat.{ℕ, ◌*◌, ◌/◌}
 use mathlib.Core.Path.{◌≡◌, sym, ap, ◌∙◌}
 use native.Mathlib.Omega.{arith}
 use Rattle.model.specs.ReadingCalls.{raw_target_worded}
@@ -18,7 +17,7 @@ target_fits-requires c = omega arith
 pub returns-then-not-target_fits : goal.returns-then-not-target_fits
 returns-then-not-target_fits c = let text = c.args.text.now in
     let raw = c.args.raw.now in
-    let unfit = sym c.target_fits.ensures ∙ not-true _ c.if-not-target_fits.true-raw in
+    let unfit = sym c.target_fits.ensures ∙ c.if-not-target_fits.true in
     sym (every_rows 9 raw (raw_target_worded text) (target_local text)
     ∙ all_miss (length raw / 9) c.loop-i.i (λ k. raw_target_worded text (drop (k * 9) raw)) (omega arith) unfit)
 
@@ -29,7 +28,7 @@ pub loop-i-smaller : goal.loop-i-smaller
 loop-i-smaller c = omega arith
 
 pub loop-i-preserved : goal.loop-i-preserved
-loop-i-preserved c = let fits = sym c.target_fits.ensures ∙ not-false _ c.if-not-target_fits.false-raw in
+loop-i-preserved c = let fits = sym c.target_fits.ensures ∙ c.if-not-target_fits.false in
     (omega arith, all_step _ _ c.loop-i.invariant.1 fits)
 
 pub returns : goal.returns

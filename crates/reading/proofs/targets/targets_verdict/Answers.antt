@@ -1,5 +1,4 @@
 -- `targets_verdict` tests 1 and 2 in this order.
-use borrow.Author.Tests.{not-true, not-false}
 use Prim.Native.Nat.{◌/◌, ◌%◌}
 use lib.Dec.{eqb}
 use lib.ListN.{length}
@@ -33,14 +32,14 @@ module _ (tested : After-both) where
 
 pub returns-then-not-both : goal.returns-then-not-both
 returns-then-not-both c = let tested : After-both = search in
-    targets_1 _ _ (sym (sized_is tested) ∙ not-true _ c.if-not-both.true-raw)
+    targets_1 _ _ (sym (sized_is tested) ∙ c.if-not-both.true)
 
 pub returns-then-not-targets_fit : goal.returns-then-not-targets_fit
 returns-then-not-targets_fit c = let tested : After-both = search in
-    targets_2 _ _ (sym (sized_is tested) ∙ not-false _ c.if-not-both.false-raw)
-    (sym c.targets_fit.ensures ∙ not-true _ c.if-not-targets_fit.true-raw)
+    targets_2 _ _ (sym (sized_is tested) ∙ c.if-not-both.false)
+    (sym c.targets_fit.ensures ∙ c.if-not-targets_fit.true)
 
 pub returns : goal.returns
 returns c = let tested : After-both = search in
-    targets_0 _ _ (sym (sized_is tested) ∙ not-false _ c.if-not-both.false-raw)
-    (sym c.targets_fit.ensures ∙ not-false _ c.if-not-targets_fit.false-raw)
+    targets_0 _ _ (sym (sized_is tested) ∙ c.if-not-both.false)
+    (sym c.targets_fit.ensures ∙ c.if-not-targets_fit.false)

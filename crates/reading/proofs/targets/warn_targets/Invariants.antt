@@ -6,7 +6,8 @@ use Rattle.reading.specs.Laid.{Warned, output}
 use Rattle.reading.proofs.targets.warn_targets.Given as goal
 
 abbrev pub invariant-loop-i : goal.invariant-loop-i
-invariant-loop-i l = (l.i ≤ l.n) × (l.w ≤ l.i) × Warned (gather (target_warnings_at l.text l.raw) (part_rows 0 l.i)) (output l.initial.wo 0) (output l.wo l.w)
+invariant-loop-i l = (l.i ≤ l.n) × (l.w ≤ l.i)
+    × Warned (gather (target_warnings_at l.text l.raw) (part_rows 0 l.i)) (output l.initial.wo 0) (output l.wo l.w)
 
 abbrev pub decreases-loop-i : goal.decreases-loop-i
 decreases-loop-i l = l.n - l.i

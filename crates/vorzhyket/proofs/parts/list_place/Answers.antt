@@ -44,7 +44,7 @@ bounds-offsets-at c = let full : Else-list-eq0 = search in
 pub overflow_cast-result : goal.overflow_cast-result
 overflow_cast-result c = let full : Else-list-eq0 = search in
     let size = ap length c.list_part-list.ensures in
-    omega (arith, (long full).1, c.shared_slice_known-3-1.given (suc c.args.row))
+    omega (arith, (long full).1, c.type_inv.offsets (suc c.args.row))
 
 pub returns : goal.returns
 unfolding list_place
