@@ -4,7 +4,8 @@ ghost use Rattle.std.specs.Prelude.{◌≡◌, [], ◌∷◌, ◌+◌, ◌*◌, 
 ghost use Rattle.model.specs.Lists.{gather};
 ghost use Rattle.model.specs.Rules.{first_broken, fits};
 ghost use Rattle.model.specs.Calls.{outcome};
-ghost use Rattle.model.specs.Reading.{RawTables, part_rows, to_list, connection_dropped, read_warning_row, read_junction};
+ghost use Rattle.model.specs.Reading.{RawTables, part_rows, to_list, connection_dropped, read_warning_row};
+ghost use Rattle.model.specs.Reading.{read_junction};
 ghost use Rattle.model.specs.Reading.{read_junctions, read_warnings, junction_warnings};
 ghost use Rattle.model.specs.ReadingCalls.{raw_junction_rules, read_junctions_call};
 ghost use Rattle.tables.specs.Verdicts.{refusal_of};
