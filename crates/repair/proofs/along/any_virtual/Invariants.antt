@@ -4,7 +4,7 @@ use Rattle.words.proofs.Loops.{Lookup}
 use Rattle.words.specs.Keys.{hash_name, name_hash}
 use Rattle.words.specs.Rows.{span}
 use lib.ListN.{length}
-use Prim.Native.Nat.{◌-◌, ◌/◌}
+use Prim.Native.Nat.{◌/◌}
 use Rattle.repair.proofs.along.any_virtual.Given as goal
 
 abbrev pub invariant-loop-a : goal.invariant-loop-a

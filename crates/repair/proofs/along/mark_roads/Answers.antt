@@ -1,7 +1,7 @@
 use Rattle.repair.proofs.Virtual.{marked_more}
 use native.Mathlib.Nat.{not-suc-le-zero}
 use lib.ListN.{length}
-use Prim.Native.Nat.{◌-◌, ◌/◌, ◌<◌}
+use Prim.Native.Nat.{◌/◌, ◌<◌}
 use native.Mathlib.Omega.{arith}
 use mathlib.Core.Path.{◌≡◌, ◌∙◌}
 use Rattle.repair.proofs.along.mark_roads.Tie as tie

@@ -1,7 +1,7 @@
 use Rattle.repair.proofs.JunctionSteps.{over_none, over_more}
 use Rattle.repair.specs.Laying.{connections_before, pairs_before}
 use lib.ListN.{length}
-use Prim.Native.Nat.{◌-◌, ◌/◌}
+use Prim.Native.Nat.{◌/◌}
 use native.Mathlib.Omega.{arith}
 use mathlib.Core.Path.{◌≡◌, ap, ◌∙◌}
 use Rattle.repair.proofs.junctions.junctions.Tie as tie

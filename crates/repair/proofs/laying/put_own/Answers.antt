@@ -2,7 +2,7 @@ use Rattle.repair.proofs.Piles.{laid_none, laid_own, laid_rows, pairs_next, room
 use Rattle.repair.specs.Laying.{RoomFor, pairs_before}
 use Rattle.words.specs.Rows.{tab}
 use native.Mathlib.Nat.{add-zero}
-use Prim.Native.Nat.{ℕ, ◌+◌, ◌-◌}
+use Prim.Native.Nat.{ℕ, ◌+◌}
 use native.Mathlib.Omega.{arith}
 use mathlib.Core.Path.{◌≡◌, sym, ap, ◌∙◌}
 use Rattle.repair.proofs.laying.put_own.Tie as tie

@@ -6,7 +6,7 @@ use Rattle.model.specs.Records.{Pair}
 use Rattle.model.specs.Tables.{pair_row}
 use lib.ListN.{length, take}
 use mathlib.Core.List.{List, append-nil}
-use Prim.Native.Nat.{ℕ, ◌+◌, ◌*◌, ◌-◌, ◌≤◌, ◌<◌}
+use Prim.Native.Nat.{ℕ, ◌+◌, ◌*◌, ◌≤◌, ◌<◌}
 use native.Mathlib.Omega.{arith}
 use mathlib.Core.Path.{◌≡◌, sym, ap, ◌∙◌}
 use Rattle.repair.proofs.laying.put_pairs.Tie as tie

@@ -1,6 +1,6 @@
 use Rattle.repair.proofs.MissingLinks.{linked_more, linked_start}
 use Rattle.words.specs.Rows.{tab}
-use Prim.Native.Nat.{◌+◌, ◌-◌, ◌≤◌}
+use Prim.Native.Nat.{◌+◌, ◌≤◌}
 use native.Mathlib.Omega.{arith}
 use mathlib.Core.Path.{◌≡◌, ◌∙◌}
 use Rattle.repair.proofs.links.missing_links.Tie as tie

@@ -8,7 +8,7 @@ use Rattle.model.specs.Records.{Connection}
 use Rattle.model.specs.Tables.{Tables, map_tables}
 use native.Mathlib.Nat.{add-zero}
 use mathlib.Core.List.{List}
-use Prim.Native.Nat.{ℕ, ◌+◌, ◌-◌, ◌≤◌}
+use Prim.Native.Nat.{ℕ, ◌+◌, ◌≤◌}
 use native.Mathlib.Omega.{arith}
 use mathlib.Core.Path.{◌≡◌, ap, ◌∙◌}
 use Rattle.repair.proofs.reversed.reversed.Tie as tie

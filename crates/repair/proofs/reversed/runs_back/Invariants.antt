@@ -4,7 +4,7 @@ use Rattle.words.proofs.Loops.{Lookup}
 use Rattle.words.specs.Keys.{hash_name, name_hash}
 use Rattle.words.specs.Rows.{name_at}
 use lib.ListN.{length}
-use Prim.Native.Nat.{◌-◌, ◌/◌}
+use Prim.Native.Nat.{◌/◌}
 use Rattle.repair.proofs.reversed.runs_back.Given as goal
 
 abbrev pub invariant-loop-a : goal.invariant-loop-a
