@@ -391,7 +391,7 @@ module _ (same : Span → Span → Bool) (m other : Map) (f : Lane → Lane)
     (ids : (l : Lane) → (f l).identity ≡ l.identity)
     (ways : (l : Lane) → is_both (f l).direction ≡ is_both l.direction)
     (lanes : other.lanes ≡ map f m.lanes)
-    (all_Alike : Each (λ l. successors_of same other (f l) ≡ successors_of same m l) m.lanes) where
+    (all_alike : Each (λ l. successors_of same other (f l) ≡ successors_of same m l) m.lanes) where
   finds_back_same : (l b : Lane) → successors_of same other (f l) ≡ successors_of same m l
       → successors_of same other (f b) ≡ successors_of same m b
       → finds_back same other (f l) (f b) ≡ finds_back same m l b
@@ -407,13 +407,13 @@ module _ (same : Span → Span → Bool) (m other : Map) (f : Lane → Lane)
       ∙ ap (map (λ b. b.identity))
       (keep_map f (finds_back same other (f l)) m.lanes
       ∙ ap (map f) (keep_ext (λ b. finds_back same other (f l) (f b)) (finds_back same m l) m.lanes
-      (each_map (λ b q. finds_back_same l b p q) m.lanes all_Alike)))
+      (each_map (λ b q. finds_back_same l b p q) m.lanes all_alike)))
       ∙ map-map (λ b. b.identity) f (keep (finds_back same m l) m.lanes)
       ∙ map_ext _ _ (keep (finds_back same m l) m.lanes) (each ids (keep (finds_back same m l) m.lanes)))
 
   pub successors_same : Each (λ l. successors same other (f l) ≡ successors same m l) m.lanes
   unfolding successors
-  successors_same = each_map (λ l p. ap₂ (λ x y. sort (x ++ y)) p (back_links_same l p)) m.lanes all_Alike
+  successors_same = each_map (λ l p. ap₂ (λ x y. sort (x ++ y)) p (back_links_same l p)) m.lanes all_alike
 
   pub predecessors_same : (l : Lane) → predecessors same other (f l) ≡ predecessors same m l
   unfolding predecessors

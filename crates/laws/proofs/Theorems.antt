@@ -2,9 +2,9 @@
 -- demand 3.
 --
 -- Three hypotheses recur, each a test of the model's own:
---   first_broken (table_rules t) ≡ none          rules 1 to 8 and 10 let the tables pass: admitted tables
---   marks_fit t.roads marks ≡ true           rule 12: a mark, 0 or 1, for each road
---   reversal_refusal t marks lengths ≡ none     a reversal by the marks, with outputs of these lengths, is accepted
+--   first_broken (table_rules t) ≡ none       rules 1 to 8 and 10 let the tables pass: admitted tables
+--   marks_fit t.roads marks ≡ true            rule 12: a mark, 0 or 1, for each road
+--   reversal_refusal t marks lengths ≡ none   a reversal by the marks, with outputs of these lengths, is accepted
 -- reversed_once_by marks t: the tables with what reversal by the marks writes in place of what it reads.
 -- repaired_map t: the map after repair. gaps_of t: the gap rows, from the lists of that map.
 -- Each P xs: P of every element of xs. List.Memᴰ a l: a stands in l.

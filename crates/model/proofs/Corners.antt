@@ -23,21 +23,21 @@ two_ends js = record {
   lanes = lane 10 a 0 1 Forward none ∷ lane 11 a 1 1 Forward none ∷ lane 20 b 0 1 Forward none ∷ [];
 }
 
-abbrev from_ato_b : List Connection
-from_ato_b = connection a b true (pair 1 1 ∷ []) ∷ []
+abbrev from_a_to_b : List Connection
+from_a_to_b = connection a b true (pair 1 1 ∷ []) ∷ []
 
 -- Rule 14 is needed: lane 20 runs on to 11, and to 10 once road a is reversed.
-pub both_ends_lem : (onward (repaired (two_ends (junction direct from_ato_b ∷ []))) ≡ [] ∷ (20 ∷ []) ∷ (11 ∷ []) ∷ [])
-    × (onward (repaired (turned marks_a (two_ends (junction direct from_ato_b ∷ [])))) ≡ [] ∷ (20 ∷ []) ∷ (10 ∷ [])
+pub both_ends_lem : (onward (repaired (two_ends (junction direct from_a_to_b ∷ []))) ≡ [] ∷ (20 ∷ []) ∷ (11 ∷ []) ∷ [])
+    × (onward (repaired (turned marks_a (two_ends (junction direct from_a_to_b ∷ [])))) ≡ [] ∷ (20 ∷ []) ∷ (10 ∷ [])
     ∷ [])
 unfolding repaired turned onward
 both_ends_lem = (refl, refl)
 
 -- A direct row that a later common row of its name hides: the lists are the same, and rule 14, which speaks of
 -- any direct junction, refuses all the same.
-pub hidden_row : (onward (repaired (two_ends (junction direct from_ato_b ∷ junction common from_ato_b ∷ [])))
+pub hidden_row : (onward (repaired (two_ends (junction direct from_a_to_b ∷ junction common from_a_to_b ∷ [])))
     ≡ [] ∷ (20 ∷ []) ∷ [] ∷ [])
-    × (onward (repaired (turned marks_a (two_ends (junction direct from_ato_b ∷ junction common from_ato_b ∷ []))))
+    × (onward (repaired (turned marks_a (two_ends (junction direct from_a_to_b ∷ junction common from_a_to_b ∷ []))))
     ≡ [] ∷ (20 ∷ []) ∷ [] ∷ [])
 unfolding repaired turned onward
 hidden_row = (refl, refl)

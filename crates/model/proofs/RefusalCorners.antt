@@ -19,11 +19,11 @@ use Rattle.model.proofs.CardMaps.{road, tables_for, text, to_junction, to_road}
 use Rattle.model.proofs.Computed.{broken}
 
 -- ---- the map that is damaged: roads a and b, and junction j from a into b
-abbrev from_ato_b : List Junction
-from_ato_b = junction common (connection a b false (pair 1 1 ∷ []) ∷ []) ∷ []
+abbrev from_a_to_b : List Junction
+from_a_to_b = junction common (connection a b false (pair 1 1 ∷ []) ∷ []) ∷ []
 
 abbrev map_of : List Road → List Lane → Map
-map_of rs ls = record { roads = rs; junctions = from_ato_b; lanes = ls }
+map_of rs ls = record { roads = rs; junctions = from_a_to_b; lanes = ls }
 
 abbrev two_roads : List Road
 two_roads = road a none (to_junction j) (0 ∷ []) ∷ road b none none (0 ∷ []) ∷ []

@@ -1,5 +1,5 @@
 -- `link_names` puts each row in front of its bucket's chain. Before turn `i` the chains are those of the first
--- `i` rows, and `twice` says whether two of them bear one name: `Linking`, whose laws answer the needs.
+-- `i` rows, and `twice` says whether two of them bear one name: `Linking`, whose laws answer the goals.
 use Prim.Native.Nat.{◌-◌}
 use Rattle.words.specs.Keys.{name_before, name_hash}
 use Rattle.words.proofs.Loops.{Linking}
