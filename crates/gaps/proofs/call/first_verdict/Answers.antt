@@ -106,7 +106,8 @@ words_are asked =
     both_is asked.both-words.ensures map-worded.map_worded.ensures lanes-worded.lanes_worded.ensures
 
 pub table_verdict-requires : goal.table_verdict-requires
-table_verdict-requires c = let asked : After-both-sizes = search in
+table_verdict-requires c =
+    let asked : After-both-sizes = search in
     record {
       few = (λ passes. few_map (t asked) (said asked passes), λ passes. few_lanes (t asked) (said asked passes));
       empty = fresh;
@@ -116,7 +117,8 @@ table_verdict-requires c = let asked : After-both-sizes = search in
 
 pub returns : goal.returns
 unfolding gap_rules lane_rules rules_to5
-returns c = let asked : After-both-sizes = search in
+returns c =
+    let asked : After-both-sizes = search in
     let there = t asked in
     c.table_verdict.ensures.result_value
     ∙ ap₂ (λ sizes words.

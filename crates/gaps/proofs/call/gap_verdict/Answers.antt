@@ -102,7 +102,8 @@ module _ (linked : After-link_ids) where
   }
 
 pub returns-then-not-admitted : goal.returns-then-not-admitted
-returns-then-not-admitted c = let tried : After-admitted = search in
+returns-then-not-admitted c =
+    let tried : After-admitted = search in
     let barred = is_some_lem _ (sym tried.admitted.ensures ∙ c.if-not-admitted.true) in
     let start = start tried in
     record {
@@ -111,7 +112,8 @@ returns-then-not-admitted c = let tried : After-admitted = search in
     }
 
 pub link_ids-requires : goal.link_ids-requires
-link_ids-requires c = let past : Else-not-admitted = search in
+link_ids-requires c =
+    let past : Else-not-admitted = search in
     record {
       n_in_bounds = (rows_in (length (tables (begun past)).lanes) 10, (kept past).few);
       empty = (begun past).requires.empty;
@@ -121,7 +123,8 @@ pub lists_fit-requires : goal.lists_fit-requires
 lists_fit-requires c = by_id (search)
 
 pub returns-then-not-lists_fit : goal.returns-then-not-lists_fit
-returns-then-not-lists_fit c = let past : Else-not-admitted = search in
+returns-then-not-lists_fit c =
+    let past : Else-not-admitted = search in
     let wrong = sym c.lists_fit.ensures ∙ c.if-not-lists_fit.true in
     record {
       result_value = later past (broken_at 0 (rule_11 past) tt wrong);
@@ -129,7 +132,8 @@ returns-then-not-lists_fit c = let past : Else-not-admitted = search in
     }
 
 pub returns : goal.returns
-returns c = let past : Else-not-admitted = search in
+returns c =
+    let past : Else-not-admitted = search in
     let linked : After-link_ids = search in
     let right = sym c.lists_fit.ensures ∙ c.if-not-lists_fit.false in
     record {

@@ -106,13 +106,15 @@ gap_verdict-v-requires c = record { empty = fresh }
 
 pub returns-then-not-admitted : goal.returns-then-not-admitted
 unfolding gap_call
-returns-then-not-admitted c = let tried : After-admitted = search in
+returns-then-not-admitted c =
+    let tried : After-admitted = search in
     let barred = sym tried.admitted.ensures ∙ c.if-not-admitted.true in
     call_refused (table_writing gap_width) (rule_list (start tried)) (content (start tried)) _ (verdict tried) barred
     (first tried)
 
 pub write_rows-requires : goal.write_rows-requires
-write_rows-requires c = let past : Else-not-admitted = search in
+write_rows-requires c =
+    let past : Else-not-admitted = search in
     let tried : After-admitted = search in
     record {
       lent = (judged tried).gap_verdict-v.ensures.lent (admitted past);
@@ -124,7 +126,8 @@ shape_of-out c = omega (arith, c.write_rows.auto.out)
 
 pub returns : goal.returns
 unfolding gap_call
-returns c = let past : Else-not-admitted = search in
+returns c =
+    let past : Else-not-admitted = search in
     let tried : After-admitted = search in
     let out = (begun past).args.out.now in
     c.write_rows.ensures

@@ -89,7 +89,8 @@ pub overflow_mul-ids : goal.overflow_mul-ids
 overflow_mul-ids c = let start : Start = search in omega (arith, (lent start).short)
 
 pub all_rows-n-requires : goal.all_rows-n-requires
-all_rows-n-requires c = let roomy : Then-ids-out = search in
+all_rows-n-requires c =
+    let roomy : Then-ids-out = search in
     let start : Start = search in
     record {
       lent = lent start;
@@ -101,11 +102,13 @@ pub shape_of-out-then-ids-out : goal.shape_of-out-then-ids-out
 shape_of-out-then-ids-out c = omega (arith, c.all_rows-n.auto.out)
 
 pub returns-then-ids-out : goal.returns-then-ids-out
-returns-then-ids-out c = let start : Start = search in
+returns-then-ids-out c =
+    let start : Start = search in
     written start (enough (search)) c.all_rows-n.ensures
 
 pub all_rows-n-requires-2 : goal.all_rows-n-requires-2
-all_rows-n-requires-2 c = let start : Start = search in
+all_rows-n-requires-2 c =
+    let start : Start = search in
     record {
       lent = lent start;
       ids_value = right start;
@@ -116,7 +119,8 @@ pub shape_of-out-then-out-n : goal.shape_of-out-then-out-n
 shape_of-out-then-out-n c = omega (arith, c.all_rows-n-2.auto.out)
 
 pub returns-then-out-n : goal.returns-then-out-n
-returns-then-out-n c = let counted : After-all_rows-n-2 = search in
+returns-then-out-n c =
+    let counted : After-all_rows-n-2 = search in
     let start : Start = search in
     let short : length (out start) < length (content start) =
     omega (arith, c.if-out-n.true, count_is counted, ap length (kept counted)) in
@@ -124,7 +128,8 @@ returns-then-out-n c = let counted : After-all_rows-n-2 = search in
     ∙ too_short (table_writing gap_width) (content start) (out start) (one_short (content start) (out start) short)
 
 pub all_rows-m-requires : goal.all_rows-m-requires
-all_rows-m-requires c = let past : Else-out-n = search in
+all_rows-m-requires c =
+    let past : Else-out-n = search in
     let start : Start = search in
     record {
       lent = lent start;
@@ -136,5 +141,6 @@ pub shape_of-out : goal.shape_of-out
 shape_of-out c = omega (arith, c.all_rows-m.auto.out, c.all_rows-n-2.auto.out)
 
 pub returns : goal.returns
-returns c = let past : Else-out-n = search in
+returns c =
+    let past : Else-out-n = search in
     written (start (counted past)) (fits past) (rw (kept (counted past)) at c.all_rows-m.ensures)

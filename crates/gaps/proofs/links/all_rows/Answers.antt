@@ -140,11 +140,13 @@ pub word-requires : goal.word-requires
 word-requires c = let turn : In-loop-i = search in omega (arith, below turn, offsets_there (begun turn))
 
 pub overflow_sub-count : goal.overflow_sub-count
-overflow_sub-count c = let turn : In-loop-i = search in
+overflow_sub-count c =
+    let turn : In-loop-i = search in
     omega (arith, climbs (begun turn) (i turn) (below turn), c.word-first.ensures.0, c.word.ensures.0)
 
 pub lane_rows-place-requires : goal.lane_rows-place-requires
-lane_rows-place-requires c = let read : After-word = search in
+lane_rows-place-requires c =
+    let read : After-word = search in
     let turn : In-loop-i = search in
     let inv = (head turn).loop-i.invariant in
     let begin = begun turn in
@@ -169,7 +171,8 @@ pub loop-i-smaller : goal.loop-i-smaller
 loop-i-smaller c = omega (arith, c.loop-i-test.true)
 
 pub loop-i-preserved : goal.loop-i-preserved
-loop-i-preserved c = let read : After-word = search in
+loop-i-preserved c =
+    let read : After-word = search in
     let turn : In-loop-i = search in
     let inv = (head turn).loop-i.invariant in (
       omega (arith, turn.loop-i-test.true),
@@ -181,6 +184,7 @@ pub shape_of-out : goal.shape_of-out
 shape_of-out c = c.loop-i.invariant.2
 
 pub returns : goal.returns
-returns c = let start : Start = search in
+returns c =
+    let start : Start = search in
     let past : c.loop-i.i ≡ count start = omega (arith, c.loop-i.invariant.0, c.loop-i-test.false) in
     rw past at c.loop-i.invariant.1

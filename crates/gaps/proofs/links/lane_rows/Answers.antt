@@ -108,7 +108,8 @@ pub bounds-ids-first : goal.bounds-ids-first
 bounds-ids-first c = let turn : In-loop-k = search in id_there turn
 
 pub link_row-place-requires : goal.link_row-place-requires
-link_row-place-requires c = let turn : In-loop-k = search in
+link_row-place-requires c =
+    let turn : In-loop-k = search in
     let start : Start = search in
     let inv = (head turn).loop-k.invariant in
     let k = (head turn).loop-k.k in
@@ -131,7 +132,8 @@ pub loop-k-smaller : goal.loop-k-smaller
 loop-k-smaller c = omega (arith, c.loop-k-test.true)
 
 pub loop-k-preserved : goal.loop-k-preserved
-loop-k-preserved c = let turn : In-loop-k = search in
+loop-k-preserved c =
+    let turn : In-loop-k = search in
     let inv = (head turn).loop-k.invariant in (
       omega (arith, turn.loop-k-test.true),
       put_turn (more (begun turn) (k turn)) (room_more turn) inv.1 c.link_row-place.ensures,
@@ -142,5 +144,6 @@ pub shape_of-out : goal.shape_of-out
 shape_of-out c = c.loop-k.invariant.2
 
 pub returns : goal.returns
-returns c = let past : c.loop-k.k ≡ c.args.count = omega (arith, c.loop-k.invariant.0, c.loop-k-test.false) in
+returns c =
+    let past : c.loop-k.k ≡ c.args.count = omega (arith, c.loop-k.invariant.0, c.loop-k-test.false) in
     rw past at c.loop-k.invariant.1

@@ -53,14 +53,16 @@ module _ (start : Start) where
 
 -- ---- the answers
 pub lane_row-requires : goal.lane_row-requires
-lane_row-requires c = let by_id = c.requires.by_id in
+lane_row-requires c =
+    let by_id = c.requires.by_id in
     record {
       lanes_len_bound = (by_id.few, by_id.buckets, by_id.rows);
       chained = by_id.linked;
     }
 
 pub link_seen-seen-requires : goal.link_seen-seen-requires
-link_seen-seen-requires c = let start : Start = search in
+link_seen-seen-requires c =
+    let start : Start = search in
     let row_is = found_row (last start) c.lane_row.ensures c.in-Row.is in
     let most = last_le (count start) (is_id start.args.lanes.now start.args.id.0) in
     record {
@@ -69,7 +71,8 @@ link_seen-seen-requires c = let start : Start = search in
     }
 
 pub put_row-requires : goal.put_row-requires
-put_row-requires c = let start : Start = search in
+put_row-requires c =
+    let start : Start = search in
     let place_low = start.requires.lane_in_bounds.1 in
     record {
       at_bound = (place_low, c.link_seen-seen.ensures.1);
@@ -80,10 +83,12 @@ pub shape_of-out : goal.shape_of-out
 shape_of-out c = c.put_row.auto.out
 
 pub returns-in-Row : goal.returns-in-Row
-returns-in-Row c = let start : Start = search in
+returns-in-Row c =
+    let start : Start = search in
     rw (words_same start c.lane_row.ensures c.in-Row.is c.link_seen-seen.ensures.0) at c.put_row.ensures
 
 pub returns-in-Nothing : goal.returns-in-Nothing
-returns-in-Nothing c = let start : Start = search in
+returns-in-Nothing c =
+    let start : Start = search in
     let nothing = found_none (last start) c.lane_row.ensures c.in-Nothing.is in
     absurd (omega (arith, nothing, borne start))

@@ -19,7 +19,8 @@ returns-then-not-write c = wide_counted c.args.lane c.args.next c.args.at c.args
     c.args.seen c.in-Wide.is c.if-not-write.true
 
 pub wide_row-row-requires : goal.wide_row-row-requires
-wide_row-row-requires c = let start : Start = search in
+wide_row-row-requires c =
+    let start : Start = search in
     (wide_number c.in-Wide.is (numbers start), (numbers start).u, (numbers start).v)
 
 pub slice_bounds-put-end : goal.slice_bounds-put-end

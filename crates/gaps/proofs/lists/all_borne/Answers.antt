@@ -51,7 +51,8 @@ pub bounds-ids-i : goal.bounds-ids-i
 bounds-ids-i c = omega (arith, c.loop-i-test.true)
 
 pub find_id-f-requires : goal.find_id-f-requires
-find_id-f-requires c = let by_id = c.requires in
+find_id-f-requires c =
+    let by_id = c.requires in
     record {
       n_in_bounds = (
         rows_in (length c.args.lanes.now) 10,
@@ -62,7 +63,8 @@ find_id-f-requires c = let by_id = c.requires in
     }
 
 pub returns-then-not-found : goal.returns-then-not-found
-returns-then-not-found c = let asked : After-found = search in
+returns-then-not-found c =
+    let asked : After-found = search in
     let missed = sym (found_is asked) ∙ c.if-not-found.true in
     sym ((head asked).loop-i.invariant ∙ borne_miss _ _ _ c.loop-i-test.true missed)
 
@@ -73,10 +75,12 @@ pub loop-i-smaller : goal.loop-i-smaller
 loop-i-smaller c = omega (arith, c.loop-i-test.true)
 
 pub loop-i-preserved : goal.loop-i-preserved
-loop-i-preserved c = let asked : After-found = search in
+loop-i-preserved c =
+    let asked : After-found = search in
     let borne-too = sym (found_is asked) ∙ c.if-not-found.false in
     (head asked).loop-i.invariant ∙ borne_on _ _ _ c.loop-i-test.true borne-too
 
 pub returns : goal.returns
-returns c = let past : length c.args.ids.now ≤ c.loop-i.i = omega (arith, c.loop-i-test.false) in
+returns c =
+    let past : length c.args.ids.now ≤ c.loop-i.i = omega (arith, c.loop-i-test.false) in
     sym (c.loop-i.invariant ∙ borne_end _ _ _ past)

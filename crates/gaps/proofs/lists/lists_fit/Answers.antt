@@ -8,7 +8,8 @@ use Rattle.rules.proofs.Leaves.{both_is}
 use Rattle.gaps.proofs.lists.lists_fit.Goals as goal
 
 pub returns : goal.returns
-returns c = let counted = ap (λ (n : ℕ). eqb (length c.args.offsets.now) n)
+returns c =
+    let counted = ap (λ (n : ℕ). eqb (length c.args.offsets.now) n)
     (add-one (length c.args.lanes.now / 10)) in
     both_is c.both.ensures
     (both_is c.both-climb.ensures counted c.offsets_climb.ensures)

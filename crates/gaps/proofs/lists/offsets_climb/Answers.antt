@@ -41,5 +41,6 @@ loop-i-preserved c = let word-is = c.word-o.ensures.0 in (
 )
 
 pub returns : goal.returns
-returns c = let past : length c.args.offsets.now ≤ c.loop-i.i = omega (arith, c.loop-i-test.false) in
+returns c =
+    let past : length c.args.offsets.now ≤ c.loop-i.i = omega (arith, c.loop-i-test.false) in
     sym (c.loop-i.invariant.1 ∙ climbs_end _ _ _ _ past)

@@ -20,17 +20,20 @@ chosen-requires-in-Both c =
     (no_sign, c.chosen-b.ensures.1)
 
 pub returns-in-Forward : goal.returns-in-Forward
-returns-in-Forward c = let best = best_forward c.args.exit c.args.to _
+returns-in-Forward c =
+    let best = best_forward c.args.exit c.args.to _
     c.in-Forward.is c.nearest.ensures c.chosen.ensures.0 in
     (best, c.chosen.ensures.1)
 
 pub returns-in-Backward : goal.returns-in-Backward
-returns-in-Backward c = let best = best_backward c.args.exit c.args.to _
+returns-in-Backward c =
+    let best = best_backward c.args.exit c.args.to _
     c.in-Backward.is c.nearest-in-Backward.ensures c.chosen-in-Backward.ensures.0 in
     (best, c.chosen-in-Backward.ensures.1)
 
 pub returns-in-Both : goal.returns-in-Both
-returns-in-Both c = let best = best_both c.args.exit c.args.to _
+returns-in-Both c =
+    let best = best_both c.args.exit c.args.to _
     c.in-Both.is c.nearest-in-Both.ensures c.chosen-b.ensures.0
     c.nearest-in-Both-2.ensures c.chosen-in-Both.ensures.0 in
     (best, c.chosen-in-Both.ensures.1)

@@ -26,7 +26,8 @@ pub float_to_bits-x : goal.float_to_bits-x
 float_to_bits-x c = (below_number _ _ c.if-x-y.true).0
 
 pub overflow_add-x : goal.overflow_add-x
-overflow_add-x c = let start : Start = search in
+overflow_add-x c =
+    let start : Start = search in
     let number = (below_number _ _ c.if-x-y.true).0 in
     omega (arith, pattern_top start.args.x (plain_x start).held (plain_x start).no_sign number)
 
@@ -34,12 +35,14 @@ pub float_to_bits-y : goal.float_to_bits-y
 float_to_bits-y c = (below_number _ _ c.if-x-y.true).1
 
 pub returns-then-x-y-2 : goal.returns-then-x-y-2
-returns-then-x-y-2 c = let start : Start = search in
+returns-then-x-y-2 c =
+    let start : Start = search in
     closer_far _ _ (plain_x start) (plain_y start) c.if-x-y.true c.if-x-y-2.true
 
 pub returns-then-x-y : goal.returns-then-x-y
 returns-then-x-y c = ap₂ lt c.root_of.ensures c.root_of-then-x-y.ensures
 
 pub returns : goal.returns
-returns c = let start : Start = search in
+returns c =
+    let start : Start = search in
     closer_not _ _ (plain_x start) (plain_y start) c.if-x-y.false

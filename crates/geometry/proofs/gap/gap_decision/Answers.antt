@@ -19,9 +19,11 @@ pub float_from_bits-t-2 : goal.float_from_bits-t-2
 float_from_bits-t-2 c = no_nan 0x3c23_d70b (lit≤ tt)
 
 pub returns-then-square : goal.returns-then-square
-returns-then-square c = let start : Start = search in
+returns-then-square c =
+    let start : Start = search in
     decision_passed _ (plain start) c.if-square.true
 
 pub returns : goal.returns
-returns c = let start : Start = search in
+returns c =
+    let start : Start = search in
     decision_wide _ (plain start) c.if-square.false c.root_of.ensures

@@ -14,9 +14,11 @@ pub seen_of-requires : goal.seen_of-requires
 seen_of-requires c = (near_plain c.args.exit c.args.entry c.nearest-n.ensures).no_sign
 
 pub returns-then-n : goal.returns-then-n
-returns-then-n c = let this = only_this c.args.exit c.args.entry c.nearest-n.ensures c.if-n.true in
+returns-then-n c =
+    let this = only_this c.args.exit c.args.entry c.nearest-n.ensures c.if-n.true in
     c.seen_of.ensures ∙ ap seen_of this
 
 pub returns : goal.returns
-returns c = let none = only_none c.args.exit c.args.entry c.nearest-n.ensures c.if-n.false in
+returns c =
+    let none = only_none c.args.exit c.args.entry c.nearest-n.ensures c.if-n.false in
     c.seen_of-2.ensures ∙ ap seen_of (c.no_pair.ensures.0 ∙ none)

@@ -20,13 +20,16 @@ plain_y : (start : Start) → Plain start.args.y
 plain_y start = record { held = subst T (sym start.well_formed.1.0.1) tt; no_sign = start.requires.1 }
 
 pub returns-then-x-y : goal.returns-then-x-y
-returns-then-x-y c = let start : Start = search in
+returns-then-x-y c =
+    let start : Start = search in
     tied_lower _ _ (plain_x start) (plain_y start) c.if-x-y.true c.closer.ensures
 
 pub returns-then-y-x : goal.returns-then-y-x
-returns-then-y-x c = let start : Start = search in
+returns-then-y-x c =
+    let start : Start = search in
     tied_lower _ _ (plain_y start) (plain_x start) c.if-y-x.true c.closer-then-y-x.ensures ∙ eq_comm _ _
 
 pub returns : goal.returns
-returns c = let start : Start = search in
+returns c =
+    let start : Start = search in
     tied_nan _ _ (plain_x start) (plain_y start) c.if-x-y.false c.if-y-x.false

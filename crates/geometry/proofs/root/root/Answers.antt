@@ -30,7 +30,8 @@ own x fits_in b bits_are gives-itself =
     subst (λ (y : Float). accepted y ≡ root_answer y) value-is (sym gives-itself)
 
 pub returns-then-x : goal.returns-then-x
-returns-then-x c = let x-is-nan = is_nan_lem c.args.x c.if-x.true in
+returns-then-x c =
+    let x-is-nan = is_nan_lem c.args.x c.if-x.true in
     subst (λ (y : Float). accepted y ≡ root_answer y) (sym x-is-nan) (sym at_nan_lem)
 
 pub float_to_bits-b : goal.float_to_bits-b
@@ -43,19 +44,22 @@ pub float_from_bits-result : goal.float_from_bits-result
 float_from_bits-result c = no_nan c.root_bits.result (omega (arith, c.root_bits.ensures.finite))
 
 pub returns-then-b-lt2139095040 : goal.returns-then-b-lt2139095040
-returns-then-b-lt2139095040 rooted = let start : Start = search in
+returns-then-b-lt2139095040 rooted =
+    let start : Start = search in
     let x = start.args.x in
     let r = rooted.root_bits.result in
     let root_is = at_positive (to_bits binary32 x) r (search rules) (search rules) rooted.root_bits.ensures in
     at_bits x (accepted (of_bits binary32 r)) (held start) root_is
 
 pub returns-then-b-le2147483648 : goal.returns-then-b-le2147483648
-returns-then-b-le2147483648 c = let start : Start = search in
+returns-then-b-le2147483648 c =
+    let start : Start = search in
     let x = start.args.x in
     own x (held start) (to_bits binary32 x) refl (at_top (to_bits binary32 x) (search rules) (search rules))
 
 pub returns : goal.returns
-returns c = let start : Start = search in
+returns c =
+    let start : Start = search in
     let x = start.args.x in
     let no-nan-back = back_no_nan x (held start) (is_no_nan x c.if-x.false) in
     let below-zero = at_negative (to_bits binary32 x) (search rules) (bits_lt x (held start)) no-nan-back in

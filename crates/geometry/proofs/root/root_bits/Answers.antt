@@ -33,7 +33,8 @@ pub overflow_mul-n-2 : goal.overflow_mul-n-2
 overflow_mul-n-2 scaled = omega (arith, (range (search)).1)
 
 pub nearest_root-q-requires : goal.nearest_root-q-requires
-nearest_root-q-requires guessed = let scaled : After-scale-s = search in
+nearest_root-q-requires guessed =
+    let scaled : After-scale-s = search in
     let above_zero = (range scaled).0 in
     let small = (range scaled).1 in
     (omega arith, omega arith, guessed.guess-g.ensures)
@@ -45,5 +46,6 @@ pub overflow_add-result-2 : goal.overflow_add-result-2
 overflow_add-result-2 rooted = omega (arith, (digits (search)).1, rooted.scale-s.ensures.small)
 
 pub returns : goal.returns
-returns rooted = let nearest = rooted.nearest_root-q.ensures in
+returns rooted =
+    let nearest = rooted.nearest_root-q.ensures in
     nearest_bits _ _ _ _ rooted.scale-s.ensures nearest.0 nearest.1

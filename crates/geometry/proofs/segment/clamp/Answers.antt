@@ -21,10 +21,12 @@ returns-then-x c = low c.args.x c.if-x.true
 
 pub returns-then-x-2 : goal.returns-then-x-2
 unfolding of_bits
-returns-then-x-2 c = let x = c.args.x in
+returns-then-x-2 c =
+    let x = c.args.x in
     sym (ap (λ (t : Bool). cond t one x) c.if-x-2.true) ∙ rest x c.if-x.false
 
 pub returns : goal.returns
 unfolding of_bits
-returns c = let x = c.args.x in
+returns c =
+    let x = c.args.x in
     sym (ap (λ (t : Bool). cond t one x) c.if-x-2.false) ∙ rest x c.if-x.false

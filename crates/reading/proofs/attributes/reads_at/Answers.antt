@@ -6,12 +6,14 @@ use Rattle.reading.proofs.NameLaws.{name_absent, name_there}
 use Rattle.reading.proofs.attributes.reads_at.Goals as goal
 
 pub returns-then-absent_at : goal.returns-then-absent_at
-returns-then-absent_at c = let absent = sym c.absent_at.ensures ∙ c.if-absent_at.true in
+returns-then-absent_at c =
+    let absent = sym c.absent_at.ensures ∙ c.if-absent_at.true in
     sym (ap (reads c.args.text.now c.args.bytes.now)
     (name_absent c.args.ws.now c.args.at absent))
 
 pub returns : goal.returns
-returns c = let bytes = c.args.bytes.now in
+returns c =
+    let bytes = c.args.bytes.now in
     let there = sym c.absent_at.ensures ∙ c.if-absent_at.false in
     let first_is = c.word-s.ensures.0 in
     let size_is = c.word-n.ensures.0 in

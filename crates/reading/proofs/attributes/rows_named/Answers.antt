@@ -46,11 +46,13 @@ pub overflow_mul-i : goal.overflow_mul-i
 overflow_mul-i c = omega (arith, row_there (search))
 
 pub names_fit-requires : goal.names_fit-requires
-names_fit-requires c = let turn : In-loop-i = search in
+names_fit-requires c =
+    let turn : In-loop-i = search in
     (omega (arith, row_there turn, c.requires.2), c.requires.3)
 
 pub returns-then-not-names_fit : goal.returns-then-not-names_fit
-returns-then-not-names_fit c = let text = c.args.text.now in
+returns-then-not-names_fit c =
+    let text = c.args.text.now in
     let ws = c.args.ws.now in
     let w = c.args.w in
     let n = c.args.n in
@@ -65,11 +67,13 @@ pub loop-i-smaller : goal.loop-i-smaller
 loop-i-smaller c = omega arith
 
 pub loop-i-preserved : goal.loop-i-preserved
-loop-i-preserved c = let fit = sym c.names_fit.ensures ∙ c.if-not-names_fit.false in
+loop-i-preserved c =
+    let fit = sym c.names_fit.ensures ∙ c.if-not-names_fit.false in
     (omega arith, all_step _ _ c.loop-i.invariant.1 fit)
 
 pub returns : goal.returns
-returns c = let text = c.args.text.now in
+returns c =
+    let text = c.args.text.now in
     let ws = c.args.ws.now in
     let w = c.args.w in
     let n = c.args.n in

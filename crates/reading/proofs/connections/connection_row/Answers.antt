@@ -5,7 +5,8 @@ use mathlib.Core.List.{[], ◌∷◌}
 use Rattle.reading.proofs.connections.connection_row.Goals as goal
 
 pub returns : goal.returns
-returns c = let connections = c.args.connections.now in
+returns c =
+    let connections = c.args.connections.now in
     let at = c.args.at in
     let k = c.args.k in
     let contact = c.bit.ensures in

@@ -46,7 +46,8 @@ pub reads_at-requires : goal.reads_at-requires
 reads_at-requires c = let start : Start = search in omega (arith, connection_there start)
 
 pub returns-then-reads_at : goal.returns-then-reads_at
-returns-then-reads_at c = let start : Start = search in
+returns-then-reads_at c =
+    let start : Start = search in
     let virtual = sym c.reads_at.ensures ∙ c.if-reads_at.true in
     passed_virtual start.args.text.now start.args.junctions.now start.args.connections.now []
     start.args.j start.args.c start.args.kind start.requires.kind_value c.if-kind-ne2.false
@@ -59,11 +60,13 @@ pub overflow_add-j : goal.overflow_add-j
 overflow_add-j c = let start : Start = search in omega (arith, junction_there start)
 
 pub same_names-requires : goal.same_names-requires
-same_names-requires c = let start : Start = search in
+same_names-requires c =
+    let start : Start = search in
     (omega (arith, connection_there start), omega (arith, junction_there start))
 
 pub returns : goal.returns
-returns c = let start : Start = search in
+returns c =
+    let start : Start = search in
     let not-virtual = sym c.reads_at.ensures ∙ c.if-reads_at.false in
     passed_virtual start.args.text.now start.args.junctions.now start.args.connections.now []
     start.args.j start.args.c start.args.kind start.requires.kind_value c.if-kind-ne2.false

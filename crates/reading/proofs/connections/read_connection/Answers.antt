@@ -97,7 +97,8 @@ module _ (warned : After-warn_if-v) where
       sym tested.both_there.ensures ∙ with-both.if-not-both_there.false
 
 pub passed_over-requires : goal.passed_over-requires
-passed_over-requires c = let start : Start = search in
+passed_over-requires c =
+    let start : Start = search in
     let at = start.requires.at in
     record {
       j_in_bounds = (
@@ -110,7 +111,8 @@ passed_over-requires c = let start : Start = search in
     }
 
 pub returns-then-passed_over : goal.returns-then-passed_over
-returns-then-passed_over c = let args = c.args in
+returns-then-passed_over c =
+    let args = c.args in
     let passed = sym (passed_any _ _ _ args.links.now _ _) ∙ sym c.passed_over.ensures ∙ c.if-passed_over.true in (
       read_passed _ _ _ _ _ _
           (connection_outs args.co.now args.n args.po.now args.p args.wo.now args.w) passed,
@@ -128,7 +130,8 @@ pub overflow_add-at : goal.overflow_add-at
 overflow_add-at c = let start : Start = search in omega (arith, (has_room start).row)
 
 pub both_there-requires : goal.both_there-requires
-both_there-requires c = let start : Start = search in
+both_there-requires c =
+    let start : Start = search in
     let low = c.road_word.ensures.0 in (omega (arith, (has_room start).row), omega (arith, (has_room start).row))
 
 -- ---- one is missing: warning 1
@@ -151,7 +154,8 @@ pub shape_of-wo-then-not-both_there : goal.shape_of-wo-then-not-both_there
 shape_of-wo-then-not-both_there c = c.put_if.auto.out
 
 pub returns-then-not-both_there : goal.returns-then-not-both_there
-returns-then-not-both_there c = let past : Else-passed_over = search in
+returns-then-not-both_there c =
+    let past : Else-passed_over = search in
     let args = (start past).args in
     let missing = sym c.both_there.ensures ∙ c.if-not-both_there.true in (
       read_dropped args.text.now args.junctions.now args.connections.now args.links.now args.j
@@ -181,25 +185,29 @@ pub contact_at-point-requires : goal.contact_at-point-requires
 contact_at-point-requires c = let past : Else-passed_over = search in omega (arith, (has_room (start past)).row)
 
 pub overflow_cast-j-2 : goal.overflow_cast-j-2
-overflow_cast-j-2 c = let past : Else-passed_over = search in
+overflow_cast-j-2 c =
+    let past : Else-passed_over = search in
     let at = (start past).requires.at in omega (arith, at.ready.few_junctions, at.junction_there)
 
 pub overflow_cast-c-2 : goal.overflow_cast-c-2
 overflow_cast-c-2 c = let past : Else-passed_over = search in omega (arith, (has_room (start past)).small)
 
 pub warn_if-v-requires : goal.warn_if-v-requires
-warn_if-v-requires c = let past : Else-passed_over = search in
+warn_if-v-requires c =
+    let past : Else-passed_over = search in
     (omega arith, omega (arith, (has_room (start past)).warnings))
 
 pub overflow_cast-j-3 : goal.overflow_cast-j-3
-overflow_cast-j-3 c = let warned : After-warn_if-v = search in
+overflow_cast-j-3 c =
+    let warned : After-warn_if-v = search in
     let at = (start (past warned)).requires.at in omega (arith, at.ready.few_junctions, at.junction_there)
 
 pub overflow_cast-c-3 : goal.overflow_cast-c-3
 overflow_cast-c-3 c = let warned : After-warn_if-v = search in omega (arith, (has_room (start (past warned))).small)
 
 pub read_links-q-requires : goal.read_links-q-requires
-read_links-q-requires c = let warned : After-warn_if-v = search in
+read_links-q-requires c =
+    let warned : After-warn_if-v = search in
     let room = has_room (start (past warned)) in
     let first_is = (first warned).word-first.ensures.0 in
     let count_is = (count warned).word-count.ensures.0 in record {
@@ -215,7 +223,8 @@ pub overflow_sub-q : goal.overflow_sub-q
 overflow_sub-q c = omega (arith, c.read_links-q.ensures.0.pairs.count)
 
 pub connection_row-row-requires : goal.connection_row-row-requires
-connection_row-row-requires c = let warned : After-warn_if-v = search in
+connection_row-row-requires c =
+    let warned : After-warn_if-v = search in
     let room = has_room (start (past warned)) in
     let low = (road warned).road_word.ensures.0 in
     let count_is = (count warned).word-count.ensures.0 in (
@@ -229,7 +238,8 @@ pub overflow_mul-n : goal.overflow_mul-n
 overflow_mul-n c = let warned : After-warn_if-v = search in omega (arith, (has_room (start (past warned))).kept)
 
 pub put_if-requires-2 : goal.put_if-requires-2
-put_if-requires-2 c = let warned : After-warn_if-v = search in
+put_if-requires-2 c =
+    let warned : After-warn_if-v = search in
     let wide = ap length c.connection_row-row.ensures in
     (omega (arith, (has_room (start (past warned))).kept), omega arith)
 
@@ -246,7 +256,8 @@ pub shape_of-wo : goal.shape_of-wo
 shape_of-wo c = c.read_links-q.ensures.0.warnings.kept ∙ c.warn_if-v.ensures.kept
 
 pub returns : goal.returns
-returns c = let warned : After-warn_if-v = search in
+returns c =
+    let warned : After-warn_if-v = search in
     let args = (start (past warned)).args in
     let text = args.text.now in
     let links = args.links.now in

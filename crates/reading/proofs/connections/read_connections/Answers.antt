@@ -45,7 +45,8 @@ pub loop-k-smaller : goal.loop-k-smaller
 loop-k-smaller c = omega (arith, c.loop-k-test.true)
 
 pub loop-k-preserved : goal.loop-k-preserved
-loop-k-preserved c = let start : Start = search in
+loop-k-preserved c =
+    let start : Start = search in
     let args = start.args in
     let t = tables start in
     let k = c.loop-k.k in (
@@ -65,6 +66,7 @@ pub shape_of-wo : goal.shape_of-wo
 shape_of-wo c = c.loop-k.invariant.1.rest.warnings.kept
 
 pub returns : goal.returns
-returns c = let inv = c.loop-k.invariant in
+returns c =
+    let inv = c.loop-k.invariant in
     let past : c.loop-k.k ≡ c.args.count = omega (arith, inv.0, c.loop-k-test.false) in
     (rw past at inv.1, rw past at inv.2)

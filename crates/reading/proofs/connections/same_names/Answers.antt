@@ -29,18 +29,21 @@ module _ (past : Else-absent_at) where
       name_there start.args.xs.now start.args.a (sym tested.absent_at.ensures ∙ past.if-absent_at.false) refl refl
 
 pub returns-then-absent_at : goal.returns-then-absent_at
-returns-then-absent_at c = let absent = sym c.absent_at.ensures ∙ c.if-absent_at.true in
+returns-then-absent_at c =
+    let absent = sym c.absent_at.ensures ∙ c.if-absent_at.true in
     let first = name_absent c.args.xs.now c.args.a absent in
     sym (ap (λ o. same_names c.args.text.now o (name_in c.args.ys.now c.args.b)) first)
 
 pub returns-then-absent_at-2 : goal.returns-then-absent_at-2
-returns-then-absent_at-2 c = let past : Else-absent_at = search in
+returns-then-absent_at-2 c =
+    let past : Else-absent_at = search in
     let absent = sym c.absent_at-2.ensures ∙ c.if-absent_at-2.true in
     let second = name_absent c.args.ys.now c.args.b absent in
     sym (ap₂ (same_names c.args.text.now) (first_there past) second)
 
 pub returns : goal.returns
-returns c = let past : Else-absent_at = search in
+returns c =
+    let past : Else-absent_at = search in
     let there = sym c.absent_at-2.ensures ∙ c.if-absent_at-2.false in
     let first_is = c.word-s.ensures.0 in
     let size_is = c.word-n.ensures.0 in

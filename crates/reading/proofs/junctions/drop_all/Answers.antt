@@ -38,5 +38,6 @@ pub shape_of-wo : goal.shape_of-wo
 shape_of-wo c = c.loop-k.invariant.1.kept
 
 pub returns : goal.returns
-returns c = let past : c.loop-k.k ≡ c.args.count = omega (arith, c.loop-k.invariant.0, c.loop-k-test.false) in
+returns c =
+    let past : c.loop-k.k ≡ c.args.count = omega (arith, c.loop-k.invariant.0, c.loop-k-test.false) in
     rw past at c.loop-k.invariant.1

@@ -19,7 +19,8 @@ pub overflow_mul-rows-4 : goal.overflow_mul-rows-4
 overflow_mul-rows-4 c = omega (arith, c.requires.0)
 
 pub returns : goal.returns
-returns c = let args = c.args in
+returns c =
+    let args = c.args in
     let rows = args.rows in
     let two = c.both-y.ensures ∙ ap (λ b. leb (rows.pairs * 2) args.pairs && b) c.both-x.ensures in
     let three = c.both-z.ensures ∙ ap (λ b. leb (rows.connections * 7) args.connections && b) two in

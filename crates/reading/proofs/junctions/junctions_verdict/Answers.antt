@@ -120,27 +120,32 @@ module _ (tested : After-both-3) where
       both_is tested.both-3.ensures connections.parts_fit-d.ensures links.parts_fit.ensures
 
 pub returns-then-not-both : goal.returns-then-not-both
-returns-then-not-both c = let test : After-both = search in
+returns-then-not-both c =
+    let test : After-both = search in
     junctions_1 (tables (start test)) (sym (sizes_tested test) ∙ c.if-not-both.true)
 
 pub returns-then-not-both-2 : goal.returns-then-not-both-2
-returns-then-not-both-2 c = let test : After-both-2 = search in
+returns-then-not-both-2 c =
+    let test : After-both-2 = search in
     let past : Else-not-both = search in
     junctions_2 (tables (start (sizes-test past))) (sized past) (sym (names_tested test) ∙ c.if-not-both-2.true)
 
 -- ---- 5
 pub parts_fit-d-requires : goal.parts_fit-d-requires
-parts_fit-d-requires c = let past : Else-not-both = search in
+parts_fit-d-requires c =
+    let past : Else-not-both = search in
     let few = few_connections (tables (start (sizes-test past))) (sized past) in
     (omega arith, omega arith, omega arith, omega arith, few)
 
 pub parts_fit-requires : goal.parts_fit-requires
-parts_fit-requires c = let past : Else-not-both = search in
+parts_fit-requires c =
+    let past : Else-not-both = search in
     let few = few_links (tables (start (sizes-test past))) (sized past) in
     (omega arith, omega arith, omega arith, omega arith, few)
 
 pub returns-then-not-both-3 : goal.returns-then-not-both-3
-returns-then-not-both-3 c = let test : After-both-3 = search in
+returns-then-not-both-3 c =
+    let test : After-both-3 = search in
     let past : Else-not-both-2 = search in
     let sizes-past = past-sizes (names-test past) in
     junctions_5 (tables (start (sizes-test sizes-past))) (sized sizes-past) (all_named past)
@@ -148,7 +153,8 @@ returns-then-not-both-3 c = let test : After-both-3 = search in
 
 -- ---- none of them
 pub returns : goal.returns
-returns c = let test : After-both-3 = search in
+returns c =
+    let test : After-both-3 = search in
     let past : Else-not-both-2 = search in
     let sizes-past = past-sizes (names-test past) in
     junctions_0 (tables (start (sizes-test sizes-past))) (sized sizes-past) (all_named past)

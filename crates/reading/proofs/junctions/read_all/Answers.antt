@@ -45,7 +45,8 @@ pub loop-j-smaller : goal.loop-j-smaller
 loop-j-smaller c = omega (arith, c.loop-j-test.true)
 
 pub loop-j-preserved : goal.loop-j-preserved
-loop-j-preserved c = let start : Start = search in
+loop-j-preserved c =
+    let start : Start = search in
     let t = tables start in (
       omega (arith, c.loop-j-test.true),
       junctions_turn (λ i. to_list (read_junction t i)) (junction_warnings t) c.loop-j.j
@@ -67,7 +68,8 @@ shape_of-wo c = c.loop-j.invariant.1.rest.rest.warnings.kept
 
 pub returns : goal.returns
 unfolding read_junctions read_warnings
-returns c = let junctions = c.args.junctions.now in
+returns c =
+    let junctions = c.args.junctions.now in
     let inv = c.loop-j.invariant in
     let past : c.loop-j.j ≡ length junctions / 8 = omega (arith, inv.0, c.loop-j-test.false) in
     let all_connections_lem =

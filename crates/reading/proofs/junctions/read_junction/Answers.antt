@@ -79,7 +79,8 @@ pub shape_of-wo-then-absent_at : goal.shape_of-wo-then-absent_at
 shape_of-wo-then-absent_at c = c.drop_all.ensures.kept
 
 pub returns-then-absent_at : goal.returns-then-absent_at
-returns-then-absent_at c = let count : After-word-count = search in
+returns-then-absent_at c =
+    let count : After-word-count = search in
     let args = (start count).args in
     let absent = sym c.absent_at.ensures ∙ c.if-absent_at.true in (
       read_unnamed args.text.now args.junctions.now args.connections.now args.links.now args.j
@@ -98,7 +99,8 @@ pub kind_at-kind-requires : goal.kind_at-kind-requires
 kind_at-kind-requires c = let start : Start = search in omega (arith, row_there start)
 
 pub read_connections-q-requires : goal.read_connections-q-requires
-read_connections-q-requires c = let count : After-word-count = search in
+read_connections-q-requires c =
+    let count : After-word-count = search in
     let args = (start count).args in
     record {
       at = record {
@@ -114,7 +116,8 @@ pub overflow_sub-size : goal.overflow_sub-size
 overflow_sub-size c = omega (arith, c.read_connections-q.ensures.0.rows.count)
 
 pub overflow_cast-size : goal.overflow_cast-size
-overflow_cast-size c = let count : After-word-count = search in
+overflow_cast-size c =
+    let count : After-word-count = search in
     omega (arith, c.read_connections-q.ensures.1.connections_low, (on count).few)
 
 pub overflow_mul-m : goal.overflow_mul-m
@@ -157,7 +160,8 @@ pub shape_of-wo : goal.shape_of-wo
 shape_of-wo c = c.read_connections-q.ensures.0.rest.warnings.kept
 
 pub returns : goal.returns
-returns c = let count : After-word-count = search in
+returns c =
+    let count : After-word-count = search in
     let args = (start count).args in
     let text = args.text.now in
     let junctions = args.junctions.now in

@@ -67,7 +67,8 @@ module _ (past : Else-not-admitted) where
 
 pub returns-then-not-admitted : goal.returns-then-not-admitted
 unfolding read_junctions_call
-returns-then-not-admitted c = let start : Start = search in
+returns-then-not-admitted c =
+    let start : Start = search in
     let barred = sym c.admitted.ensures ∙ c.if-not-admitted.true in
     call_refused junction_writing (raw_junction_rules (tables start)) (junction_content (tables start)) (outs start)
     c.junctions_verdict-v.result barred c.junctions_verdict-v.ensures
@@ -76,7 +77,8 @@ pub read_all-counted-requires : goal.read_all-counted-requires
 read_all-counted-requires c = let past : Else-not-admitted = search in record { ready = tables_ready past }
 
 pub fit-requires : goal.fit-requires
-fit-requires c = let past : Else-not-admitted = search in
+fit-requires c =
+    let past : Else-not-admitted = search in
     let ready = tables_ready past in
     let low = c.read_all-counted.ensures.2 in
     let covered = ready.link_parts.whole in (
@@ -88,7 +90,8 @@ fit-requires c = let past : Else-not-admitted = search in
 
 pub returns-then-not-fit : goal.returns-then-not-fit
 unfolding read_junctions_call
-returns-then-not-fit c = let past : Else-not-admitted = search in
+returns-then-not-fit c =
+    let past : Else-not-admitted = search in
     let short = sym c.fit.ensures ∙ c.if-not-fit.true in
     counted_short (tables (start past)) _ _ _ _ c.read_all-counted.ensures.0 short ∙ only_9_left past
 
@@ -109,7 +112,8 @@ shape_of-warnings_out c = c.read_all-rows.ensures.0.rest.rest.warnings.kept
 
 pub returns : goal.returns
 unfolding read_junctions_call
-returns c = let past : Else-not-admitted = search in
+returns c =
+    let past : Else-not-admitted = search in
     let room = sym c.fit.ensures ∙ c.if-not-fit.false in
     counted_written (tables (start past)) _ _ _ _ c.read_all-counted.ensures.0 room c.read_all-rows.ensures.0
     ∙ only_9_left past

@@ -26,7 +26,8 @@ pub loop-i-smaller : goal.loop-i-smaller
 loop-i-smaller c = omega (arith, c.loop-i-test.true)
 
 pub loop-i-preserved : goal.loop-i-preserved
-loop-i-preserved c = let text = c.args.text.now in
+loop-i-preserved c =
+    let text = c.args.text.now in
     let raw = c.args.raw.now in
     let inv = c.loop-i.invariant in (
       omega (arith, c.loop-i-test.true),
@@ -39,7 +40,8 @@ pub shape_of-out : goal.shape_of-out
 shape_of-out c = c.loop-i.invariant.2
 
 pub returns : goal.returns
-returns c = let text = c.args.text.now in
+returns c =
+    let text = c.args.text.now in
     let raw = c.args.raw.now in
     let past : c.loop-i.i ≡ length raw / 4 = omega (arith, c.loop-i.invariant.0, c.loop-i-test.false) in
     let rows = ap (λ (n : ℕ). gather (lane_at text raw) (part_rows 0 n)) past ∙ sym (lanes_content text raw) in

@@ -38,7 +38,8 @@ module _ (past : Else-not-admitted) where
 
 pub returns-then-not-admitted : goal.returns-then-not-admitted
 unfolding read_lanes_call
-returns-then-not-admitted c = let text = c.args.text.now in
+returns-then-not-admitted c =
+    let text = c.args.text.now in
     let raw = c.args.raw.now in
     let barred = sym c.admitted.ensures ∙ c.if-not-admitted.true in
     call_refused (table_writing 4) (raw_lane_rules text raw) (raw_lane_content text raw) _
@@ -49,7 +50,8 @@ overflow_mul-n c = omega (arith, rows_in (length c.args.raw.now) 4)
 
 pub returns-then-out-n : goal.returns-then-out-n
 unfolding read_lanes_call
-returns-then-out-n c = let past : Else-not-admitted = search in
+returns-then-out-n c =
+    let past : Else-not-admitted = search in
     let text = c.args.text.now in
     let raw = c.args.raw.now in
     table_short 4 (raw_lane_rules text raw) (raw_lane_content text raw) c.args.out.now (length raw / 4)
@@ -57,7 +59,8 @@ returns-then-out-n c = let past : Else-not-admitted = search in
     c.if-out-n.true
 
 pub put_lanes-requires : goal.put_lanes-requires
-put_lanes-requires c = let past : Else-not-admitted = search in
+put_lanes-requires c =
+    let past : Else-not-admitted = search in
     let unbroken = sym (is_none _ (free past)) ∙ (judged past).lanes_verdict-v.ensures in
     (lanes_few c.args.text.now c.args.raw.now unbroken, omega (arith, c.if-out-n.false))
 
@@ -66,7 +69,8 @@ shape_of-out c = c.put_lanes.auto.out
 
 pub returns : goal.returns
 unfolding read_lanes_call
-returns c = let past : Else-not-admitted = search in
+returns c =
+    let past : Else-not-admitted = search in
     let text = c.args.text.now in
     let raw = c.args.raw.now in
     table_written 4 (raw_lane_rules text raw) (raw_lane_content text raw) c.args.out.now (length raw / 4)

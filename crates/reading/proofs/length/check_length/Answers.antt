@@ -13,11 +13,13 @@ returns-then-n-eq0 c = length_none c.args.starts.now c.args.lengths.now c.args.l
     c.if-n-eq0.true
 
 pub returns-then-far_off : goal.returns-then-far_off
-returns-then-far_off c = let starts = c.args.starts.now in
+returns-then-far_off c =
+    let starts = c.args.starts.now in
     length_off starts c.args.lengths.now c.args.length nan (length starts) refl c.if-n-lengths.false
     c.if-n-eq0.false (sym c.far_off.ensures ∙ c.if-far_off.true)
 
 pub returns : goal.returns
-returns c = let starts = c.args.starts.now in
+returns c =
+    let starts = c.args.starts.now in
     length_fine starts c.args.lengths.now c.args.length nan (length starts) refl c.if-n-lengths.false
     c.if-n-eq0.false (sym c.far_off.ensures ∙ c.if-far_off.false)

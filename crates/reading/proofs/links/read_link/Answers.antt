@@ -15,7 +15,8 @@ pub shape_of-po-then-both : goal.shape_of-po-then-both
 shape_of-po-then-both c = c.put_if.auto.out
 
 pub returns-then-both : goal.returns-then-both
-returns-then-both c = let flags = both_is c.both.ensures c.is.ensures c.is-2.ensures in
+returns-then-both c =
+    let flags = both_is c.both.ensures c.is.ensures c.is-2.ensures in
     let flags-set = sym flags ∙ c.if-both.true in (
       link_on c.args.text.now c.args.links.now c.args.l c.number_at-from.ensures
           c.number_at-to.ensures c.args.j c.args.c flags-set c.put_if.ensures
@@ -37,7 +38,8 @@ pub shape_of-wo : goal.shape_of-wo
 shape_of-wo c = c.put_if-2.auto.out
 
 pub returns : goal.returns
-returns c = let flags = both_is c.both.ensures c.is.ensures c.is-2.ensures in
+returns c =
+    let flags = both_is c.both.ensures c.is.ensures c.is-2.ensures in
     let flag-unset = sym flags ∙ c.if-both.false in (
       link_off c.args.text.now c.args.links.now c.args.l c.number_at-from.ensures
           c.number_at-to.ensures c.args.j c.args.c flag-unset c.put_if-2.ensures

@@ -16,7 +16,8 @@ pub overflow_add-first : goal.overflow_add-first
 overflow_add-first c = omega (arith, c.requires.count_in_bounds.1, c.loop-k-test.true)
 
 pub read_link-q-requires : goal.read_link-q-requires
-read_link-q-requires c = let inv = c.loop-k.invariant in
+read_link-q-requires c =
+    let inv = c.loop-k.invariant in
     let inside = c.loop-k-test.true in record {
       l_in_bounds = (
         omega (arith, c.requires.count_in_bounds.0),
@@ -33,7 +34,8 @@ pub loop-k-smaller : goal.loop-k-smaller
 loop-k-smaller c = omega (arith, c.loop-k-test.true)
 
 pub loop-k-preserved : goal.loop-k-preserved
-loop-k-preserved c = let text = c.args.text.now in
+loop-k-preserved c =
+    let text = c.args.text.now in
     let links = c.args.links.now in
     let inv = c.loop-k.invariant in (
       omega (arith, c.loop-k-test.true),
@@ -50,6 +52,7 @@ pub shape_of-wo : goal.shape_of-wo
 shape_of-wo c = c.loop-k.invariant.1.warnings.kept
 
 pub returns : goal.returns
-returns c = let inv = c.loop-k.invariant in
+returns c =
+    let inv = c.loop-k.invariant in
     let past : c.loop-k.k ≡ c.args.count = omega (arith, inv.0, c.loop-k-test.false) in
     (rw past at inv.1, omega (arith, inv.2), omega (arith, inv.3))

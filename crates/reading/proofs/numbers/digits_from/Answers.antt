@@ -61,7 +61,8 @@ pub bounds-bytes-i : goal.bounds-bytes-i
 bounds-bytes-i c = omega arith
 
 pub returns-then-not-is_digit : goal.returns-then-not-is_digit
-returns-then-not-is_digit c = let no_digit = sym c.is_digit.ensures ∙ c.if-not-is_digit.true in
+returns-then-not-is_digit c =
+    let no_digit = sym c.is_digit.ensures ∙ c.if-not-is_digit.true in
     c.no_link-then-not-is_digit.ensures
     ∙ digits_off c.args.most c.args.start c.loop-i.v c.loop-i.i c.args.bytes.now
     (omega arith) c.loop-i.invariant.2 no_digit
@@ -71,7 +72,8 @@ longer-v-requires c =
     (omega (arith, c.loop-i.invariant.1, c.requires.1), sym c.is_digit.ensures ∙ c.if-not-is_digit.false)
 
 pub returns-then-most-v : goal.returns-then-most-v
-returns-then-most-v c = let added : After-longer-v = search in
+returns-then-most-v c =
+    let added : After-longer-v = search in
     c.no_link-then-most-v.ensures
     ∙ digits_past c.args.most c.args.start added.longer-v.result (c.loop-i.i + 1)
     c.args.bytes.now (one_more added) (omega (arith, c.if-most-v.true))
@@ -83,7 +85,8 @@ pub loop-i-smaller : goal.loop-i-smaller
 loop-i-smaller c = omega arith
 
 pub loop-i-preserved : goal.loop-i-preserved
-loop-i-preserved c = let added : After-longer-v = search in
+loop-i-preserved c =
+    let added : After-longer-v = search in
     (omega arith, omega (arith, c.if-most-v.false), one_more added)
 
 pub overflow_cast-result : goal.overflow_cast-result

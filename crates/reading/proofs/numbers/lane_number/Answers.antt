@@ -11,7 +11,8 @@ pub returns-then-bytes-eq0 : goal.returns-then-bytes-eq0
 returns-then-bytes-eq0 c = c.no_link.ensures ∙ number_none c.args.bytes.now c.if-bytes-eq0.true
 
 pub returns-then-bytes-eq45 : goal.returns-then-bytes-eq45
-returns-then-bytes-eq45 c = let bytes = c.args.bytes.now in
+returns-then-bytes-eq45 c =
+    let bytes = c.args.bytes.now in
     let digits_are = c.digits_from-q.ensures in
     link_negated (up_to 2147483648 (digits (drop 1 bytes))) (ap (λ q. q.flag) digits_are)
     (c.negate.ensures ∙ ap (λ q. negated q.number) digits_are)

@@ -8,7 +8,8 @@ use Rattle.reading.proofs.TargetLaws.{loose_is}
 use Rattle.reading.proofs.targets.loose_target.Goals as goal
 
 pub returns : goal.returns
-returns c = let raw = c.args.raw.now in
+returns c =
+    let raw = c.args.raw.now in
     let i = c.args.i in
     let named = ap not c.absent_at.ensures ∙ there_is raw (i * 9 + 3) in
     both_is c.both.ensures (both_is c.both-kept.ensures c.is.ensures named)

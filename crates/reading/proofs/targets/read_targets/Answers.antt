@@ -82,7 +82,8 @@ module _ (tested : After-both) where
 
 pub returns-then-not-admitted : goal.returns-then-not-admitted
 unfolding read_targets_call
-returns-then-not-admitted c = let start : Start = search in
+returns-then-not-admitted c =
+    let start : Start = search in
     let text = start.args.text.now in
     let raw = start.args.raw.now in
     let barred = sym c.admitted.ensures ∙ c.if-not-admitted.true in
@@ -94,13 +95,15 @@ warnings_fit-requires c = let past : Else-not-admitted = search in few past
 
 pub returns-then-not-both : goal.returns-then-not-both
 unfolding read_targets_call
-returns-then-not-both c = let tested : After-both = search in
+returns-then-not-both c =
+    let tested : After-both = search in
     let past : Else-not-admitted = search in
     let short = sym (room tested) ∙ c.if-not-both.true in
     targets_short _ _ _ _ short ∙ only_9_left past
 
 pub put_targets-requires : goal.put_targets-requires
-put_targets-requires c = let tested : After-both = search in
+put_targets-requires c =
+    let tested : After-both = search in
     let past : Else-not-admitted = search in
     (few past, leb-true _ _ (left_on _ _ (sym (room tested) ∙ c.if-not-both.false)))
 
@@ -109,7 +112,8 @@ warn_targets-w-requires c = let past : Else-not-admitted = search in few past
 
 pub returns : goal.returns
 unfolding read_targets_call
-returns c = let tested : After-both = search in
+returns c =
+    let tested : After-both = search in
     let past : Else-not-admitted = search in
     let enough = sym (room tested) ∙ c.if-not-both.false in
     targets_written _ _ _ _ enough c.put_targets.ensures c.warn_targets-w.ensures.0 ∙ only_9_left past

@@ -37,12 +37,14 @@ module _ (tested : After-both-known) where
       both_is tested.both-known.ensures flag.most.ensures names.names_fit.ensures
 
 pub returns-then-raw-at-eq1 : goal.returns-then-raw-at-eq1
-returns-then-raw-at-eq1 c = let before : After-both-known = search in
+returns-then-raw-at-eq1 c =
+    let before : After-both-known = search in
     target_fits_on c.args.text.now c.args.raw.now c.args.at c.if-raw-at-eq1.true
     (known_is before)
 
 pub returns : goal.returns
-returns c = let before : After-both-known = search in
+returns c =
+    let before : After-both-known = search in
     let args = (start before).args in
     let two-absent = both_is c.both-a.ensures c.absent_at.ensures c.absent_at-2.ensures in
     let three-absent = both_is c.both-b.ensures two-absent c.absent_at-3.ensures in

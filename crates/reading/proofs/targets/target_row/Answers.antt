@@ -10,13 +10,15 @@ pub returns-then-raw-at-ne1 : goal.returns-then-raw-at-ne1
 returns-then-raw-at-ne1 c = target_off c.args.text.now c.args.raw.now c.args.i c.if-raw-at-ne1.true
 
 pub returns-then-absent_at : goal.returns-then-absent_at
-returns-then-absent_at c = let raw = c.args.raw.now in
+returns-then-absent_at c =
+    let raw = c.args.raw.now in
     let i = c.args.i in
     let absent = name_absent raw (i * 9 + 3) (sym c.absent_at.ensures ∙ c.if-absent_at.true) in
     target_unnamed c.args.text.now raw i c.if-raw-at-ne1.false absent
 
 pub returns : goal.returns
-returns c = let raw = c.args.raw.now in
+returns c =
+    let raw = c.args.raw.now in
     let i = c.args.i in
     let there = name_there raw (i * 9 + 3) (sym c.absent_at.ensures ∙ c.if-absent_at.false) refl refl in
     target_named c.args.text.now raw i c.if-raw-at-ne1.false there

@@ -15,7 +15,8 @@ pub target_fits-requires : goal.target_fits-requires
 target_fits-requires c = omega arith
 
 pub returns-then-not-target_fits : goal.returns-then-not-target_fits
-returns-then-not-target_fits c = let text = c.args.text.now in
+returns-then-not-target_fits c =
+    let text = c.args.text.now in
     let raw = c.args.raw.now in
     let unfit = sym c.target_fits.ensures ∙ c.if-not-target_fits.true in
     sym (every_rows 9 raw (raw_target_worded text) (target_local text)
@@ -28,11 +29,13 @@ pub loop-i-smaller : goal.loop-i-smaller
 loop-i-smaller c = omega arith
 
 pub loop-i-preserved : goal.loop-i-preserved
-loop-i-preserved c = let fits = sym c.target_fits.ensures ∙ c.if-not-target_fits.false in
+loop-i-preserved c =
+    let fits = sym c.target_fits.ensures ∙ c.if-not-target_fits.false in
     (omega arith, all_step _ _ c.loop-i.invariant.1 fits)
 
 pub returns : goal.returns
-returns c = let text = c.args.text.now in
+returns c =
+    let text = c.args.text.now in
     let raw = c.args.raw.now in
     let past : length raw / 9 ≡ c.loop-i.i = omega arith in
     sym (every_rows 9 raw (raw_target_worded text) (target_local text)

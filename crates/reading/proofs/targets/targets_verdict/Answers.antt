@@ -31,15 +31,18 @@ module _ (tested : After-both) where
       ∙ ap (λ (b : Bool). b && eqb (length start.args.raw.now / 9 % 2) 0) rows.raw_sized.ensures
 
 pub returns-then-not-both : goal.returns-then-not-both
-returns-then-not-both c = let tested : After-both = search in
+returns-then-not-both c =
+    let tested : After-both = search in
     targets_1 _ _ (sym (sized_is tested) ∙ c.if-not-both.true)
 
 pub returns-then-not-targets_fit : goal.returns-then-not-targets_fit
-returns-then-not-targets_fit c = let tested : After-both = search in
+returns-then-not-targets_fit c =
+    let tested : After-both = search in
     targets_2 _ _ (sym (sized_is tested) ∙ c.if-not-both.false)
     (sym c.targets_fit.ensures ∙ c.if-not-targets_fit.true)
 
 pub returns : goal.returns
-returns c = let tested : After-both = search in
+returns c =
+    let tested : After-both = search in
     targets_0 _ _ (sym (sized_is tested) ∙ c.if-not-both.false)
     (sym c.targets_fit.ensures ∙ c.if-not-targets_fit.false)

@@ -29,7 +29,8 @@ pub loop-i-smaller : goal.loop-i-smaller
 loop-i-smaller c = omega (arith, c.loop-i-test.true)
 
 pub loop-i-preserved : goal.loop-i-preserved
-loop-i-preserved c = let i = c.loop-i.i in
+loop-i-preserved c =
+    let i = c.loop-i.i in
     let inv = c.loop-i.invariant in
     let warned = warned_if (target_loose (i / 2) (i % 2)) c.loose_target-loose.ensures c.warn_if-w.ensures in (
       omega (arith, c.loop-i-test.true),
@@ -42,6 +43,7 @@ shape_of-wo c = c.loop-i.invariant.2.kept
 
 pub returns : goal.returns
 unfolding target_warnings
-returns c = let raw = c.args.raw.now in
+returns c =
+    let raw = c.args.raw.now in
     let past : c.loop-i.i ≡ length raw / 9 = omega (arith, c.loop-i.invariant.0, c.loop-i-test.false) in
     (rw past at c.loop-i.invariant.2, omega (arith, c.loop-i.invariant.1, c.requires))

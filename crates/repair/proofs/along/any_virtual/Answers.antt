@@ -48,24 +48,29 @@ pub overflow_sub-r : goal.overflow_sub-r
 overflow_sub-r c = omega (arith, c.loop-a-test.true)
 
 pub is_virtual-requires : goal.is_virtual-requires
-is_virtual-requires c = let turn : In-loop-a = search in
+is_virtual-requires c =
+    let turn : In-loop-a = search in
     let pre = (start turn).requires in
     (omega (arith, row turn, pre.2.few), omega (arith, row_fits turn), pre.0, pre.1)
 
 pub returns-then-is_virtual : goal.returns-then-is_virtual
-returns-then-is_virtual c = let turn : In-loop-a = search in
+returns-then-is_virtual c =
+    let turn : In-loop-a = search in
     some_found (head turn).loop-a.invariant turn.loop-a-test.true (sym c.is_virtual.ensures ∙ c.if-is_virtual.true)
 
 pub word-a-requires-in-loop-a : goal.word-a-requires-in-loop-a
-word-a-requires-in-loop-a c = let turn : In-loop-a = search in
+word-a-requires-in-loop-a c =
+    let turn : In-loop-a = search in
     omega (arith, row turn, (start turn).requires.2.few, (start turn).requires.2.next_long)
 
 pub loop-a-smaller : goal.loop-a-smaller
-loop-a-smaller c = let turn : In-loop-a = search in
+loop-a-smaller c =
+    let turn : In-loop-a = search in
     look_less (head turn).loop-a.invariant turn.loop-a-test.true c.word-a-in-loop-a.ensures.0
 
 pub loop-a-preserved : goal.loop-a-preserved
-loop-a-preserved c = let turn : In-loop-a = search in
+loop-a-preserved c =
+    let turn : In-loop-a = search in
     look_on (head turn).loop-a.invariant turn.loop-a-test.true c.word-a-in-loop-a.ensures.0
     (sym c.is_virtual.ensures ∙ c.if-is_virtual.false)
 

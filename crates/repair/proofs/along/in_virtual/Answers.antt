@@ -23,7 +23,8 @@ module _ (read : After-index_at-s) where
 
 pub returns : goal.returns
 unfolding virtual_row
-returns c = let first : After-index_at-s = search in
+returns c =
+    let first : After-index_at-s = search in
     let text = (start first).args.text.now in
     let junctions = (start first).args.junctions.now in
     c.both.ensures

@@ -23,13 +23,15 @@ module _ (found : After-in_virtual-v) where
   start = search
 
 pub bounds-ends-r-2 : goal.bounds-ends-r-2
-bounds-ends-r-2 c = let found : After-in_virtual-v = search in
+bounds-ends-r-2 c =
+    let found : After-in_virtual-v = search in
     let pre = (start found).requires.road_bound in
     let kept = length-set (start found).args.ends.now ((start found).args.road.0 * 2 + 0) c.bit.result in
     omega (arith, kept, pre.0, pre.1)
 
 pub returns : goal.returns
-returns c = let found : After-in_virtual-v = search in
+returns c =
+    let found : After-in_virtual-v = search in
     let r = (start found).args.road.0 in
     let virtual = found.in_virtual-v.ensures in
     let flag : ℕ → Bool = λ k. eqb k 1 in

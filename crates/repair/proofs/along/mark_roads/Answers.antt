@@ -50,7 +50,8 @@ pub overflow_cast-id : goal.overflow_cast-id
 overflow_cast-id c = let turn : In-loop-r = search in omega (arith, row_few turn)
 
 pub mark_road-requires : goal.mark_road-requires
-mark_road-requires c = let turn : In-loop-r = search in
+mark_road-requires c =
+    let turn : In-loop-r = search in
     record { road_bound = (row_few turn, (head turn).loop-r.invariant.long, (start turn).requires.2) }
 
 pub overflow_add-r : goal.overflow_add-r
@@ -60,7 +61,8 @@ pub loop-r-smaller : goal.loop-r-smaller
 loop-r-smaller c = omega (arith, c.loop-r-test.true)
 
 pub loop-r-preserved : goal.loop-r-preserved
-loop-r-preserved c = let marked : After-mark_road = search in
+loop-r-preserved c =
+    let marked : After-mark_road = search in
     let turn : In-loop-r = search in
     let held = c.loop-r.invariant in
     record {
@@ -73,7 +75,8 @@ pub shape_of-ends : goal.shape_of-ends
 shape_of-ends c = omega (arith, c.loop-r.invariant.long, c.requires.1)
 
 pub returns : goal.returns
-returns c = let held = c.loop-r.invariant in
+returns c =
+    let held = c.loop-r.invariant in
     let past : c.loop-r.r ≡ length c.args.roads.now / 20 =
     omega (arith, held.turns, c.loop-r-test.false) in
     rw past at held.marked

@@ -7,7 +7,8 @@ use mathlib.Core.Path.{◌≡◌, ap, ◌∙◌}
 use Rattle.repair.proofs.call.copy_part.Goals as goal
 
 pub returns : goal.returns
-returns c = let n = c.args.n in
+returns c =
+    let n = c.args.n in
     let z : n - 0 ≡ n = omega arith in
     c.copy.ensures
     ∙ ap (λ (k : ℕ). written (take k c.args.words.now) c.args.out.now) z

@@ -39,7 +39,8 @@ link_names-requires c = record {
 }
 
 pub junctions-q-requires : goal.junctions-q-requires
-junctions-q-requires c = let pre = c.requires.mend_due in
+junctions-q-requires c =
+    let pre = c.requires.mend_due in
     record {
       ruled = record {
         small = pre.small;
@@ -66,7 +67,8 @@ junctions-q-requires c = let pre = c.requires.mend_due in
     }
 
 pub write-requires : goal.write-requires
-write-requires c = let repaired : After-junctions-q = search in
+write-requires c =
+    let repaired : After-junctions-q = search in
     let pre = (start (linked repaired)).requires.mend_due in
     let kept = repaired.junctions-q.auto in
     record {
@@ -86,7 +88,8 @@ write-requires c = let repaired : After-junctions-q = search in
     }
 
 pub returns : goal.returns
-returns c = let repaired : After-junctions-q = search in
+returns c =
+    let repaired : After-junctions-q = search in
     let start = start (linked repaired) in
     let args = start.args in
     let lent =

@@ -65,19 +65,22 @@ repair_verdict-v-requires c = record { empty = fresh }
 
 pub returns-then-not-admitted : goal.returns-then-not-admitted
 unfolding repair_call
-returns-then-not-admitted c = let judged : After-repair_verdict-v = search in
+returns-then-not-admitted c =
+    let judged : After-repair_verdict-v = search in
     let barred = sym c.admitted.ensures ∙ c.if-not-admitted.true in
     call_refused repair_writing (repair_rules (tables judged)) (repair_content (tables judged)) (lent judged)
     judged.repair_verdict-v.result barred judged.repair_verdict-v.ensures.result_value
 
 pub without_along-requires : goal.without_along-requires
-without_along-requires c = let past : Else-not-admitted = search in
+without_along-requires c =
+    let past : Else-not-admitted = search in
     record {
       roads_len_bound = ((ready_for past).few_roads, (ready_for past).joined.few, length-replicate {A = ℕ} 32768 0);
     }
 
 pub mend-requires : goal.mend-requires
-mend-requires c = let past : Else-not-admitted = search in
+mend-requires c =
+    let past : Else-not-admitted = search in
     let known = ready_for past in
     let kept = (judged past).repair_verdict-v.auto in
     record {
@@ -98,7 +101,8 @@ mend-requires c = let past : Else-not-admitted = search in
 
 pub returns : goal.returns
 unfolding repair_call
-returns c = let past : Else-not-admitted = search in
+returns c =
+    let past : Else-not-admitted = search in
     let judged = judged past in
     let sections = (tables judged).sections in
     let started = start_is (tables judged) (ready_for past).joined (c.without_along.ensures sections _ _) in

@@ -75,48 +75,58 @@ module _ (past : Else-not-fit) where
   fitting = fits_five _ _ _ _ _ _ _ _ _ _ (sym tried.fit.ensures ∙ past.if-not-fit.false)
 
 pub returns-then-not-fit : goal.returns-then-not-fit
-returns-then-not-fit c = let tried : After-fit = search in
+returns-then-not-fit c =
+    let tried : After-fit = search in
     let short = sym tried.fit.ensures ∙ c.if-not-fit.true in
     too_short repair_writing (content tried) (lent tried) (room_is _ _ _ _ _ _ (whole tried) (lent tried) short)
 
 pub put_roads-requires : goal.put_roads-requires
-put_roads-requires c = let past : Else-not-fit = search in
+put_roads-requires c =
+    let past : Else-not-fit = search in
     ((given past).requires.write_due.roads_few, (fitting past).0)
 
 pub copy_part-requires : goal.copy_part-requires
-copy_part-requires c = let past : Else-not-fit = search in
+copy_part-requires c =
+    let past : Else-not-fit = search in
     let due = (given past).requires.write_due in
     (omega (arith, due.junctions_few, due.arrays.junctions_long), (fitting past).1)
 
 pub overflow_mul-n-2 : goal.overflow_mul-n-2
-overflow_mul-n-2 c = let past : Else-not-fit = search in
+overflow_mul-n-2 c =
+    let past : Else-not-fit = search in
     omega (arith, (given past).requires.write_due.within.connections_few)
 
 pub copy_part-requires-2 : goal.copy_part-requires-2
-copy_part-requires-2 c = let past : Else-not-fit = search in
+copy_part-requires-2 c =
+    let past : Else-not-fit = search in
     let due = (given past).requires.write_due in
     (omega (arith, due.within.connections_few, due.arrays.long.connections_long), (fitting past).2)
 
 pub overflow_mul-p-2 : goal.overflow_mul-p-2
-overflow_mul-p-2 c = let past : Else-not-fit = search in
+overflow_mul-p-2 c =
+    let past : Else-not-fit = search in
     omega (arith, (given past).requires.write_due.within.pairs_few)
 
 pub copy_part-requires-3 : goal.copy_part-requires-3
-copy_part-requires-3 c = let past : Else-not-fit = search in
+copy_part-requires-3 c =
+    let past : Else-not-fit = search in
     let due = (given past).requires.write_due in
     (omega (arith, due.within.pairs_few, due.arrays.long.pairs_long), (fitting past).3)
 
 pub overflow_mul-w-2 : goal.overflow_mul-w-2
-overflow_mul-w-2 c = let past : Else-not-fit = search in
+overflow_mul-w-2 c =
+    let past : Else-not-fit = search in
     omega (arith, (given past).requires.write_due.within.warnings_few)
 
 pub copy_part-requires-4 : goal.copy_part-requires-4
-copy_part-requires-4 c = let past : Else-not-fit = search in
+copy_part-requires-4 c =
+    let past : Else-not-fit = search in
     let due = (given past).requires.write_due in
     (omega (arith, due.within.warnings_few, due.arrays.warnings_long), (fitting past).4)
 
 pub returns : goal.returns
-returns c = let tried : After-fit = search in
+returns c =
+    let tried : After-fit = search in
     let fit = sym tried.fit.ensures ∙ c.if-not-fit.false in
     all_written repair_writing (content tried) (lent tried)
     (room_is _ _ _ _ _ _ (whole tried) (lent tried) fit)

@@ -34,7 +34,8 @@ loop-k-init c = record {
 }
 
 pub repair_junction-q-requires : goal.repair_junction-q-requires
-repair_junction-q-requires c = let head : At-loop-k = search in
+repair_junction-q-requires c =
+    let head : At-loop-k = search in
     let held = head.loop-k.invariant in
     record {
       ruled = (start head).requires.ruled;
@@ -48,14 +49,16 @@ repair_junction-q-requires c = let head : At-loop-k = search in
     }
 
 pub overflow_add-k : goal.overflow_add-k
-overflow_add-k c = let head : At-loop-k = search in
+overflow_add-k c =
+    let head : At-loop-k = search in
     omega (arith, c.loop-k-test.true, (start head).requires.ruled.joined.few)
 
 pub loop-k-smaller : goal.loop-k-smaller
 loop-k-smaller c = omega (arith, c.loop-k-test.true)
 
 pub loop-k-preserved : goal.loop-k-preserved
-loop-k-preserved c = let held = c.loop-k.invariant in
+loop-k-preserved c =
+    let held = c.loop-k.invariant in
     let step = c.repair_junction-q.ensures in
     let kept = c.repair_junction-q.auto in
     record {
@@ -75,29 +78,35 @@ loop-k-preserved c = let held = c.loop-k.invariant in
     }
 
 pub shape_of-ends : goal.shape_of-ends
-shape_of-ends c = let head : At-loop-k = search in
+shape_of-ends c =
+    let head : At-loop-k = search in
     omega (arith, head.loop-k.invariant.ends_long, (start head).requires.ends_len.0)
 
 pub shape_of-warn : goal.shape_of-warn
-shape_of-warn c = let head : At-loop-k = search in
+shape_of-warn c =
+    let head : At-loop-k = search in
     omega (arith, head.loop-k.invariant.arrays.warnings_long, (start head).requires.ends_len.1.warnings_long)
 
 pub shape_of-js : goal.shape_of-js
-shape_of-js c = let head : At-loop-k = search in
+shape_of-js c =
+    let head : At-loop-k = search in
     omega (arith, head.loop-k.invariant.arrays.junctions_long, (start head).requires.ends_len.1.junctions_long)
 
 pub shape_of-cs : goal.shape_of-cs
-shape_of-cs c = let head : At-loop-k = search in
+shape_of-cs c =
+    let head : At-loop-k = search in
     let long = head.loop-k.invariant.arrays.long in
     omega (arith, long.connections_long, (start head).requires.ends_len.1.long.connections_long)
 
 pub shape_of-ps : goal.shape_of-ps
-shape_of-ps c = let head : At-loop-k = search in
+shape_of-ps c =
+    let head : At-loop-k = search in
     let long = head.loop-k.invariant.arrays.long in
     omega (arith, long.pairs_long, (start head).requires.ends_len.1.long.pairs_long)
 
 pub returns : goal.returns
-returns c = let head : At-loop-k = search in
+returns c =
+    let head : At-loop-k = search in
     let args = (start head).args in
     let ruled = (start head).requires.ruled in
     let held = head.loop-k.invariant in

@@ -60,18 +60,21 @@ module _ (counted : After-index_at-m) where
   part = part_of given.requires.ruled.small given.requires.ruled.joined given.requires.lay_due.inside read
 
 pub put_own-y-requires : goal.put_own-y-requires
-put_own-y-requires c = let counted : After-index_at-m = search in
+put_own-y-requires c =
+    let counted : After-index_at-m = search in
     let ruled = (given counted).requires.ruled in
     let twice = (given counted).requires.lay_due.twice in
     record { small = (ruled.small, room_own ruled.small (part counted) twice, (given counted).requires.lay_due.long) }
 
 pub overflow_add-n : goal.overflow_add-n
-overflow_add-n c = let counted : After-index_at-m = search in
+overflow_add-n c =
+    let counted : After-index_at-m = search in
     let ruled = (given counted).requires.ruled in
     omega (arith, (room_own ruled.small (part counted) (given counted).requires.lay_due.twice).rows)
 
 pub reversed-requires : goal.reversed-requires
-reversed-requires c = let counted : After-index_at-m = search in
+reversed-requires c =
+    let counted : After-index_at-m = search in
     let pre = (given counted).requires in
     let ruled = pre.ruled in
     let long : Long _ _ = record {
@@ -91,7 +94,8 @@ reversed-requires c = let counted : After-index_at-m = search in
     }
 
 pub returns : goal.returns
-returns c = let counted : After-index_at-m = search in
+returns c =
+    let counted : After-index_at-m = search in
     let pre = (given counted).requires in
     record {
       twice = twice_more pre.ruled.small (part counted) pre.lay_due.twice _ _ c.only-d.ensures.1

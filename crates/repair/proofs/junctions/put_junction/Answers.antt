@@ -8,7 +8,8 @@ use mathlib.Core.Path.{◌≡◌, ap, ◌∙◌}
 use Rattle.repair.proofs.junctions.put_junction.Goals as goal
 
 pub returns : goal.returns
-returns c = let args = c.args in
+returns c =
+    let args = c.args in
     let js = args.js.now in
     let row-end : (args.k + 1) * 5 ≡ args.k * 5 + 5 = omega arith in
     let fits : args.k * 5 ≤ length js = omega (arith, c.requires.0, c.requires.3) in

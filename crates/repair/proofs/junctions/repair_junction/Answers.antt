@@ -63,7 +63,8 @@ module _ (counted : After-index_at-m) where
   part = part_of given.requires.ruled.small given.requires.ruled.joined given.requires.step_due.inside read
 
 pub lay_junction-x-requires : goal.lay_junction-x-requires
-lay_junction-x-requires c = let counted : After-index_at-m = search in
+lay_junction-x-requires c =
+    let counted : After-index_at-m = search in
     let pre = (given counted).requires in
     record {
       ruled = pre.ruled;
@@ -74,7 +75,8 @@ pub overflow_sub-y : goal.overflow_sub-y
 overflow_sub-y c = omega (arith, (c.lay_junction-x.ensures.by_index []).rows)
 
 pub put_junction-requires : goal.put_junction-requires
-put_junction-requires c = let counted : After-index_at-m = search in
+put_junction-requires c =
+    let counted : After-index_at-m = search in
     let pre = (given counted).requires in
     let part = part counted in
     let few = pre.ruled.small.few in
@@ -86,7 +88,8 @@ put_junction-requires c = let counted : After-index_at-m = search in
     )
 
 pub missing_links-z-requires : goal.missing_links-z-requires
-missing_links-z-requires c = let counted : After-index_at-m = search in
+missing_links-z-requires c =
+    let counted : After-index_at-m = search in
     let pre = (given counted).requires in
     let part = part counted in
     record {
@@ -101,7 +104,8 @@ missing_links-z-requires c = let counted : After-index_at-m = search in
     }
 
 pub returns : goal.returns
-returns c = let laid : After-lay_junction-x = search in
+returns c =
+    let laid : After-lay_junction-x = search in
     let counted : After-index_at-m = search in
     let args = (given counted).args in
     let pre = (given counted).requires in

@@ -8,7 +8,8 @@ use mathlib.Core.Path.{sym, ap}
 use Rattle.repair.proofs.laying.put_back.Goals as goal
 
 pub returns-then-b-eq0 : goal.returns-then-b-eq0
-returns-then-b-eq0 c = let args = c.args in
+returns-then-b-eq0 c =
+    let args = c.args in
     let connection = connection_at args.pairs.now args.connections.now args.c in
     let none_back = sym (ap (λ (b : ℕ). back_list b connection) c.if-b-eq0.true) in
     record {

@@ -11,7 +11,8 @@ use mathlib.Core.Path.{◌≡◌, ap, ◌∙◌}
 use Rattle.repair.proofs.laying.put_connection.Goals as goal
 
 pub put_pairs-requires : goal.put_pairs-requires
-put_pairs-requires c = let small = c.requires.small.0 in
+put_pairs-requires c =
+    let small = c.requires.small.0 in
     let room = c.requires.small.1 in
     let count_is = c.index_at-m.ensures.0 in
     let fits = fit_in 7 5 6 _ _ small.fit _ room.inside in (
@@ -21,7 +22,8 @@ put_pairs-requires c = let small = c.requires.small.0 in
     )
 
 pub returns : goal.returns
-returns c = let args = c.args in
+returns c =
+    let args = c.args in
     let room = c.requires.small.1 in
     let cs = args.cs.now in
     let words = row_words args.b args.connections.now args.c args.p in

@@ -46,7 +46,8 @@ module _ (turn : In-loop-i) where
 
 pub loop-i-init : goal.loop-i-init
 unfolding tab
-loop-i-init c = let args = c.args in
+loop-i-init c =
+    let args = c.args in
     record {
       turns = omega arith;
       counted =
@@ -56,14 +57,16 @@ loop-i-init c = let args = c.args in
     }
 
 pub overflow_add-first : goal.overflow_add-first
-overflow_add-first c = let turn : In-loop-i = search in
+overflow_add-first c =
+    let turn : In-loop-i = search in
     omega (arith, (room turn).inside, (start turn).requires.small.0.few)
 
 pub overflow_add-n : goal.overflow_add-n
 overflow_add-n c = let turn : In-loop-i = search in omega (arith, (room turn).rows)
 
 pub put_connection-at-requires : goal.put_connection-at-requires
-put_connection-at-requires c = let turn : In-loop-i = search in
+put_connection-at-requires c =
+    let turn : In-loop-i = search in
     record { small = ((start turn).requires.small.0, room turn, (head turn).loop-i.invariant.long) }
 
 pub overflow_add-i : goal.overflow_add-i
@@ -73,7 +76,8 @@ pub loop-i-smaller : goal.loop-i-smaller
 loop-i-smaller c = omega (arith, c.loop-i-test.true)
 
 pub loop-i-preserved : goal.loop-i-preserved
-loop-i-preserved c = let laid : After-put_connection-at = search in
+loop-i-preserved c =
+    let laid : After-put_connection-at = search in
     let args = c.args in
     let held = c.loop-i.invariant in
     let i = c.loop-i.i in
@@ -97,7 +101,8 @@ pub shape_of-ps : goal.shape_of-ps
 shape_of-ps c = omega (arith, c.loop-i.invariant.long.pairs_long, c.requires.small.2.pairs_long)
 
 pub returns : goal.returns
-returns c = let held = c.loop-i.invariant in
+returns c =
+    let held = c.loop-i.invariant in
     let past : c.loop-i.i ≡ c.args.m = omega (arith, held.turns, c.loop-i-test.false) in
     record {
       first_value = rw past at held.counted;

@@ -45,7 +45,8 @@ module _ (turn : In-loop-i) where
 
 pub loop-i-init : goal.loop-i-init
 unfolding tab
-loop-i-init c = let none_yet : c.args.p + 0 ≡ c.args.p = omega arith in
+loop-i-init c =
+    let none_yet : c.args.p + 0 ≡ c.args.p = omega arith in
     record {
       turns = omega arith;
       long = c.requires.2;
@@ -65,7 +66,8 @@ pub overflow_mul-p : goal.overflow_mul-p
 overflow_mul-p c = let turn : In-loop-i = search in omega (arith, place_few turn)
 
 pub put-requires : goal.put-requires
-put-requires c = let turn : In-loop-i = search in
+put-requires c =
+    let turn : In-loop-i = search in
     let two = ap length c.pair_row-row.ensures ∙ pair_width_lem (pair turn) in
     omega (arith, two, place_few turn, (head turn).loop-i.invariant.long)
 
@@ -76,7 +78,8 @@ pub loop-i-smaller : goal.loop-i-smaller
 loop-i-smaller c = omega (arith, c.loop-i-test.true)
 
 pub loop-i-preserved : goal.loop-i-preserved
-loop-i-preserved c = let turn : In-loop-i = search in
+loop-i-preserved c =
+    let turn : In-loop-i = search in
     let held = c.loop-i.invariant in
     let i = c.loop-i.i in
     let p = c.args.p in
@@ -97,6 +100,7 @@ pub shape_of-ps : goal.shape_of-ps
 shape_of-ps c = omega (arith, c.loop-i.invariant.long, c.requires.2)
 
 pub returns : goal.returns
-returns c = let held = c.loop-i.invariant in
+returns c =
+    let held = c.loop-i.invariant in
     let past : c.loop-i.i ≡ c.args.m = omega (arith, held.turns, c.loop-i-test.false) in
     rw past at held.laid

@@ -80,5 +80,6 @@ returns-then-both c = let tested : After-both = search in (
 )
 
 pub returns : goal.returns
-returns c = let tested : After-both = search in
+returns c =
+    let tested : After-both = search in
     (omega arith, back_nowhere _ _ (start tested).args.words (sym (test_is tested) ∙ c.if-both.false))

@@ -104,14 +104,16 @@ module _ (read : After-target-t) where
       ∙ sym read.target-t.ensures.result_value
 
 pub returns-then-meets : goal.returns-then-meets
-returns-then-meets c = let met : After-meets = search in
+returns-then-meets c =
+    let met : After-meets = search in
     record {
       upper_bound = omega arith;
       by_index = λ ss ps. met_already _ _ _ (connection met ss ps) _ (sym (met.meets.ensures ss) ∙ c.if-meets.true);
     }
 
 pub returns-then-g-eq0 : goal.returns-then-g-eq0
-returns-then-g-eq0 c = let found : After-road_of-g = search in
+returns-then-g-eq0 c =
+    let found : After-road_of-g = search in
     let met : After-meets = search in
     record {
       upper_bound = omega arith;
@@ -128,7 +130,8 @@ pub target-t-requires : goal.target-t-requires
 target-t-requires c = let known : Else-g-eq0 = search in (row_few known, c.one-contact.ensures.1)
 
 pub returns : goal.returns
-returns c = let read : After-target-t = search in
+returns c =
+    let read : After-target-t = search in
     let known : Else-g-eq0 = search in
     let found = found known in
     let met = met found in

@@ -101,7 +101,8 @@ pub road_of-f-requires : goal.road_of-f-requires
 road_of-f-requires c = (omega (arith, c.requires.link_due.connection_few), c.requires.link_due.known)
 
 pub returns-then-f-eq0 : goal.returns-then-f-eq0
-returns-then-f-eq0 c = let found : After-road_of-f = search in
+returns-then-f-eq0 c =
+    let found : After-road_of-f = search in
     let unknown = sym c.if-f-eq0.true ∙ found.road_of-f.ensures.value in
     let once = (start found).requires.link_due.known.once in
     record {
@@ -116,7 +117,8 @@ pub overflow_cast-id : goal.overflow_cast-id
 overflow_cast-id c = let known : Else-f-eq0 = search in omega (arith, row_few known)
 
 pub missing_end-e-requires : goal.missing_end-e-requires
-missing_end-e-requires c = let known : Else-f-eq0 = search in
+missing_end-e-requires c =
+    let known : Else-f-eq0 = search in
     let due = (start (found known)).requires.link_due in
     record { road_bound = (row_few known, due.junction_few, due.connection_few, due.known) }
 
@@ -124,7 +126,8 @@ pub shape_of-ends-then-e-eq0 : goal.shape_of-ends-then-e-eq0
 shape_of-ends-then-e-eq0 c = omega arith
 
 pub returns-then-e-eq0 : goal.returns-then-e-eq0
-returns-then-e-eq0 c = let asked : After-missing_end-e = search in
+returns-then-e-eq0 c =
+    let asked : After-missing_end-e = search in
     let once = (start (found (known asked))).requires.link_due.known.once in
     record {
       upper_bound = omega arith;
@@ -150,7 +153,8 @@ pub offset_bounds-ends-r : goal.offset_bounds-ends-r
 offset_bounds-ends-r c = let there : Else-e-eq0 = search in omega (arith, row_few (known (asked there)))
 
 pub bounds-ends-r : goal.bounds-ends-r
-bounds-ends-r c = let there : Else-e-eq0 = search in
+bounds-ends-r c =
+    let there : Else-e-eq0 = search in
     omega (arith, row_few (known (asked there)), end_small there, (given there).requires.link_due.ends_long)
 
 pub overflow_cast-row : goal.overflow_cast-row
@@ -172,7 +176,8 @@ pub shape_of-warn : goal.shape_of-warn
 shape_of-warn c = c.put.auto.out
 
 pub returns : goal.returns
-returns c = let there : Else-e-eq0 = search in
+returns c =
+    let there : Else-e-eq0 = search in
     let asked = asked there in
     let known = known asked in
     let due = (given there).requires.link_due in

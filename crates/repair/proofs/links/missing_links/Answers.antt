@@ -27,7 +27,8 @@ pub overflow_add-first : goal.overflow_add-first
 overflow_add-first c = omega (arith, c.loop-i-test.true, c.requires.links_due.connections_few)
 
 pub missing_link-at-requires : goal.missing_link-at-requires
-missing_link-at-requires c = let held = c.loop-i.invariant in
+missing_link-at-requires c =
+    let held = c.loop-i.invariant in
     let due = c.requires.links_due in
     let row_few : c.args.first + c.loop-i.i ≤ 8191 =
     omega (arith, c.loop-i-test.true, due.connections_few) in
@@ -50,7 +51,8 @@ pub loop-i-smaller : goal.loop-i-smaller
 loop-i-smaller c = omega (arith, c.loop-i-test.true)
 
 pub loop-i-preserved : goal.loop-i-preserved
-loop-i-preserved c = let linked : After-missing_link-at = search in
+loop-i-preserved c =
+    let linked : After-missing_link-at = search in
     let held = c.loop-i.invariant in
     let kept = linked.missing_link-at.auto in
     record {
@@ -68,7 +70,8 @@ pub shape_of-warn : goal.shape_of-warn
 shape_of-warn c = omega (arith, c.loop-i.invariant.warnings_long, c.requires.links_due.warnings_long)
 
 pub returns : goal.returns
-returns c = let held = c.loop-i.invariant in
+returns c =
+    let held = c.loop-i.invariant in
     let past : c.loop-i.i ≡ c.args.m = omega (arith, held.turns, c.loop-i-test.false) in
     record {
       upper_bound = rw past at held.warnings;

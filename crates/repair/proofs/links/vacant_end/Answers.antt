@@ -41,18 +41,21 @@ module _ (read : After-target-t) where
   some_end = let past : Else-e-eq0 = search in omega (arith, past.if-e-eq0.false)
 
 pub returns-then-e-eq0 : goal.returns-then-e-eq0
-returns-then-e-eq0 c = let args = c.args in
+returns-then-e-eq0 c =
+    let args = c.args in
     let road : (ss : List ℕ) → Road =
     λ ss. road_now ss args.roads.now args.junctions.now args.ends.now args.road.0 in
     (omega arith, λ ss. sym (ap (λ (e : ℕ). bind_o (end_opt e) (vacant_end (road ss))) c.if-e-eq0.true))
 
 pub returns-then-t-eq1 : goal.returns-then-t-eq1
-returns-then-t-eq1 c = let read : After-target-t = search in
+returns-then-t-eq1 c =
+    let read : After-target-t = search in
     let taken = present read ∙ eq-eqb _ 1 c.if-t-eq1.true in
     (omega arith, λ ss. vacant_is ss _ _ _ _ _ _ _ (some_end read) taken)
 
 pub returns : goal.returns
-returns c = let read : After-target-t = search in
+returns c =
+    let read : After-target-t = search in
     let free = present read ∙ ne_eqb _ 1 c.if-t-eq1.false in (
       (start read).requires.in_bounds.1,
       λ ss. ap end_opt (sym (some_end read)) ∙ vacant_is ss _ _ _ _ _ _ _ (some_end read) free,

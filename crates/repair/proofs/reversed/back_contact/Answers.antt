@@ -76,14 +76,16 @@ module _ (known : Else-f-eq0) where
       omega (arith, found.road_of-f.ensures.upper_bound, few, known.if-f-eq0.false)
 
 pub returns-then-runs_back : goal.returns-then-runs_back
-returns-then-runs_back c = let ran : After-runs_back = search in
+returns-then-runs_back c =
+    let ran : After-runs_back = search in
     record {
       upper_bound = omega arith;
       by_index = λ ss ps. runs_already _ _ _ _ _ (runs ran ss ps ∙ c.if-runs_back.true);
     }
 
 pub returns-then-f-eq0 : goal.returns-then-f-eq0
-returns-then-f-eq0 c = let found : After-road_of-f = search in
+returns-then-f-eq0 c =
+    let found : After-road_of-f = search in
     let ran = ran found in
     record {
       upper_bound = omega arith;
@@ -97,11 +99,13 @@ pub overflow_cast-id : goal.overflow_cast-id
 overflow_cast-id c = let known : Else-f-eq0 = search in omega (arith, row_few known)
 
 pub meeting_end-requires : goal.meeting_end-requires
-meeting_end-requires c = let known : Else-f-eq0 = search in
+meeting_end-requires c =
+    let known : Else-f-eq0 = search in
     record { in_bounds = (row_few known, (start (ran (found known))).requires.contact_due.junction_few) }
 
 pub returns : goal.returns
-returns c = let known : Else-f-eq0 = search in
+returns c =
+    let known : Else-f-eq0 = search in
     let found = found known in
     let ran = ran found in
     let row_is : found.road_of-f.result ≡ suc (row known) = omega (arith, known.if-f-eq0.false) in

@@ -64,7 +64,8 @@ module _ (turn : In-loop-i) where
 
 pub loop-i-init : goal.loop-i-init
 unfolding tab
-loop-i-init c = let at_first = ap (pairs_before c.args.connections.now) (add-zero c.args.first) in
+loop-i-init c =
+    let at_first = ap (pairs_before c.args.connections.now) (add-zero c.args.first) in
     record {
       turns = omega arith;
       rows = omega arith;
@@ -74,11 +75,13 @@ loop-i-init c = let at_first = ap (pairs_before c.args.connections.now) (add-zer
     }
 
 pub overflow_add-first : goal.overflow_add-first
-overflow_add-first c = let turn : In-loop-i = search in
+overflow_add-first c =
+    let turn : In-loop-i = search in
     omega (arith, (room turn 0 (omega arith)).inside, c.requires.back_due.small.few)
 
 pub back_contact-b-requires : goal.back_contact-b-requires
-back_contact-b-requires c = let turn : In-loop-i = search in
+back_contact-b-requires c =
+    let turn : In-loop-i = search in
     let due = c.requires.back_due in
     record {
       contact_due = record {
@@ -91,26 +94,30 @@ back_contact-b-requires c = let turn : In-loop-i = search in
     }
 
 pub overflow_add-first-in-loop-i : goal.overflow_add-first-in-loop-i
-overflow_add-first-in-loop-i c = let turn : In-loop-i = search in
+overflow_add-first-in-loop-i c =
+    let turn : In-loop-i = search in
     let head : At-loop-i = search in
     omega (arith, (room turn 0 (omega arith)).inside, (start head).requires.back_due.small.few)
 
 pub put_back-q-requires : goal.put_back-q-requires
-put_back-q-requires c = let turn : In-loop-i = search in
+put_back-q-requires c =
+    let turn : In-loop-i = search in
     let head : At-loop-i = search in
     let small = (start head).requires.back_due.small in
     let room = room turn _ c.back_contact-b.ensures.upper_bound in
     record { small = (small, room, head.loop-i.invariant.long) }
 
 pub overflow_add-i : goal.overflow_add-i
-overflow_add-i c = let head : At-loop-i = search in
+overflow_add-i c =
+    let head : At-loop-i = search in
     omega (arith, c.loop-i-test.true, (start head).requires.back_due.room.rows)
 
 pub loop-i-smaller : goal.loop-i-smaller
 loop-i-smaller c = omega (arith, c.loop-i-test.true)
 
 pub loop-i-preserved : goal.loop-i-preserved
-loop-i-preserved c = let laid : After-put_back-q = search in
+loop-i-preserved c =
+    let laid : After-put_back-q = search in
     let head : At-loop-i = search in
     let args = (start head).args in
     let held = head.loop-i.invariant in
@@ -131,15 +138,18 @@ loop-i-preserved c = let laid : After-put_back-q = search in
     }
 
 pub shape_of-cs : goal.shape_of-cs
-shape_of-cs c = let head : At-loop-i = search in
+shape_of-cs c =
+    let head : At-loop-i = search in
     omega (arith, head.loop-i.invariant.long.connections_long, (start head).requires.back_due.long.connections_long)
 
 pub shape_of-ps : goal.shape_of-ps
-shape_of-ps c = let head : At-loop-i = search in
+shape_of-ps c =
+    let head : At-loop-i = search in
     omega (arith, head.loop-i.invariant.long.pairs_long, (start head).requires.back_due.long.pairs_long)
 
 pub returns : goal.returns
-returns c = let head : At-loop-i = search in
+returns c =
+    let head : At-loop-i = search in
     let args = (start head).args in
     let held = head.loop-i.invariant in
     let past : head.loop-i.i ≡ args.m = omega (arith, held.turns, c.loop-i-test.false) in

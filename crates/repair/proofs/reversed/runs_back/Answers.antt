@@ -53,7 +53,8 @@ pub word-a-requires : goal.word-a-requires
 word-a-requires c = omega (arith, c.bucket.ensures.1, c.requires.1.heads_long)
 
 pub loop-a-init : goal.loop-a-init
-loop-a-init c = let bucket-is =
+loop-a-init c =
+    let bucket-is =
     c.bucket.ensures.0
     ∙ ap₂ (λ (a b : ℕ). hash_name c.args.text.now (span a b)) c.index_at-s.ensures.0
     c.index_at-l.ensures.0 in
@@ -67,19 +68,23 @@ pub turned-requires : goal.turned-requires
 turned-requires c = let turn : In-loop-a = search in ((start turn).requires.0, omega (arith, row_few turn))
 
 pub returns-then-turned : goal.returns-then-turned
-returns-then-turned c = let turn : In-loop-a = search in
+returns-then-turned c =
+    let turn : In-loop-a = search in
     some_found (head turn).loop-a.invariant turn.loop-a-test.true (sym c.turned.ensures ∙ c.if-turned.true)
 
 pub word-a-requires-in-loop-a : goal.word-a-requires-in-loop-a
-word-a-requires-in-loop-a c = let turn : In-loop-a = search in
+word-a-requires-in-loop-a c =
+    let turn : In-loop-a = search in
     omega (arith, row_few turn, (start turn).requires.1.next_long)
 
 pub loop-a-smaller : goal.loop-a-smaller
-loop-a-smaller c = let turn : In-loop-a = search in
+loop-a-smaller c =
+    let turn : In-loop-a = search in
     look_less (head turn).loop-a.invariant turn.loop-a-test.true c.word-a-in-loop-a.ensures.0
 
 pub loop-a-preserved : goal.loop-a-preserved
-loop-a-preserved c = let turn : In-loop-a = search in
+loop-a-preserved c =
+    let turn : In-loop-a = search in
     look_on (head turn).loop-a.invariant turn.loop-a-test.true c.word-a-in-loop-a.ensures.0
     (sym c.turned.ensures ∙ c.if-turned.false)
 

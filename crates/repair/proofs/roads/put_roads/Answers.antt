@@ -59,7 +59,8 @@ pub overflow_mul-r : goal.overflow_mul-r
 overflow_mul-r c = let turn : In-loop-r = search in omega (arith, row_few turn)
 
 pub put-requires : goal.put-requires
-put-requires c = let turn : In-loop-r = search in
+put-requires c =
+    let turn : In-loop-r = search in
     let width = ap length c.road_row-row.ensures ∙ twenty turn in
     omega (arith, width, row_fits turn, (head turn).loop-r.invariant.long)
 
@@ -70,7 +71,8 @@ pub loop-r-smaller : goal.loop-r-smaller
 loop-r-smaller c = omega (arith, c.loop-r-test.true)
 
 pub loop-r-preserved : goal.loop-r-preserved
-loop-r-preserved c = let put : After-put = search in
+loop-r-preserved c =
+    let put : After-put = search in
     let turn : In-loop-r = search in
     let held = c.loop-r.invariant in
     let r = c.loop-r.r in
@@ -87,7 +89,8 @@ pub shape_of-out : goal.shape_of-out
 shape_of-out c = c.loop-r.invariant.long
 
 pub returns : goal.returns
-returns c = let held = c.loop-r.invariant in
+returns c =
+    let held = c.loop-r.invariant in
     let past : c.loop-r.r ≡ length c.args.roads.now / 20 =
     omega (arith, held.turns, c.loop-r-test.false) in
     rw past at held.put

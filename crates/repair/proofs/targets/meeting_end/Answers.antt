@@ -73,7 +73,8 @@ module _ (tested : After-names_junction-2) where
       read.target-a.ensures.result_value
 
 pub returns-then-names_junction : goal.returns-then-names_junction
-returns-then-names_junction c = let tested : After-names_junction = search in
+returns-then-names_junction c =
+    let tested : After-names_junction = search in
     record {
       at_most = omega arith;
       end = λ ss.
@@ -81,7 +82,8 @@ returns-then-names_junction c = let tested : After-names_junction = search in
     }
 
 pub returns-then-names_junction-2 : goal.returns-then-names_junction-2
-returns-then-names_junction-2 c = let tested : After-names_junction-2 = search in
+returns-then-names_junction-2 c =
+    let tested : After-names_junction-2 = search in
     let first = before tested in
     record {
       at_most = omega arith;
@@ -91,7 +93,8 @@ returns-then-names_junction-2 c = let tested : After-names_junction-2 = search i
     }
 
 pub returns : goal.returns
-returns c = let tested : After-names_junction-2 = search in
+returns c =
+    let tested : After-names_junction-2 = search in
     let first = before tested in
     record {
       at_most = omega arith;

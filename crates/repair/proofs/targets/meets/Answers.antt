@@ -8,7 +8,8 @@ use mathlib.Core.Path.{sym, ap, ap₂, ◌∙◌}
 use Rattle.repair.proofs.targets.meets.Goals as goal
 
 pub returns : goal.returns
-returns c = let args = c.args in
+returns c =
+    let args = c.args in
     let names = names_junction (same_in args.text.now) (name_at 5 0 args.junctions.now args.k) in
     let predecessor = c.names_junction.ensures ∙ ap names c.target-a.ensures.result_value in
     let successor = c.names_junction-2.ensures ∙ ap names c.target-b.ensures.result_value in

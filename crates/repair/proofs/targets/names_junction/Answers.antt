@@ -9,7 +9,8 @@ use mathlib.Core.Path.{ap₂, ◌∙◌}
 use Rattle.repair.proofs.targets.names_junction.Goals as goal
 
 pub returns : goal.returns
-returns c = let text = c.args.text.now in
+returns c =
+    let text = c.args.text.now in
     let words = c.args.words in
     let name_is =
     c.alike.ensures

@@ -11,7 +11,8 @@ use mathlib.Core.Path.{ap₂, ◌∙◌}
 use Rattle.repair.proofs.targets.road_of.Goals as goal
 
 pub find_name-requires : goal.find_name-requires
-find_name-requires c = let known = c.requires.1 in
+find_name-requires c =
+    let known = c.requires.1 in
     record {
       w_bound = (
         omega arith,
@@ -28,7 +29,8 @@ find_name-requires c = let known = c.requires.1 in
 
 pub returns : goal.returns
 unfolding road_row_of
-returns c = let roads = c.args.roads.now in
+returns c =
+    let roads = c.args.roads.now in
     let text = c.args.text.now in
     let name = name_from c.args.ws.now c.args.k in
     let row_is =

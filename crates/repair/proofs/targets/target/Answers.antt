@@ -7,7 +7,8 @@ use mathlib.Core.Path.{sym, ap, ◌∙◌}
 use Rattle.repair.proofs.targets.target.Goals as goal
 
 pub returns-then-w-eq0 : goal.returns-then-w-eq0
-returns-then-w-eq0 c = let args = c.args in
+returns-then-w-eq0 c =
+    let args = c.args in
     let begin = args.road.0 * 20 + 4 + args.e * 7 in
     let made = by_word args.roads.now args.junctions.now args.ends.now _ _ _ c.requires.1
     c.index_at-w.ensures.0
@@ -19,7 +20,8 @@ returns-then-w-eq0 c = let args = c.args in
     record { value = made.0; result_value = made.1 }
 
 pub returns-then-w-eq1 : goal.returns-then-w-eq1
-returns-then-w-eq1 c = let args = c.args in
+returns-then-w-eq1 c =
+    let args = c.args in
     let begin = args.road.0 * 20 + 4 + args.e * 7 in
     let made = by_word args.roads.now args.junctions.now args.ends.now _ _ _ c.requires.1
     c.index_at-w.ensures.0
@@ -27,7 +29,8 @@ returns-then-w-eq1 c = let args = c.args in
     record { value = made.0; result_value = made.1 }
 
 pub returns : goal.returns
-returns c = let args = c.args in
+returns c =
+    let args = c.args in
     let e = args.e in
     let made = by_word args.roads.now args.junctions.now args.ends.now _ _ _ c.requires.1
     c.index_at-w.ensures.0

@@ -7,7 +7,8 @@ use Rattle.reversal.proofs.CallLaws.{and_true}
 use Rattle.reversal.proofs.call.enough.Goals as goal
 
 pub returns : goal.returns
-returns c = let tables = c.args.tables in
+returns c =
+    let tables = c.args.tables in
     let outs = c.args.outs in
     let room : ℕ → ℕ → Bool → Bool = λ k n rest. leb k n && rest in
     c.both.ensures

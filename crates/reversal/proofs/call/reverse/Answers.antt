@@ -109,20 +109,23 @@ reversal_verdict-v-requires c = record {
 -- refused by the verdict
 pub returns-then-not-admitted : goal.returns-then-not-admitted
 unfolding reversal_call
-returns-then-not-admitted c = let met : After-reversal_verdict-v = search in
+returns-then-not-admitted c =
+    let met : After-reversal_verdict-v = search in
     let barred = sym c.admitted.ensures ∙ c.if-not-admitted.true in
     call_refused reversal_writing (rule_list met) (content met) (lent met) (verdict met) barred (first_rule met)
 
 -- 9
 pub returns-then-not-enough : goal.returns-then-not-enough
-returns-then-not-enough c = let measured : After-enough = search in
+returns-then-not-enough c =
+    let measured : After-enough = search in
     let met = judged (past measured) in
     too_short reversal_writing (content met) (lent met) (sym (room_for measured) ∙ c.if-not-enough.true)
     ∙ written_or_9 (past measured)
 
 pub write_all-requires : goal.write_all-requires
 unfolding reversal_lengths
-write_all-requires c = let measured : After-enough = search in
+write_all-requires c =
+    let measured : After-enough = search in
     let met = judged (past measured) in
     let known = facts (tables met) (marks met) (no_rule (past measured)) in
     let linked = met.reversal_verdict-v.ensures.linked (is_none _ (free (past measured))) in
@@ -136,7 +139,8 @@ write_all-requires c = let measured : After-enough = search in
 
 -- written
 pub returns : goal.returns
-returns c = let measured : After-enough = search in
+returns c =
+    let measured : After-enough = search in
     let met = judged (past measured) in
     let clear = no_rule (past measured) in
     let linked = met.reversal_verdict-v.ensures.linked (is_none _ (free (past measured))) in

@@ -25,7 +25,8 @@ put_roads-requires c = record {
 }
 
 pub put_sections-requires : goal.put_sections-requires
-put_sections-requires c = let tables = c.requires.writable in
+put_sections-requires c =
+    let tables = c.requires.writable in
     record {
       few = tables.ready.few;
       even = tables.ready.even;
@@ -41,14 +42,16 @@ put_connections-requires c = record {
 }
 
 pub put_pairs-requires : goal.put_pairs-requires
-put_pairs-requires c = let tables = c.requires.writable in
+put_pairs-requires c =
+    let tables = c.requires.writable in
     record {
       ready = tables.ready;
       ready_pairs = record { few = tables.few_connections; parts = tables.links; room = c.requires.room.pairs };
     }
 
 pub put_lanes-requires : goal.put_lanes-requires
-put_lanes-requires c = let of_connections : After-put_connections = search in
+put_lanes-requires c =
+    let of_connections : After-put_connections = search in
     let start = begun of_connections in
     let tables = start.requires.writable in
     record {
@@ -63,7 +66,8 @@ put_lanes-requires c = let of_connections : After-put_connections = search in
     }
 
 pub put_edges-requires : goal.put_edges-requires
-put_edges-requires c = let of_connections : After-put_connections = search in
+put_edges-requires c =
+    let of_connections : After-put_connections = search in
     let start = begun of_connections in
     let tables = start.requires.writable in
     record {

@@ -63,7 +63,8 @@ pub turned_ends-requires : goal.turned_ends-requires
 turned_ends-requires c = row_room (length c.args.edges.now) 12 _ _ c.loop-i-test.true (le_refl _)
 
 pub put_floats-requires : goal.put_floats-requires
-put_floats-requires c = let laid : After-floats-row = search in
+put_floats-requires c =
+    let laid : After-floats-row = search in
     row_fits 12 (edges_12 _ _ _) (start laid).requires.room (head laid).loop-i.invariant c.loop-i-test.true
     (turned laid)
 
@@ -74,7 +75,8 @@ pub loop-i-smaller : goal.loop-i-smaller
 loop-i-smaller c = omega (arith, c.loop-i-test.true)
 
 pub loop-i-preserved : goal.loop-i-preserved
-loop-i-preserved c = let laid : After-floats-row = search in
+loop-i-preserved c =
+    let laid : After-floats-row = search in
     wrote_row 12 (edges_12 _ _ _) (start laid).requires.room (head laid).loop-i.invariant c.loop-i-test.true
     (turned laid)
     c.put_floats.ensures c.put_floats.auto.out

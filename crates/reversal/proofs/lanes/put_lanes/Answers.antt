@@ -74,11 +74,13 @@ pub overflow_sub-r : goal.overflow_sub-r
 overflow_sub-r c = let turn : In-loop-i = search in omega (arith, c.word-o.ensures.0, (known turn).known)
 
 pub mark_at-mark-requires : goal.mark_at-mark-requires
-mark_at-mark-requires c = let turn : In-loop-i = search in
+mark_at-mark-requires c =
+    let turn : In-loop-i = search in
     omega (arith, c.word-o.ensures.0, (known turn).below, (start turn).requires.ready.even)
 
 pub numbers-part-requires : goal.numbers-part-requires
-numbers-part-requires c = let turn : In-loop-i = search in
+numbers-part-requires c =
+    let turn : In-loop-i = search in
     let road = known turn in
     record {
       roads_value = (start turn).requires.ready_lanes.parts;
@@ -86,11 +88,13 @@ numbers-part-requires c = let turn : In-loop-i = search in
     }
 
 pub overflow_cast-id : goal.overflow_cast-id
-overflow_cast-id c = let turn : In-loop-i = search in
+overflow_cast-id c =
+    let turn : In-loop-i = search in
     omega (arith, c.word-o.ensures.0, (known turn).below, (start turn).requires.ready.few)
 
 pub lane_on-row-requires : goal.lane_on-row-requires
-lane_on-row-requires c = let turn : In-loop-i = search in
+lane_on-row-requires c =
+    let turn : In-loop-i = search in
     let road = known turn in
     record {
       ready = (start turn).requires.ready;
@@ -100,24 +104,28 @@ lane_on-row-requires c = let turn : In-loop-i = search in
     }
 
 pub overflow_mul-i : goal.overflow_mul-i
-overflow_mul-i c = let turn : In-loop-i = search in
+overflow_mul-i c =
+    let turn : In-loop-i = search in
     omega (arith, turn.loop-i-test.true, (start turn).requires.ready_lanes.few)
 
 pub put-requires : goal.put-requires
-put-requires c = let laid : After-lane_on-row = search in
+put-requires c =
+    let laid : After-lane_on-row = search in
     let here = turn laid in
     row_fits 10 (lane_10 _ _ _ _ _ _) (start here).requires.ready_lanes.room (head here).loop-i.invariant
     here.loop-i-test.true (turned laid)
 
 pub overflow_add-i : goal.overflow_add-i
-overflow_add-i c = let turn : In-loop-i = search in
+overflow_add-i c =
+    let turn : In-loop-i = search in
     omega (arith, turn.loop-i-test.true, (start turn).requires.ready_lanes.few)
 
 pub loop-i-smaller : goal.loop-i-smaller
 loop-i-smaller c = omega (arith, c.loop-i-test.true)
 
 pub loop-i-preserved : goal.loop-i-preserved
-loop-i-preserved c = let laid : After-lane_on-row = search in
+loop-i-preserved c =
+    let laid : After-lane_on-row = search in
     let here = turn laid in
     wrote_row 10 (lane_10 _ _ _ _ _ _) (start here).requires.ready_lanes.room (head here).loop-i.invariant
     here.loop-i-test.true (turned laid) c.put.ensures c.put.auto.out

@@ -82,7 +82,8 @@ pub overflow_mul-i : goal.overflow_mul-i
 overflow_mul-i c = omega (arith, whole (search))
 
 pub marked-incoming-requires : goal.marked-incoming-requires
-marked-incoming-requires c = let turn : In-loop-i = search in
+marked-incoming-requires c =
+    let turn : In-loop-i = search in
     record {
       ready = (start turn).requires.ready;
       at_in_bounds = omega (arith, whole turn);
@@ -95,7 +96,8 @@ pub overflow_add-i : goal.overflow_add-i
 overflow_add-i c = omega (arith, whole (search))
 
 pub marked-connecting-requires : goal.marked-connecting-requires
-marked-connecting-requires c = let turn : In-loop-i = search in
+marked-connecting-requires c =
+    let turn : In-loop-i = search in
     record {
       ready = (start turn).requires.ready;
       at_in_bounds = omega (arith, whole turn);
@@ -120,21 +122,24 @@ pub word-count-requires : goal.word-count-requires
 word-count-requires c = omega (arith, whole (search))
 
 pub put_part-requires : goal.put_part-requires
-put_part-requires c = let turn : In-loop-i = search in
+put_part-requires c =
+    let turn : In-loop-i = search in
     record {
       count_in_bounds = omega (arith, listed turn, c.word-first.ensures.0, c.word-count.ensures.0);
       pairs_in_bounds = omega (arith, (head turn).loop-i.invariant.as_long, (start turn).requires.ready_pairs.room);
     }
 
 pub overflow_add-i-in-loop-i-3 : goal.overflow_add-i-in-loop-i-3
-overflow_add-i-in-loop-i-3 c = let turn : In-loop-i = search in
+overflow_add-i-in-loop-i-3 c =
+    let turn : In-loop-i = search in
     omega (arith, turn.loop-i-test.true, (start turn).requires.ready_pairs.few)
 
 pub loop-i-smaller : goal.loop-i-smaller
 loop-i-smaller c = omega (arith, c.loop-i-test.true)
 
 pub loop-i-preserved : goal.loop-i-preserved
-loop-i-preserved c = let turn : In-loop-i = search in
+loop-i-preserved c =
+    let turn : In-loop-i = search in
     let part = pairs_put _ _ _ (connections turn) _ (i turn) _ c.marked-incoming.ensures
     c.marked-connecting.ensures c.word-first.ensures.0 c.word-count.ensures.0 c.put_part.ensures in
     wrote_part (head turn).loop-i.invariant turn.loop-i-test.true (in_place turn) part (room turn)

@@ -50,7 +50,8 @@ pub loop-k-smaller : goal.loop-k-smaller
 loop-k-smaller c = omega (arith, c.loop-k-test.true)
 
 pub loop-k-preserved : goal.loop-k-preserved
-loop-k-preserved c = let start : Start = search in
+loop-k-preserved c =
+    let start : Start = search in
     let here = c.loop-k-test.true in
     let pair = pair_is _ _ _ _ c.signed_by-from.ensures c.signed_by-to.ensures in
     wrote_at_row 2 (λ j. pair_2 _ _ _ _) c.loop-k.invariant here pair (omega arith) c.put.ensures

@@ -7,7 +7,8 @@ use Rattle.reversal.proofs.links.turned_connection.Goals as goal
 
 pub returns : goal.returns
 unfolding turned_connection
-returns c = let words = c.args.connections.now in
+returns c =
+    let words = c.args.connections.now in
     let at = c.args.i * 7 in
     let contact_is = c.turned_bit-contact.ensures
     ∙ ap (λ b. turn_bit b (get_or words (at + 4) 0)) c.marked-mark.ensures in

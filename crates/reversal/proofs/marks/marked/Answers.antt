@@ -27,7 +27,8 @@ module _ (start : Start) where
   bearers s l = bears start.args.text.now 20 0 start.args.roads.now (span s l)
 
 pub find_name-requires : goal.find_name-requires
-find_name-requires c = let ready = c.requires.ready in
+find_name-requires c =
+    let ready = c.requires.ready in
     record {
       w_bound = (
         omega arith,
@@ -43,13 +44,15 @@ find_name-requires c = let ready = c.requires.ready in
     }
 
 pub mark_at-requires : goal.mark_at-requires
-mark_at-requires c = let start : Start = search in
+mark_at-requires c =
+    let start : Start = search in
     let row_low = last_le (roads start) (bearers start c.word-start.result c.word-size.result) in
     omega (arith, c.find_name.ensures, start.requires.ready.even, row_low)
 
 pub returns : goal.returns
 unfolding mark_of road_row_of
-returns c = let start : Start = search in
+returns c =
+    let start : Start = search in
     let row_is = c.find_name.ensures
     ∙ ap₂ (λ s l. last_of (roads start) (bearers start s l)) c.word-start.ensures.0 c.word-size.ensures.0 in
     c.mark_at.ensures ∙ ap (mark_at start.args.marks.now) row_is

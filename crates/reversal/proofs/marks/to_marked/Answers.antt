@@ -5,5 +5,6 @@ use Rattle.reversal.proofs.marks.to_marked.Goals as goal
 
 pub returns : goal.returns
 unfolding to_marked
-returns c = let to-road = both_is c.both-road.ensures c.is.ensures c.is-2.ensures in
+returns c =
+    let to-road = both_is c.both-road.ensures c.is.ensures c.is-2.ensures in
     both_is c.both.ensures to-road c.marked.ensures

@@ -32,7 +32,8 @@ pub loop-k-smaller : goal.loop-k-smaller
 loop-k-smaller c = omega (arith, c.loop-k-test.true)
 
 pub loop-k-preserved : goal.loop-k-preserved
-loop-k-preserved c = let here = c.loop-k-test.true in
+loop-k-preserved c =
+    let here = c.loop-k-test.true in
     let part = c.args.part.now in
     let number_is = c.mirror_of.ensures ∙ sym (mirrored_at part c.loop-k.k here) in
     pasted_word c.loop-k.invariant (omega (arith, here, mirrored_length part)) number_is

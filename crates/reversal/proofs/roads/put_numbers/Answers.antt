@@ -39,25 +39,29 @@ module _ (start : Start) where
       start.requires.road_in_bounds
 
 pub put_mirrored-requires : goal.put_mirrored-requires
-put_mirrored-requires c = let start : Start = search in
+put_mirrored-requires c =
+    let start : Start = search in
     let size = ap length c.numbers-part.ensures in (
       omega (arith, c.word-at.ensures.0, size, room start),
       ap ascends c.numbers-part.ensures ∙ up start,
     )
 
 pub returns-then-is : goal.returns-then-is
-returns-then-is c = let start : Start = search in
+returns-then-is c =
+    let start : Start = search in
     numbers_marked (roads start) start.args.sections.now start.args.marks.now (row start) _
     c.word-at.ensures.0 c.numbers-part.ensures (sym c.is.ensures ∙ c.if-is.true)
     c.put_mirrored.ensures
 
 pub put-requires : goal.put-requires
-put-requires c = let start : Start = search in
+put-requires c =
+    let start : Start = search in
     let size = ap length c.numbers-part.ensures in
     omega (arith, c.word-at.ensures.0, size, room start)
 
 pub returns : goal.returns
-returns c = let start : Start = search in
+returns c =
+    let start : Start = search in
     numbers_unmarked (roads start) start.args.sections.now start.args.marks.now (row start) _
     c.word-at.ensures.0 c.numbers-part.ensures (sym c.is.ensures ∙ c.if-is.false)
     c.put.ensures

@@ -53,7 +53,8 @@ pub overflow_cast-r : goal.overflow_cast-r
 overflow_cast-r c = omega (arith, c.loop-i-test.true, c.requires.few)
 
 pub put_numbers-requires : goal.put_numbers-requires
-put_numbers-requires c = let ready = c.requires in
+put_numbers-requires c =
+    let ready = c.requires in
     record {
       ready_sections = record {
         few = ready.few;
@@ -72,7 +73,8 @@ pub loop-i-smaller : goal.loop-i-smaller
 loop-i-smaller c = omega (arith, c.loop-i-test.true)
 
 pub loop-i-preserved : goal.loop-i-preserved
-loop-i-preserved c = let start : Start = search in
+loop-i-preserved c =
+    let start : Start = search in
     let here = c.loop-i-test.true in
     wrote_part c.loop-i.invariant here (in_place start _ here) c.put_numbers.ensures (room start _ here)
     (omega (arith, c.put_numbers.auto.out))

@@ -34,12 +34,14 @@ pub overflow_sub-i : goal.overflow_sub-i
 overflow_sub-i c = (before (search)).0
 
 pub returns-then-named_alike : goal.returns-then-named_alike
-returns-then-named_alike c = let alike : Then-named_alike = search in
+returns-then-named_alike c =
+    let alike : Then-named_alike = search in
     let owned = c.requires.owned in
     let row_before = owned.at (c.args.i - 1) (omega (arith, (before alike).0)) in
     c.word.ensures.0 ∙ row_before ∙ ap (road_row_of _ _) (before alike).1
 
 pub returns : goal.returns
 unfolding road_row_of
-returns c = let name_is = ap₂ span c.word-s.ensures.0 c.word-l.ensures.0 in
+returns c =
+    let name_is = ap₂ span c.word-s.ensures.0 c.word-l.ensures.0 in
     c.find_name.ensures ∙ rw name_is

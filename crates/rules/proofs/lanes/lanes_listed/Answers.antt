@@ -93,11 +93,13 @@ module _ (found : After-lane_road-f) where
   road_small = found_le _ _ road_is
 
 pub loop-i-init : goal.loop-i-init
-loop-i-init c = let start : Start = search in
+loop-i-init c =
+    let start : Start = search in
     listing_none (owners start)
 
 pub lane_road-f-requires : goal.lane_road-f-requires
-lane_road-f-requires c = let turn : In-loop-i = search in
+lane_road-f-requires c =
+    let turn : In-loop-i = search in
     let start : Start = search in
     record {
       roads_len_bound = (
@@ -113,7 +115,8 @@ lane_road-f-requires c = let turn : In-loop-i = search in
     }
 
 pub overflow_cast-owner : goal.overflow_cast-owner
-overflow_cast-owner c = let start : Start = search in
+overflow_cast-owner c =
+    let start : Start = search in
     omega (arith, road_small (search), few_roads start)
 
 pub bounds-owner-i : goal.bounds-owner-i
@@ -129,7 +132,8 @@ pub bounds-lanes-i : goal.bounds-lanes-i
 bounds-lanes-i c = omega (arith, lane_fits (search))
 
 pub section_known-requires : goal.section_known-requires
-section_known-requires c = let turn : In-loop-i = search in
+section_known-requires c =
+    let turn : In-loop-i = search in
     record {
       roads_value = parts_fit_lem (start turn);
       road_in_bounds = road_small (search);
@@ -142,14 +146,17 @@ pub loop-i-smaller : goal.loop-i-smaller
 loop-i-smaller c = omega (arith, c.loop-i-test.true)
 
 pub loop-i-preserved : goal.loop-i-preserved
-loop-i-preserved c = let turn : In-loop-i = search in
+loop-i-preserved c =
+    let turn : In-loop-i = search in
     listing_more (head turn).loop-i.invariant turn.loop-i-test.true (few_lanes (start turn)) (once (start turn))
     (road_is (search)) c.section_known.ensures c.both-every.ensures refl
 
 pub shape_of-owner : goal.shape_of-owner
-shape_of-owner c = let start : Start = search in
+shape_of-owner c =
+    let start : Start = search in
     omega (arith, c.loop-i.invariant.room, owners start)
 
 pub returns : goal.returns
-returns c = let made = all_listed c.loop-i.invariant c.loop-i-test.false in
+returns c =
+    let made = all_listed c.loop-i.invariant c.loop-i-test.false in
     record { value = made.0; owned = made.1 }

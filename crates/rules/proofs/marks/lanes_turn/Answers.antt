@@ -12,7 +12,8 @@ pub lane_turns-requires : goal.lane_turns-requires
 lane_turns-requires c = omega arith
 
 pub returns-then-not-lane_turns : goal.returns-then-not-lane_turns
-returns-then-not-lane_turns c = let fails = sym c.lane_turns.ensures ∙ not-true _ c.if-not-lane_turns.true-raw in
+returns-then-not-lane_turns c =
+    let fails = sym c.lane_turns.ensures ∙ not-true _ c.if-not-lane_turns.true-raw in
     one_fails c.loop-i.invariant c.loop-i-test.true fails ∙ sym (lanes_fine_form _)
 
 pub overflow_add-i : goal.overflow_add-i
@@ -22,7 +23,8 @@ pub loop-i-smaller : goal.loop-i-smaller
 loop-i-smaller c = omega arith
 
 pub loop-i-preserved : goal.loop-i-preserved
-loop-i-preserved c = let passes = sym c.lane_turns.ensures ∙ not-false _ c.if-not-lane_turns.false-raw in
+loop-i-preserved c =
+    let passes = sym c.lane_turns.ensures ∙ not-false _ c.if-not-lane_turns.false-raw in
     passing_more c.loop-i.invariant c.loop-i-test.true passes
 
 pub returns : goal.returns

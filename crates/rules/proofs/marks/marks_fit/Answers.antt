@@ -45,7 +45,8 @@ pub bounds-marks-i : goal.bounds-marks-i
 bounds-marks-i c = omega arith
 
 pub returns-then-marks-i-gt1 : goal.returns-then-marks-i-gt1
-returns-then-marks-i-gt1 c = let wrong = and_off_left _ _ (lt-leb _ _ c.if-marks-i-gt1.true) in
+returns-then-marks-i-gt1 c =
+    let wrong = and_off_left _ _ (lt-leb _ _ c.if-marks-i-gt1.true) in
     sym (and_off (eqb c.args.n (length c.args.marks.now)) _ (marks_left (search) ∙ wrong))
 
 pub overflow_add-i : goal.overflow_add-i
@@ -58,5 +59,6 @@ pub loop-i-preserved : goal.loop-i-preserved
 loop-i-preserved c = (omega arith, marks_left (search) ∙ and_on _ _ (le-leb _ _ c.if-marks-i-gt1.false))
 
 pub returns : goal.returns
-returns c = let all-marks = c.loop-i.invariant.1 ∙ every_end mark _ _ c.loop-i-test.false in
+returns c =
+    let all-marks = c.loop-i.invariant.1 ∙ every_end mark _ _ c.loop-i-test.false in
     sym (and_step (eq-eqb _ _ c.if-n-marks.false) all-marks)

@@ -12,7 +12,8 @@ pub pair_turns-requires : goal.pair_turns-requires
 pair_turns-requires c = omega arith
 
 pub returns-then-not-pair_turns : goal.returns-then-not-pair_turns
-returns-then-not-pair_turns c = let fails = sym c.pair_turns.ensures ∙ not-true _ c.if-not-pair_turns.true-raw in
+returns-then-not-pair_turns c =
+    let fails = sym c.pair_turns.ensures ∙ not-true _ c.if-not-pair_turns.true-raw in
     one_fails c.loop-i.invariant c.loop-i-test.true fails ∙ sym (pairs_fine_form _)
 
 pub overflow_add-i : goal.overflow_add-i
@@ -22,7 +23,8 @@ pub loop-i-smaller : goal.loop-i-smaller
 loop-i-smaller c = omega arith
 
 pub loop-i-preserved : goal.loop-i-preserved
-loop-i-preserved c = let passes = sym c.pair_turns.ensures ∙ not-false _ c.if-not-pair_turns.false-raw in
+loop-i-preserved c =
+    let passes = sym c.pair_turns.ensures ∙ not-false _ c.if-not-pair_turns.false-raw in
     passing_more c.loop-i.invariant c.loop-i-test.true passes
 
 pub returns : goal.returns

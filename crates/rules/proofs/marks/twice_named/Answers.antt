@@ -23,7 +23,8 @@ abbrev Start : Type 0
 Start = lts.Start tie.the-claims reads.Pre reads.Post tie.handed_clauses
 
 pub find_direct-f-requires : goal.find_direct-f-requires
-find_direct-f-requires c = let junctions = c.requires.by_name in
+find_direct-f-requires c =
+    let junctions = c.requires.by_name in
     record {
       n_in_bounds = (
         rows_in _ 5,
@@ -50,7 +51,8 @@ module _ (second : After-word-l) where
 
 pub returns : goal.returns
 unfolding twice_from
-returns c = let name_is = name_read (search) in
+returns c =
+    let name_is = name_read (search) in
     let same-is = c.named.ensures ∙ ap (same_in _ _) name_is in
     let some_is = found_any (is_direct_of _ _) _ name_is c.find_direct-f.ensures c.found.ensures in
     both_is c.both.ensures

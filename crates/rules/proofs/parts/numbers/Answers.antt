@@ -11,7 +11,8 @@ slice_bounds-result-end c =
     omega (arith, inside, c.word-first.ensures.0, c.word-count.ensures.0)
 
 pub returns : goal.returns
-returns c = let start = c.word-first.result in
+returns c =
+    let start = c.word-first.result in
     let count = c.word-count.result in
     let long : start + count - start ≡ count = omega arith in
     rw (long, c.word-first.ensures.0, c.word-count.ensures.0)

@@ -65,7 +65,8 @@ pub word-count-requires : goal.word-count-requires
 word-count-requires c = count_in (search)
 
 pub returns-then-first-at : goal.returns-then-first-at
-returns-then-first-at c = let start : Start = search in
+returns-then-first-at c =
+    let start : Start = search in
     begins_elsewhere c.loop-i.invariant (first_inside start) (count_inside start) c.loop-i-test.true
     c.word-first.ensures.0 c.word-count.ensures.0 c.if-first-at.true
 
@@ -73,7 +74,8 @@ pub overflow_sub-n : goal.overflow_sub-n
 overflow_sub-n c = omega arith
 
 pub returns-then-n-at : goal.returns-then-n-at
-returns-then-n-at c = let start : Start = search in
+returns-then-n-at c =
+    let start : Start = search in
     ends_past c.loop-i.invariant (first_inside start) (count_inside start) c.loop-i-test.true
     c.word-first.ensures.0 c.word-count.ensures.0 c.if-n-at.true
 
@@ -87,10 +89,12 @@ pub loop-i-smaller : goal.loop-i-smaller
 loop-i-smaller c = omega arith
 
 pub loop-i-preserved : goal.loop-i-preserved
-loop-i-preserved c = let start : Start = search in
+loop-i-preserved c =
+    let start : Start = search in
     reached_more c.loop-i.invariant (first_inside start) (count_inside start) c.loop-i-test.true
     c.word-first.ensures.0 c.word-count.ensures.0 c.if-first-at.false c.if-n-at.false
 
 pub returns : goal.returns
-returns c = let start : Start = search in
+returns c =
+    let start : Start = search in
     reached_end c.loop-i.invariant (first_inside start) (count_inside start) c.loop-i-test.false

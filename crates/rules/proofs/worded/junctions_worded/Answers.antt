@@ -23,7 +23,8 @@ pub loop-i-smaller : goal.loop-i-smaller
 loop-i-smaller c = omega arith
 
 pub loop-i-preserved : goal.loop-i-preserved
-loop-i-preserved c = let passes = sym c.junction_worded.ensures ∙ not-false _ c.if-not-junction_worded.false-raw in
+loop-i-preserved c =
+    let passes = sym c.junction_worded.ensures ∙ not-false _ c.if-not-junction_worded.false-raw in
     passing_more c.loop-i.invariant c.loop-i-test.true passes
 
 pub returns : goal.returns

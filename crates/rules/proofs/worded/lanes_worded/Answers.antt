@@ -12,7 +12,8 @@ pub lane_worded-requires : goal.lane_worded-requires
 lane_worded-requires c = omega arith
 
 pub returns-then-not-lane_worded : goal.returns-then-not-lane_worded
-returns-then-not-lane_worded c = let fails = sym c.lane_worded.ensures ∙ not-true _ c.if-not-lane_worded.true-raw in
+returns-then-not-lane_worded c =
+    let fails = sym c.lane_worded.ensures ∙ not-true _ c.if-not-lane_worded.true-raw in
     row_fails 10 _ (lane_local _) c.loop-i.invariant c.loop-i-test.true fails
 
 pub overflow_add-i : goal.overflow_add-i
@@ -22,7 +23,8 @@ pub loop-i-smaller : goal.loop-i-smaller
 loop-i-smaller c = omega arith
 
 pub loop-i-preserved : goal.loop-i-preserved
-loop-i-preserved c = let passes = sym c.lane_worded.ensures ∙ not-false _ c.if-not-lane_worded.false-raw in
+loop-i-preserved c =
+    let passes = sym c.lane_worded.ensures ∙ not-false _ c.if-not-lane_worded.false-raw in
     passing_more c.loop-i.invariant c.loop-i-test.true passes
 
 pub returns : goal.returns

@@ -12,7 +12,8 @@ pub road_worded-requires : goal.road_worded-requires
 road_worded-requires c = omega arith
 
 pub returns-then-not-road_worded : goal.returns-then-not-road_worded
-returns-then-not-road_worded c = let fails = sym c.road_worded.ensures ∙ not-true _ c.if-not-road_worded.true-raw in
+returns-then-not-road_worded c =
+    let fails = sym c.road_worded.ensures ∙ not-true _ c.if-not-road_worded.true-raw in
     row_fails 20 _ (road_local _) c.loop-i.invariant c.loop-i-test.true fails
 
 pub overflow_add-i : goal.overflow_add-i
@@ -22,7 +23,8 @@ pub loop-i-smaller : goal.loop-i-smaller
 loop-i-smaller c = omega arith
 
 pub loop-i-preserved : goal.loop-i-preserved
-loop-i-preserved c = let passes = sym c.road_worded.ensures ∙ not-false _ c.if-not-road_worded.false-raw in
+loop-i-preserved c =
+    let passes = sym c.road_worded.ensures ∙ not-false _ c.if-not-road_worded.false-raw in
     passing_more c.loop-i.invariant c.loop-i-test.true passes
 
 pub returns : goal.returns

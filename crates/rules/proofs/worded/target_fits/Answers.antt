@@ -4,7 +4,8 @@ use Rattle.rules.proofs.Leaves.{both_is, target_off, target_on}
 use Rattle.rules.proofs.worded.target_fits.Goals as goal
 
 pub returns-then-ws-at-eq1 : goal.returns-then-ws-at-eq1
-returns-then-ws-at-eq1 c = let name_is = both_is c.both-a.ensures c.most.ensures c.placed_at.ensures in
+returns-then-ws-at-eq1 c =
+    let name_is = both_is c.both-a.ensures c.most.ensures c.placed_at.ensures in
     let fourth-is = both_is c.both.ensures name_is c.most-then-ws-at-eq1.ensures in
     let fifth-is = both_is c.both-then-ws-at-eq1.ensures fourth-is c.most-then-ws-at-eq1-2.ensures in
     target_on c.args.text.now c.args.ws.now c.args.at c.if-ws-at-eq1.true

@@ -89,7 +89,8 @@ pub loop-i-init : goal.loop-i-init
 loop-i-init c = (omega arith, total_none _)
 
 pub count_one-at-requires : goal.count_one-at-requires
-count_one-at-requires c = let turn : In-loop-i = search in
+count_one-at-requires c =
+    let turn : In-loop-i = search in
     let start = begun turn in
     let mine_is = c.list_part-mine.ensures in
     let rises = start.requires.all_rise (i turn) turn.loop-i-test.true in
@@ -102,7 +103,8 @@ count_one-at-requires c = let turn : In-loop-i = search in
     }
 
 pub overflow_add-at : goal.overflow_add-at
-overflow_add-at c = let second : After-list_part-finders = search in
+overflow_add-at c =
+    let second : After-list_part-finders = search in
     let turn : In-loop-i = search in
     let start = begun turn in
     let counted = c.count_one-at.ensures ∙ ap length (list_is second) in
@@ -116,7 +118,8 @@ pub loop-i-smaller : goal.loop-i-smaller
 loop-i-smaller c = omega (arith, c.loop-i-test.true)
 
 pub loop-i-preserved : goal.loop-i-preserved
-loop-i-preserved c = let second : After-list_part-finders = search in
+loop-i-preserved c =
+    let second : After-list_part-finders = search in
     let turn : In-loop-i = search in
     let counted = c.count_one-at.ensures ∙ ap length (list_is second) in
     let one_more = start_more (onward (begun turn)) (i turn) in (
@@ -125,6 +128,7 @@ loop-i-preserved c = let second : After-list_part-finders = search in
     )
 
 pub returns : goal.returns
-returns c = let start : Start = search in
+returns c =
+    let start : Start = search in
     let past : c.loop-i.i ≡ rows start = omega (arith, c.loop-i.invariant.0, c.loop-i-test.false) in
     c.loop-i.invariant.1 ∙ ap (start_of (onward start)) past

@@ -35,7 +35,8 @@ module _ (asked : After-two_way) where
   direction = direction_is begun.args.lanes.now begun.args.l asked.two_way.ensures
 
 pub returns-then-not-two_way : goal.returns-then-not-two_way
-returns-then-not-two_way c = let asked : After-two_way = search in
+returns-then-not-two_way c =
+    let asked : After-two_way = search in
     ap length (sym (plain_is _ _ _ _ (direction asked ∙ c.if-not-two_way.true)))
 
 -- ---- one that is
@@ -52,7 +53,8 @@ wanted-asked-requires c = record {
 }
 
 pub one_if-n-requires : goal.one_if-n-requires
-one_if-n-requires c = let mine = c.args.mine.now in
+one_if-n-requires c =
+    let mine = c.args.mine.now in
     let inv = c.loop-k.invariant in
     let few = count_room (wants c.args.lanes.now mine) c.args.finders.now _ mine inv.0 in
     omega (arith, inv.1, c.loop-k-test.true, c.requires.l_in_bounds.1, few)
@@ -64,7 +66,8 @@ pub loop-k-smaller : goal.loop-k-smaller
 loop-k-smaller c = omega (arith, c.loop-k-test.true)
 
 pub loop-k-preserved : goal.loop-k-preserved
-loop-k-preserved c = let mine = c.args.mine.now in
+loop-k-preserved c =
+    let mine = c.args.mine.now in
     let wants_it = wants c.args.lanes.now mine in (
       omega (arith, c.loop-k-test.true),
       c.one_if-n.ensures
@@ -73,7 +76,8 @@ loop-k-preserved c = let mine = c.args.mine.now in
     )
 
 pub returns : goal.returns
-returns c = let asked : After-two_way = search in
+returns c =
+    let asked : After-two_way = search in
     let mine = c.args.mine.now in
     let wants_it = wants c.args.lanes.now mine in
     let all = take_all c.loop-k.k c.args.finders.now (omega (arith, c.loop-k-test.false)) in

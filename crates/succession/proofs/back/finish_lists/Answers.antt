@@ -110,7 +110,8 @@ pub slice_bounds-finish_one-start : goal.slice_bounds-finish_one-start
 slice_bounds-finish_one-start c = let turn : In-loop-i = search in omega (arith, room turn)
 
 pub finish_one-at-requires : goal.finish_one-at-requires
-finish_one-at-requires c = let second : After-list_part-in-loop-i = search in
+finish_one-at-requires c =
+    let second : After-list_part-in-loop-i = search in
     let turn : In-loop-i = search in
     let start = begun turn in
     let lt = turn.loop-i-test.true in
@@ -124,7 +125,8 @@ finish_one-at-requires c = let second : After-list_part-in-loop-i = search in
     }
 
 pub overflow_add-at : goal.overflow_add-at
-overflow_add-at c = let second : After-list_part-in-loop-i = search in
+overflow_add-at c =
+    let second : After-list_part-in-loop-i = search in
     let turn : In-loop-i = search in
     omega (arith, few turn, c.finish_one-at.ensures.size, ap length (list_is second))
 
@@ -135,7 +137,8 @@ pub loop-i-smaller : goal.loop-i-smaller
 loop-i-smaller c = omega (arith, c.loop-i-test.true)
 
 pub loop-i-preserved : goal.loop-i-preserved
-loop-i-preserved c = let second : After-list_part-in-loop-i = search in
+loop-i-preserved c =
+    let second : After-list_part-in-loop-i = search in
     let turn : In-loop-i = search in
     let start = begun turn in
     let loop = (head turn).loop-i in
@@ -174,14 +177,16 @@ pub bounds-offsets-n : goal.bounds-offsets-n
 bounds-offsets-n c = omega (arith, c.loop-i.invariant.2, c.requires.lanes_in_bounds.0)
 
 pub shape_of-offsets : goal.shape_of-offsets
-shape_of-offsets c = let start : Start = search in
+shape_of-offsets c =
+    let start : Start = search in
     length-set c.loop-i.offsets (rows start) c.loop-i.at ∙ c.loop-i.invariant.2
 
 pub shape_of-out : goal.shape_of-out
 shape_of-out c = c.loop-i.invariant.4
 
 pub returns : goal.returns
-returns c = let start : Start = search in
+returns c =
+    let start : Start = search in
     let inv = c.loop-i.invariant in
     let n = rows start in
     let past : c.loop-i.i ≡ n = omega (arith, inv.0, c.loop-i-test.false) in

@@ -45,12 +45,14 @@ module _ (asked : After-two_way) where
 
 -- ---- a lane that is not two-way
 pub returns-then-not-two_way : goal.returns-then-not-two_way
-returns-then-not-two_way c = let asked : After-two_way = search in
+returns-then-not-two_way c =
+    let asked : After-two_way = search in
     finish_plain _ _ _ _ _ c.copy.ensures (direction asked ∙ c.if-not-two_way.true)
 
 -- ---- one that is
 pub take_back-requires : goal.take_back-requires
-take_back-requires c = let asked : After-two_way = search in
+take_back-requires c =
+    let asked : After-two_way = search in
     let start : Start = search in
     let lanes = start.args.lanes.now in
     let mine = start.args.mine.now in
@@ -73,6 +75,7 @@ take_back-requires c = let asked : After-two_way = search in
     }
 
 pub returns : goal.returns
-returns c = let asked : After-two_way = search in
+returns c =
+    let asked : After-two_way = search in
     finish_back _ _ _ _ _ c.copy.ensures (direction asked ∙ c.if-not-two_way.false)
     c.take_back.ensures

@@ -16,7 +16,8 @@ wanted-asked-requires c = record {
 }
 
 pub put_if-n-requires : goal.put_if-n-requires
-put_if-n-requires c = let ready = c.requires.taking in
+put_if-n-requires c =
+    let ready = c.requires.taking in
     let k = c.loop-k.k in
     let so_far = c.loop-k.invariant.1 in
     record {

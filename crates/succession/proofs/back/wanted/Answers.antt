@@ -7,7 +7,8 @@ use mathlib.Core.Path.{ap, ap₂, ◌∙◌}
 use Rattle.succession.proofs.back.wanted.Goals as goal
 
 pub find_id-f-requires : goal.find_id-f-requires
-find_id-f-requires c = let by_id = c.requires.by_id in
+find_id-f-requires c =
+    let by_id = c.requires.by_id in
     record {
       n_in_bounds = (rows_in _ 10, by_id.buckets, by_id.links);
       chained = by_id.chained;
@@ -21,6 +22,7 @@ has-requires c = c.requires.rising
 
 pub returns : goal.returns
 unfolding wants
-returns c = let lanes = c.args.lanes.now in
+returns c =
+    let lanes = c.args.lanes.now in
     let two_way_is = c.two_way.ensures ∙ ap (two_way_row lanes) c.find_id-f.ensures in
     c.both.ensures ∙ ap₂ ◌&&◌ two_way_is (ap not c.has.ensures)

@@ -32,7 +32,8 @@ module _ (start : Start) where
       start.args.lanes.now
 
 pub link_rows-requires : goal.link_rows-requires
-link_rows-requires c = let start : Start = search in
+link_rows-requires c =
+    let start : Start = search in
     let t = tables start in
     let admitted = start.requires.t_value in
     let lent = start.requires.lent in
@@ -69,7 +70,8 @@ module _ (named : After-link_rows) where
       sides ends
 
 pub link_connections-requires : goal.link_connections-requires
-link_connections-requires c = let named : After-link_rows = search in
+link_connections-requires c =
+    let named : After-link_rows = search in
     let start = begun named in
     let t = tables start in
     let admitted = start.requires.t_value in
@@ -87,7 +89,8 @@ link_connections-requires c = let named : After-link_rows = search in
     }
 
 pub own_lists-requires : goal.own_lists-requires
-own_lists-requires c = let named : After-link_rows = search in
+own_lists-requires c =
+    let named : After-link_rows = search in
     let start = begun named in
     let t = tables start in
     let admitted = start.requires.t_value in
@@ -113,7 +116,8 @@ module _ (chained : After-link_connections) where
   named = search
 
 pub returns : goal.returns
-returns c = let chained : After-link_connections = search in
+returns c =
+    let chained : After-link_connections = search in
     let rows_named = named chained in
     let start = begun rows_named in
     let t = tables start in

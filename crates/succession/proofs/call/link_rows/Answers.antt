@@ -29,7 +29,8 @@ link_names-requires c = record {
 }
 
 pub link_sides-requires : goal.link_sides-requires
-link_sides-requires c = let start : Start = search in
+link_sides-requires c =
+    let start : Start = search in
     let few = start.requires.roads_len_bound in
     record {
       roads_len_bound = (few.0, start.requires.heads_len.0, chains_long start, few.2, start.requires.sides_len.0);
@@ -37,7 +38,8 @@ link_sides-requires c = let start : Start = search in
     }
 
 pub link_ends-requires : goal.link_ends-requires
-link_ends-requires c = let start : Start = search in
+link_ends-requires c =
+    let start : Start = search in
     let few = start.requires.roads_len_bound in
     let new = length-replicate {A = ℕ} 16384 0 in
     record {

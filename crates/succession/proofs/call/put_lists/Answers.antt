@@ -82,7 +82,8 @@ returns-then-predecessor_offsets-n c =
     too_short list_writing _ _ (before_starts_short _ _ _ _ c.if-predecessor_offsets-n.true)
 
 pub returns-then-predecessor_ids-total : goal.returns-then-predecessor_ids-total
-returns-then-predecessor_ids-total c = let start : Start = search in
+returns-then-predecessor_ids-total c =
+    let start : Start = search in
     too_short list_writing _ _
     (before_ids_short _ _ _ _
     (omega (arith, c.if-predecessor_ids-total.true, c.count_lists-total.ensures, as_many start)))
@@ -111,7 +112,8 @@ module _ (past : Else-predecessor_ids-total) where
   before_ids_fit = omega (arith, past.if-predecessor_ids-total.false, counted.count_lists-total.ensures, as_many begun)
 
 pub finish_lists-requires : goal.finish_lists-requires
-finish_lists-requires c = let past : Else-predecessor_ids-total = search in
+finish_lists-requires c =
+    let past : Else-predecessor_ids-total = search in
     let start = begun past in
     record {
       by_id = start.requires.by_id;
@@ -120,7 +122,8 @@ finish_lists-requires c = let past : Else-predecessor_ids-total = search in
     }
 
 pub converse-requires : goal.converse-requires
-converse-requires c = let past : Else-predecessor_ids-total = search in
+converse-requires c =
+    let past : Else-predecessor_ids-total = search in
     let start = begun past in
     let lists = c.finish_lists.ensures in
     let wide : rows start < length start.args.successor_offsets.now = omega (arith, onward_starts_fit past) in
@@ -137,15 +140,18 @@ converse-requires c = let past : Else-predecessor_ids-total = search in
     }
 
 pub overflow_add-result-2 : goal.overflow_add-result-2
-overflow_add-result-2 c = let past : Else-predecessor_ids-total = search in
+overflow_add-result-2 c =
+    let past : Else-predecessor_ids-total = search in
     omega (arith, (begun past).requires.by_id.few)
 
 pub overflow_add-result : goal.overflow_add-result
-overflow_add-result c = let past : Else-predecessor_ids-total = search in
+overflow_add-result c =
+    let past : Else-predecessor_ids-total = search in
     omega (arith, (begun past).requires.by_id.few)
 
 pub returns : goal.returns
-returns c = let past : Else-predecessor_ids-total = search in
+returns c =
+    let past : Else-predecessor_ids-total = search in
     let start = begun past in
     let n = rows start in
     let count = (counted past).count_lists-total.ensures in

@@ -32,7 +32,8 @@ succession_verdict-v-requires c = record {
 
 -- ---- refused
 pub returns-then-not-admitted : goal.returns-then-not-admitted
-returns-then-not-admitted c = let barred = sym c.admitted.ensures ∙ c.if-not-admitted.true in
+returns-then-not-admitted c =
+    let barred = sym c.admitted.ensures ∙ c.if-not-admitted.true in
     record {
       result_value = c.succession_verdict-v.ensures.result_value;
       filled = λ unrefused. absurd (is_some_lem (refusal_of c.succession_verdict-v.result) barred unrefused);
@@ -54,7 +55,8 @@ module _ (judged : After-succession_verdict-v) where
   start = search
 
 pub find_own-requires : goal.find_own-requires
-find_own-requires c = let past : Else-not-admitted = search in
+find_own-requires c =
+    let past : Else-not-admitted = search in
     let verdict = (judged past).succession_verdict-v in
     let kept = verdict.auto in
     let new = length-replicate {A = ℕ} 16384 0 in

@@ -102,14 +102,16 @@ resolve_own-v-requires c =
 -- ---- refused
 pub returns-then-not-admitted : goal.returns-then-not-admitted
 unfolding succession_call
-returns-then-not-admitted c = let resolved : After-resolve_own-v = search in
+returns-then-not-admitted c =
+    let resolved : After-resolve_own-v = search in
     let t = tables resolved in
     let barred = sym c.admitted.ensures ∙ c.if-not-admitted.true in
     call_refused list_writing (succession_rules t) (list_content t) (outs resolved) (verdict resolved) barred
     (first_broken_lem resolved)
 
 pub write_lists-requires : goal.write_lists-requires
-write_lists-requires c = let past : Else-not-admitted = search in
+write_lists-requires c =
+    let past : Else-not-admitted = search in
     let t = tables (resolved past) in
     let n = rows (resolved past) in
     let as_long = start_same _ (own_list t) n (read_own past) n (le_refl n) in
@@ -122,7 +124,8 @@ write_lists-requires c = let past : Else-not-admitted = search in
 
 pub returns : goal.returns
 unfolding succession_call
-returns c = let past : Else-not-admitted = search in
+returns c =
+    let past : Else-not-admitted = search in
     let t = tables (resolved past) in
     let lent = outs (resolved past) in
     let content = content_is t (admitted past) _ _ (read_own past) in

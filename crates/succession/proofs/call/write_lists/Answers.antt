@@ -86,14 +86,16 @@ module _ (turned : After-converse) where
       (omega (arith, length-replicate {A = ℕ} 65536 0, few_found (opened linked)))
 
 pub link_ids-requires : goal.link_ids-requires
-link_ids-requires c = let start : Start = search in
+link_ids-requires c =
+    let start : Start = search in
     record {
       n_in_bounds = (rows_in (length start.args.lanes.now) 10, few start);
       empty = fresh;
     }
 
 pub converse-requires : goal.converse-requires
-converse-requires c = let linked : After-link_ids = search in
+converse-requires c =
+    let linked : After-link_ids = search in
     let start = opened linked in
     record {
       by_id = by_id linked;
@@ -105,7 +107,8 @@ converse-requires c = let linked : After-link_ids = search in
     }
 
 pub put_lists-requires : goal.put_lists-requires
-put_lists-requires c = let turned : After-converse = search in
+put_lists-requires c =
+    let turned : After-converse = search in
     let start = opened (linked turned) in
     let found_by = found turned in
     record {
@@ -116,7 +119,8 @@ put_lists-requires c = let turned : After-converse = search in
     }
 
 pub returns : goal.returns
-returns c = let turned : After-converse = search in
+returns c =
+    let turned : After-converse = search in
     let args = (opened (linked turned)).args in
     let lent = outputs args.successor_offsets.now args.successor_ids.now args.predecessor_offsets.now
     args.predecessor_ids.now in

@@ -46,7 +46,8 @@ module _ (counted : After-count_all) where
       counted.count_all.ensures
 
 pub count_all-requires : goal.count_all-requires
-count_all-requires c = let few = c.requires.by_id.few in
+count_all-requires c =
+    let few = c.requires.by_id.few in
     record {
       by_id = c.requires.by_id;
       lanes_in_bounds = (
@@ -57,14 +58,16 @@ count_all-requires c = let few = c.requires.by_id.few in
     }
 
 pub sums-requires : goal.sums-requires
-sums-requires c = let counted : After-count_all = search in
+sums-requires c =
+    let counted : After-count_all = search in
     let all = sums_are counted (rows counted) (le_refl (rows counted)) in
     let args = c.args in
     let few = listers_few args.lanes.now c.requires.by_id.once args.starts.now args.ids.now in
     (wide counted, c.requires.lanes_bound.1, omega (arith, all, few, c.requires.lanes_bound.0))
 
 pub spill_all-requires : goal.spill_all-requires
-spill_all-requires c = let counted : After-count_all = search in
+spill_all-requires c =
+    let counted : After-count_all = search in
     let offsets_are = c.sums.ensures in
     let same = starts_long (sum_of_first (counts counted)) (rows counted) _ _ offsets_are c.requires.lanes_bound.1 in
     let as_wide : rows counted ≤ length c.clear.new.ws =
@@ -83,7 +86,8 @@ spill_all-requires c = let counted : After-count_all = search in
     }
 
 pub returns : goal.returns
-returns c = let counted : After-count_all = search in
+returns c =
+    let counted : After-count_all = search in
     let offsets_are =
     tab_same (rows counted + 1) (sum_of_first (counts counted)) (start_of (before counted))
     (λ i h. sums_are counted i (omega (arith, h))) in

@@ -15,7 +15,8 @@ loop-a-init c = (omega arith, counted_none (λ r lr. listed_none _ _ _))
 
 -- a count is at most the length of the lists so far, which with lane a's is at most 131072
 pub count_list-requires : goal.count_list-requires
-count_list-requires c = let lanes = c.args.lanes.now in
+count_list-requires c =
+    let lanes = c.args.lanes.now in
     let offsets = c.args.offsets.now in
     let ids = c.args.ids.now in
     let a = c.loop-a.a in
@@ -49,7 +50,8 @@ pub loop-a-smaller : goal.loop-a-smaller
 loop-a-smaller c = omega (arith, c.loop-a-test.true)
 
 pub loop-a-preserved : goal.loop-a-preserved
-loop-a-preserved c = let lanes = c.args.lanes.now in
+loop-a-preserved c =
+    let lanes = c.args.lanes.now in
     let offsets = c.args.offsets.now in
     let ids = c.args.ids.now in
     let a = c.loop-a.a in
@@ -64,6 +66,7 @@ pub shape_of-counts : goal.shape_of-counts
 shape_of-counts c = c.loop-a.invariant.1.wide
 
 pub returns : goal.returns
-returns c = let past : c.loop-a.a ≡ length c.args.lanes.now / 10 =
+returns c =
+    let past : c.loop-a.a ≡ length c.args.lanes.now / 10 =
     omega (arith, c.loop-a.invariant.0, c.loop-a-test.false) in
     rw past at c.loop-a.invariant.1

@@ -14,7 +14,8 @@ pub bounds-list-k : goal.bounds-list-k
 bounds-list-k c = omega (arith, c.loop-k-test.true)
 
 pub find_id-f-requires : goal.find_id-f-requires
-find_id-f-requires c = let by_id = c.requires.by_id in
+find_id-f-requires c =
+    let by_id = c.requires.by_id in
     record {
       n_in_bounds = (rows_in _ 10, by_id.buckets, by_id.links);
       chained = by_id.chained;
@@ -22,7 +23,8 @@ find_id-f-requires c = let by_id = c.requires.by_id in
 
 -- the lane found has a count, and it can grow
 pub count_one-requires : goal.count_one-requires
-count_one-requires c = let lanes = c.args.lanes.now in
+count_one-requires c =
+    let lanes = c.args.lanes.now in
     let so_far = c.loop-k.invariant.1 in
     let low = found_low lanes c.requires.by_id.once _ c.find_id-f.ensures in (
       omega (arith, low, so_far.wide, c.requires.lanes_in_bounds.0),
@@ -39,7 +41,8 @@ pub loop-k-smaller : goal.loop-k-smaller
 loop-k-smaller c = omega (arith, c.loop-k-test.true)
 
 pub loop-k-preserved : goal.loop-k-preserved
-loop-k-preserved c = let so_far = c.loop-k.invariant.1 in
+loop-k-preserved c =
+    let so_far = c.loop-k.invariant.1 in
     let wide : length c.args.lanes.now / 10 ≤ length c.loop-k.counts =
     omega (arith, so_far.wide, c.requires.lanes_in_bounds.0) in (
       omega (arith, c.loop-k-test.true),
@@ -52,5 +55,6 @@ pub shape_of-counts : goal.shape_of-counts
 shape_of-counts c = c.loop-k.invariant.1.wide
 
 pub returns : goal.returns
-returns c = let all : length c.args.list.now ≤ c.loop-k.k = omega (arith, c.loop-k-test.false) in
+returns c =
+    let all : length c.args.list.now ≤ c.loop-k.k = omega (arith, c.loop-k-test.false) in
     counted_same c.loop-k.invariant.1 (λ r lr. times_all c.args.lanes.now c.args.list.now _ r all)

@@ -61,6 +61,7 @@ pub shape_of-out : goal.shape_of-out
 shape_of-out c = c.loop-a.invariant.1.long
 
 pub returns : goal.returns
-returns c = let past : c.loop-a.a ≡ length c.args.lanes.now / 10 =
+returns c =
+    let past : c.loop-a.a ≡ length c.args.lanes.now / 10 =
     omega (arith, c.loop-a.invariant.0, c.loop-a-test.false) in
     spread_all _ _ _ c.requires.runs_for (rw past at c.loop-a.invariant.1)

@@ -14,7 +14,8 @@ pub bounds-list-k : goal.bounds-list-k
 bounds-list-k c = omega (arith, c.loop-k-test.true)
 
 pub find_id-f-requires : goal.find_id-f-requires
-find_id-f-requires c = let by_id = c.requires.by_id in
+find_id-f-requires c =
+    let by_id = c.requires.by_id in
     record {
       n_in_bounds = (rows_in _ 10, by_id.buckets, by_id.links);
       chained = by_id.chained;
@@ -22,7 +23,8 @@ find_id-f-requires c = let by_id = c.requires.by_id in
 
 -- what the list asks for has room, so one more of it has
 pub spill_one-requires : goal.spill_one-requires
-spill_one-requires c = let lanes = c.args.lanes.now in
+spill_one-requires c =
+    let lanes = c.args.lanes.now in
     let list = c.args.list.now in
     let k = c.loop-k.k in
     let once = c.requires.by_id.once in
@@ -54,5 +56,6 @@ pub shape_of-out : goal.shape_of-out
 shape_of-out c = c.loop-k.invariant.1.long
 
 pub returns : goal.returns
-returns c = let all : length c.args.list.now ≤ c.loop-k.k = omega (arith, c.loop-k-test.false) in
+returns c =
+    let all : length c.args.list.now ≤ c.loop-k.k = omega (arith, c.loop-k-test.false) in
     spilled_same c.loop-k.invariant.1 (λ r lr. times_all c.args.lanes.now c.args.list.now _ r all)

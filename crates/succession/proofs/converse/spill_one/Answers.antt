@@ -42,19 +42,23 @@ pub word-at-requires : goal.word-at-requires
 word-at-requires c = omega (arith, c.if-f-eq0.false, c.requires.0, c.requires.1.long)
 
 pub word-u-requires : goal.word-u-requires
-word-u-requires c = let past : Else-f-eq0 = search in
+word-u-requires c =
+    let past : Else-f-eq0 = search in
     omega (arith, low past, (start past).requires.1.wide)
 
 pub slice_bounds-put_in-count : goal.slice_bounds-put_in-count
-slice_bounds-put_in-count c = let past : Else-f-eq0 = search in
+slice_bounds-put_in-count c =
+    let past : Else-f-eq0 = search in
     omega (arith, room past, c.word-at.ensures.0)
 
 pub slice_bounds-put_in-start : goal.slice_bounds-put_in-start
-slice_bounds-put_in-start c = let past : Else-f-eq0 = search in
+slice_bounds-put_in-start c =
+    let past : Else-f-eq0 = search in
     omega (arith, room past, c.word-at.ensures.0)
 
 pub put_in-requires : goal.put_in-requires
-put_in-requires c = let past : Else-f-eq0 = search in
+put_in-requires c =
+    let past : Else-f-eq0 = search in
     let out = (start past).args.out.now in
     let at_is = c.word-at.ensures.0 in
     let used_is = c.word-u.ensures.0 in
@@ -65,13 +69,15 @@ put_in-requires c = let past : Else-f-eq0 = search in
     )
 
 pub overflow_add-used : goal.overflow_add-used
-overflow_add-used c = let past : Else-f-eq0 = search in
+overflow_add-used c =
+    let past : Else-f-eq0 = search in
     let begin = start past in
     let ends = run_ends past.if-f-eq0.false begin.requires.0 begin.requires.1 in
     omega (arith, ends, c.type_inv.offsets (row past + 1))
 
 pub returns : goal.returns
-returns c = let past : Else-f-eq0 = search in
+returns c =
+    let past : Else-f-eq0 = search in
     let out = (start past).args.out.now in
     let at_is = c.word-at.ensures.0 in
     let inside : c.word-at.result ≤ length out = omega (arith, room past, at_is) in

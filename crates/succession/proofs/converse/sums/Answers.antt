@@ -26,7 +26,8 @@ pub loop-i-init : goal.loop-i-init
 loop-i-init c = (omega arith, total_none _, refl, starts_none _ _)
 
 pub overflow_cast-offsets : goal.overflow_cast-offsets
-overflow_cast-offsets c = let start : Start = search in
+overflow_cast-offsets c =
+    let start : Start = search in
     let inv = c.loop-i.invariant in
     omega (arith, inv.1, up_to_all start c.loop-i.i inv.0, start.requires.2)
 
@@ -37,7 +38,8 @@ pub word-at-requires : goal.word-at-requires
 word-at-requires c = omega (arith, c.loop-i-test.true, c.requires.0)
 
 pub overflow_add-at : goal.overflow_add-at
-overflow_add-at c = let start : Start = search in
+overflow_add-at c =
+    let start : Start = search in
     let i = c.loop-i.i in
     let one_more = total_more i (counts start) in
     let below = up_to_all start (i + 1) (omega (arith, c.loop-i-test.true)) in
@@ -50,7 +52,8 @@ pub loop-i-smaller : goal.loop-i-smaller
 loop-i-smaller c = omega (arith, c.loop-i-test.true)
 
 pub loop-i-preserved : goal.loop-i-preserved
-loop-i-preserved c = let start : Start = search in
+loop-i-preserved c =
+    let start : Start = search in
     let inv = c.loop-i.invariant in
     let i = c.loop-i.i in (
       omega (arith, c.loop-i-test.true),
@@ -60,7 +63,8 @@ loop-i-preserved c = let start : Start = search in
     )
 
 pub overflow_cast-offsets-2 : goal.overflow_cast-offsets-2
-overflow_cast-offsets-2 c = let start : Start = search in
+overflow_cast-offsets-2 c =
+    let start : Start = search in
     let inv = c.loop-i.invariant in
     omega (arith, inv.1, up_to_all start c.loop-i.i inv.0, start.requires.2)
 
@@ -71,7 +75,8 @@ pub shape_of-offsets : goal.shape_of-offsets
 shape_of-offsets c = length-set c.loop-i.offsets c.args.n c.loop-i.at ∙ c.loop-i.invariant.2
 
 pub returns : goal.returns
-returns c = let inv = c.loop-i.invariant in
+returns c =
+    let inv = c.loop-i.invariant in
     let n = c.args.n in
     let past : c.loop-i.i ≡ n = omega (arith, inv.0, c.loop-i-test.false) in
     starts_more _ n _ _ _ (rw past at inv.3) (rw past at inv.1) c.requires.1

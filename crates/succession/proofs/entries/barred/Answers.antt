@@ -8,11 +8,13 @@ pub runs_away-requires : goal.runs_away-requires
 runs_away-requires c = tt
 
 pub returns-then-both : goal.returns-then-both
-returns-then-both c = let args = c.args in
+returns-then-both c =
+    let args = c.args in
     ap not c.runs_away.ensures
     ∙ sym
     (ap (λ (b : Bool). b && not (away (direction_of args.direction) (flag args.contact))) c.if-both.true)
 
 pub returns : goal.returns
-returns c = let args = c.args in
+returns c =
+    let args = c.args in
     sym (ap (λ (b : Bool). b && not (away (direction_of args.direction) (flag args.contact))) c.if-both.false)

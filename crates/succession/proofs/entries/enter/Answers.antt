@@ -30,7 +30,8 @@ pub barred-requires : goal.barred-requires
 barred-requires c = tt
 
 pub returns-then-barred : goal.returns-then-barred
-returns-then-barred c = let start : Start = search in
+returns-then-barred c =
+    let start : Start = search in
     let barred = sym c.barred.ensures ∙ c.if-barred.true in
     took_barred _ _ _ _ _ (within start) _ c.if-row-eq0.false barred
 
@@ -38,7 +39,8 @@ pub bounds-lanes-r-2 : goal.bounds-lanes-r-2
 bounds-lanes-r-2 c = omega (arith, c.requires.row_in_bounds)
 
 pub take_in-requires : goal.take_in-requires
-take_in-requires c = let start : Start = search in
+take_in-requires c =
+    let start : Start = search in
     let args = start.args in
     let one =
     one_long args.both args.n args.lanes.now (flag args.contact) args.run.now (within start)
@@ -46,7 +48,8 @@ take_in-requires c = let start : Start = search in
     record { rising = (start.requires.room.rising, omega (arith, start.requires.room.fits, one)) }
 
 pub returns : goal.returns
-returns c = let start : Start = search in
+returns c =
+    let start : Start = search in
     let free = sym c.barred.ensures ∙ c.if-barred.false in
     took_entered _ _ _ _ _ (within start) _ c.if-row-eq0.false free _ _ c.take_in.ensures.0
     c.take_in.ensures.1

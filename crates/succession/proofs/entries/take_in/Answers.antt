@@ -37,7 +37,8 @@ pub slice_bounds-known-end-2 : goal.slice_bounds-known-end-2
 slice_bounds-known-end-2 c = let start : Start = search in sym (had_long start)
 
 pub returns-then-known : goal.returns-then-known
-returns-then-known c = let start : Start = search in
+returns-then-known c =
+    let start : Start = search in
     let run = start.args.run.now in
     let stays : take_in start.args.both start.args.id.0 (had start) ≡ had start =
     ap (taken start) (sym c.known.ensures ∙ c.if-known.true) in (
@@ -46,7 +47,8 @@ returns-then-known c = let start : Start = search in
     )
 
 pub returns : goal.returns
-returns c = let start : Start = search in
+returns c =
+    let start : Start = search in
     let grows : take_in start.args.both start.args.id.0 (had start) ≡ insert start.args.id.0 (had start) =
     ap (taken start) (sym c.known.ensures ∙ c.if-known.false) in (
       c.put_in.ensures ∙ ap (λ (l : List ℕ). written l start.args.run.now) (sym grows),

@@ -25,7 +25,8 @@ module _ (near : Else-roads-at-ne1) where
   begun = search
 
 pub returns-then-roads-at-ne1 : goal.returns-then-roads-at-ne1
-returns-then-roads-at-ne1 c = let both = c.args.both in let n = c.args.n in let run = c.args.run.now in
+returns-then-roads-at-ne1 c =
+    let both = c.args.both in let n = c.args.n in let run = c.args.run.now in
     subst (λ (es : List Entry). Took both n es run run n)
     (sym (cross_none (rows_of c.args.roads.now c.args.sections.now
     c.args.junctions.now c.args.connections.now c.args.pairs.now
@@ -34,7 +35,8 @@ returns-then-roads-at-ne1 c = let both = c.args.both in let n = c.args.n in let 
     (took_none both n run (omega (arith, c.requires.room.fits)))
 
 pub returns-then-to-eq0 : goal.returns-then-to-eq0
-returns-then-to-eq0 c = let both = c.args.both in let n = c.args.n in let run = c.args.run.now in
+returns-then-to-eq0 c =
+    let both = c.args.both in let n = c.args.n in let run = c.args.run.now in
     subst (λ (es : List Entry). Took both n es run run n)
     (sym (cross_nowhere (rows_of c.args.roads.now c.args.sections.now
     c.args.junctions.now c.args.connections.now c.args.pairs.now
@@ -43,7 +45,8 @@ returns-then-to-eq0 c = let both = c.args.both in let n = c.args.n in let run = 
     c.if-roads-at-eq1.true c.if-to-eq0.true)) (took_none both n run (omega (arith, c.requires.room.fits)))
 
 pub through_junction-requires : goal.through_junction-requires
-through_junction-requires c = let else1 : Else-roads-at-ne1 = search in
+through_junction-requires c =
+    let else1 : Else-roads-at-ne1 = search in
     let start = begun else1 in
     let roads = start.args.roads.now in let at = start.args.at in
     let b = start.requires.in_bounds.3 (eq-eqb (get_or roads (at + 1) 0) 1 c.if-roads-at-eq1.true) in
@@ -61,7 +64,8 @@ through_junction-requires c = let else1 : Else-roads-at-ne1 = search in
     }
 
 pub returns-then-roads-at-eq1 : goal.returns-then-roads-at-eq1
-returns-then-roads-at-eq1 c = let else1 : Else-roads-at-ne1 = search in
+returns-then-roads-at-eq1 c =
+    let else1 : Else-roads-at-ne1 = search in
     let start = begun else1 in
     subst (λ (es : List Entry).
     Took start.args.both start.args.n es start.args.run.now
@@ -75,7 +79,8 @@ returns-then-roads-at-eq1 c = let else1 : Else-roads-at-ne1 = search in
     c.through_junction.ensures
 
 pub returns-then-lanes-link-ne1 : goal.returns-then-lanes-link-ne1
-returns-then-lanes-link-ne1 c = let both = c.args.both in let n = c.args.n in let run = c.args.run.now in
+returns-then-lanes-link-ne1 c =
+    let both = c.args.both in let n = c.args.n in let run = c.args.run.now in
     subst (λ (es : List Entry). Took both n es run run n)
     (sym (cross_unlinked (rows_of c.args.roads.now c.args.sections.now
     c.args.junctions.now c.args.connections.now c.args.pairs.now
@@ -91,7 +96,8 @@ end_section-section-requires c = (
 )
 
 pub lookup-requires : goal.lookup-requires
-lookup-requires c = let b = c.requires.in_bounds.4
+lookup-requires c =
+    let b = c.requires.in_bounds.4
     (ne_eqb (get_or c.args.roads.now (c.args.at + 1) 0) 1 c.if-roads-at-eq1.false) in
     record {
       road_bound = (
@@ -105,7 +111,8 @@ lookup-requires c = let b = c.requires.in_bounds.4
     }
 
 pub enter-requires : goal.enter-requires
-enter-requires c = let else1 : Else-roads-at-ne1 = search in
+enter-requires c =
+    let else1 : Else-roads-at-ne1 = search in
     let start = begun else1 in
     record {
       row_in_bounds = c.lookup.ensures.1;
@@ -120,7 +127,8 @@ enter-requires c = let else1 : Else-roads-at-ne1 = search in
     }
 
 pub returns : goal.returns
-returns c = let else1 : Else-roads-at-ne1 = search in
+returns c =
+    let else1 : Else-roads-at-ne1 = search in
     let start = begun else1 in
     subst (λ (es : List Entry).
     Took start.args.both start.args.n es start.args.run.now c.enter.new.run

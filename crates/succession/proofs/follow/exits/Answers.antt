@@ -45,7 +45,8 @@ next_section-requires c = let l = c.args.l in let owner = c.args.owner.now in (
 )
 
 pub within_road-requires : goal.within_road-requires
-within_road-requires c = let after_link_at : After-link_at-link = search in
+within_road-requires c =
+    let after_link_at : After-link_at-link = search in
     let start = begun after_link_at in
     let l = start.args.l in let forward = start.args.forward in let owner = start.args.owner.now in
     record {
@@ -73,7 +74,8 @@ within_road-requires c = let after_link_at : After-link_at-link = search in
     }
 
 pub leave-requires : goal.leave-requires
-leave-requires c = let after_link_at : After-link_at-link = search in
+leave-requires c =
+    let after_link_at : After-link_at-link = search in
     let start = begun after_link_at in
     let l = start.args.l in let forward = start.args.forward in let owner = start.args.owner.now in
     record {
@@ -98,7 +100,8 @@ leave-requires c = let after_link_at : After-link_at-link = search in
     }
 
 pub returns-in-At : goal.returns-in-At
-returns-in-At c = let after_link_at : After-link_at-link = search in
+returns-in-At c =
+    let after_link_at : After-link_at-link = search in
     let start = begun after_link_at in
     let owner = start.args.owner.now in let l = start.args.l in
     subst (λ (es : List Entry).
@@ -116,7 +119,8 @@ returns-in-At c = let after_link_at : After-link_at-link = search in
     c.entered_at.ensures)) c.within_road.ensures
 
 pub returns-in-Past : goal.returns-in-Past
-returns-in-Past c = let after_link_at : After-link_at-link = search in
+returns-in-Past c =
+    let after_link_at : After-link_at-link = search in
     let start = begun after_link_at in
     let owner = start.args.owner.now in let l = start.args.l in
     subst (λ (es : List Entry).

@@ -38,7 +38,8 @@ module _ (start : Start) where
       start.args.sides.now start.args.ends.now
 
 pub cross-requires : goal.cross-requires
-cross-requires c = let start : Start = search in
+cross-requires c =
+    let start : Start = search in
     let roads = start.args.roads.now in let ends = start.args.ends.now in
     let l = start.args.l in let link = start.args.link in
     record {
@@ -74,7 +75,8 @@ cross-requires c = let start : Start = search in
     }
 
 pub returns-then-forward : goal.returns-then-forward
-returns-then-forward c = let then1 : Then-forward = search in
+returns-then-forward c =
+    let then1 : Then-forward = search in
     let start = begun then1 in
     let ends = start.args.ends.now in let l = start.args.l in let link = start.args.link in
     subst (λ (es : List Entry).
@@ -89,7 +91,8 @@ returns-then-forward c = let then1 : Then-forward = search in
     (sym c.word.ensures.0))) c.cross.ensures
 
 pub cross-requires-2 : goal.cross-requires-2
-cross-requires-2 c = let start : Start = search in
+cross-requires-2 c =
+    let start : Start = search in
     let roads = start.args.roads.now in let ends = start.args.ends.now in
     let l = start.args.l in let link = start.args.link in
     record {
@@ -125,7 +128,8 @@ cross-requires-2 c = let start : Start = search in
     }
 
 pub returns : goal.returns
-returns c = let else1 : Else-forward = search in
+returns c =
+    let else1 : Else-forward = search in
     let start = begun-2 else1 in
     let ends = start.args.ends.now in let l = start.args.l in let link = start.args.link in
     subst (λ (es : List Entry).

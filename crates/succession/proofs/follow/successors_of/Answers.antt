@@ -60,7 +60,8 @@ exits-requires c = record {
 }
 
 pub returns-then-direction-eq0 : goal.returns-then-direction-eq0
-returns-then-direction-eq0 c = let then1 : Then-direction-eq0 = search in
+returns-then-direction-eq0 c =
+    let then1 : Then-direction-eq0 = search in
     let start = begun then1 in
     resolved_forward (rows_of start.args.roads.now start.args.sections.now
     start.args.junctions.now start.args.connections.now start.args.pairs.now
@@ -82,7 +83,8 @@ exits-requires-then-direction-eq1 c = record {
 }
 
 pub returns-then-direction-eq1 : goal.returns-then-direction-eq1
-returns-then-direction-eq1 c = let then2 : Then-direction-eq1 = search in
+returns-then-direction-eq1 c =
+    let then2 : Then-direction-eq1 = search in
     let start = begun-2 then2 in
     resolved_backward (rows_of start.args.roads.now start.args.sections.now
     start.args.junctions.now start.args.connections.now start.args.pairs.now
@@ -104,7 +106,8 @@ exits-n-requires c = record {
 }
 
 pub exits-requires-2 : goal.exits-requires-2
-exits-requires-2 c = let after-exits3 : After-exits-n = search in
+exits-requires-2 c =
+    let after-exits3 : After-exits-n = search in
     let start = begun-3 after-exits3 in
     let l = start.args.l in let run = start.args.run.now in
     let exits_by_row' = exits_by_row (walk start) l true in
@@ -122,7 +125,8 @@ exits-requires-2 c = let after-exits3 : After-exits-n = search in
     }
 
 pub returns : goal.returns
-returns c = let else1 : Else-direction-eq0 = search in
+returns c =
+    let else1 : Else-direction-eq0 = search in
     let start = begun-4 else1 in
     let l = start.args.l in let run = start.args.run.now in
     resolved_both (walk start) l run c.exits-2.new.run

@@ -24,7 +24,8 @@ pub comes_from-requires : goal.comes_from-requires
 comes_from-requires c = (c.requires.in_bounds.0, omega (arith, c.requires.sound.sides_long, c.requires.in_bounds.1))
 
 pub returns-then-not-comes_from : goal.returns-then-not-comes_from
-returns-then-not-comes_from c = let both = c.args.both in let n = c.args.n in let run = c.args.run.now in
+returns-then-not-comes_from c =
+    let both = c.args.both in let n = c.args.n in let run = c.args.run.now in
     subst (λ (es : List Entry). Took both n es run run n)
     (sym (meeting_none (rows_of c.args.roads.now c.args.sections.now
     c.args.junctions.now c.args.connections.now c.args.pairs.now
@@ -47,7 +48,8 @@ through_pairs-requires c = record {
 }
 
 pub returns : goal.returns
-returns c = let after_comes_from : After-comes_from = search in
+returns c =
+    let after_comes_from : After-comes_from = search in
     let start = begun after_comes_from in
     subst (λ (es : List Entry).
     Took start.args.both start.args.n es start.args.run.now

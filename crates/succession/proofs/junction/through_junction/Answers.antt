@@ -32,7 +32,8 @@ pub word-at-requires : goal.word-at-requires
 word-at-requires c = omega (arith, c.bucket.ensures.1, c.requires.chained.buckets)
 
 pub loop-at-init : goal.loop-at-init
-loop-at-init c = let connections = c.args.connections.now in let j = c.args.j in
+loop-at-init c =
+    let connections = c.args.connections.now in let j = c.args.j in
     walk_begin c.args.both c.args.start
     (rows_of c.args.roads.now c.args.sections.now c.args.junctions.now connections
     c.args.pairs.now c.args.lanes.now c.args.owner.now c.args.sides.now
@@ -47,7 +48,8 @@ pub overflow_sub-count : goal.overflow_sub-count
 overflow_sub-count c = omega (arith, c.loop-at.invariant.below)
 
 pub through_connection-n-requires : goal.through_connection-n-requires
-through_connection-n-requires c = let head : At-loop-at = search in
+through_connection-n-requires c =
+    let head : At-loop-at = search in
     let start = begun head in
     let connections = start.args.connections.now in let j = start.args.j in
     record {
@@ -68,12 +70,14 @@ pub overflow_sub-at : goal.overflow_sub-at
 overflow_sub-at c = omega (arith, c.loop-at-test.true)
 
 pub word-at-requires-in-loop-at : goal.word-at-requires-in-loop-at
-word-at-requires-in-loop-at c = let head : At-loop-at = search in
+word-at-requires-in-loop-at c =
+    let head : At-loop-at = search in
     let start = begun head in
     omega (arith, head.loop-at.invariant.below, start.requires.chained.links, c.loop-at-test.true)
 
 pub loop-at-smaller : goal.loop-at-smaller
-loop-at-smaller c = let head : At-loop-at = search in
+loop-at-smaller c =
+    let head : At-loop-at = search in
     let start = begun head in
     let connections = start.args.connections.now in let j = start.args.j in
     (let z = walk_less start.args.both start.args.start
@@ -88,7 +92,8 @@ loop-at-smaller c = let head : At-loop-at = search in
     omega (arith, c.word-at-in-loop-at.ensures.0))
 
 pub loop-at-preserved : goal.loop-at-preserved
-loop-at-preserved c = let head : At-loop-at = search in
+loop-at-preserved c =
+    let head : At-loop-at = search in
     let start = begun head in
     let connections = start.args.connections.now in let j = start.args.j in
     walk_on start.args.both start.args.start
@@ -104,7 +109,8 @@ loop-at-preserved c = let head : At-loop-at = search in
     c.word-at-in-loop-at.ensures.0 c.through_connection-n.ensures
 
 pub shape_of-run : goal.shape_of-run
-shape_of-run c = let connections = c.args.connections.now in let j = c.args.j in
+shape_of-run c =
+    let connections = c.args.connections.now in let j = c.args.j in
     walk_long c.args.both c.args.start
     (rows_of c.args.roads.now c.args.sections.now c.args.junctions.now connections
     c.args.pairs.now c.args.lanes.now c.args.owner.now c.args.sides.now
@@ -115,7 +121,8 @@ shape_of-run c = let connections = c.args.connections.now in let j = c.args.j in
     c.loop-at.run c.loop-at.invariant
 
 pub returns : goal.returns
-returns c = let connections = c.args.connections.now in let j = c.args.j in
+returns c =
+    let connections = c.args.connections.now in let j = c.args.j in
     walk_end c.args.both c.args.start
     (rows_of c.args.roads.now c.args.sections.now c.args.junctions.now connections
     c.args.pairs.now c.args.lanes.now c.args.owner.now c.args.sides.now

@@ -48,7 +48,8 @@ pub overflow_add-end : goal.overflow_add-end
 overflow_add-end c = omega (arith, c.word-first.ensures.1, c.word.ensures.1)
 
 pub loop-p-init : goal.loop-p-init
-loop-p-init c = let after_word : After-word-road = search in
+loop-p-init c =
+    let after_word : After-word-road = search in
     let start = begun after_word in
     let pairs = start.args.pairs.now in let lanes = start.args.lanes.now in
     let owner = start.args.owner.now in let connections = start.args.connections.now in
@@ -68,7 +69,8 @@ loop-p-init c = let after_word : After-word-road = search in
     )
 
 pub through_pair-n-requires : goal.through_pair-n-requires
-through_pair-n-requires c = let after_word : After-word-road = search in
+through_pair-n-requires c =
+    let after_word : After-word-road = search in
     let start = begun after_word in
     let pairs = start.args.pairs.now in let lanes = start.args.lanes.now in
     let owner = start.args.owner.now in let connections = start.args.connections.now in
@@ -116,7 +118,8 @@ pub loop-p-smaller : goal.loop-p-smaller
 loop-p-smaller c = omega arith
 
 pub loop-p-preserved : goal.loop-p-preserved
-loop-p-preserved c = let after_word : After-word-road = search in
+loop-p-preserved c =
+    let after_word : After-word-road = search in
     let start = begun after_word in
     let pairs = start.args.pairs.now in let lanes = start.args.lanes.now in
     let owner = start.args.owner.now in let connections = start.args.connections.now in
@@ -141,7 +144,8 @@ loop-p-preserved c = let after_word : After-word-road = search in
     )
 
 pub shape_of-run : goal.shape_of-run
-shape_of-run c = let after_word : After-word-road = search in
+shape_of-run c =
+    let after_word : After-word-road = search in
     let start = begun after_word in
     let pairs = start.args.pairs.now in let lanes = start.args.lanes.now in
     let owner = start.args.owner.now in let connections = start.args.connections.now in
@@ -160,7 +164,8 @@ shape_of-run c = let after_word : After-word-road = search in
     c.loop-p.invariant.1
 
 pub returns : goal.returns
-returns c = let after_word : After-word-road = search in
+returns c =
+    let after_word : After-word-road = search in
     let start = begun after_word in
     let both = start.args.both in let run = start.args.run.now in let roads = start.args.roads.now in
     let sections = start.args.sections.now in let junctions = start.args.junctions.now in

@@ -32,7 +32,8 @@ pub loop-lo-smaller-then-word-x : goal.loop-lo-smaller-then-word-x
 loop-lo-smaller-then-word-x c = omega arith
 
 pub loop-lo-preserved-then-word-x : goal.loop-lo-preserved-then-word-x
-loop-lo-preserved-then-word-x c = let head : At-loop-lo = search in
+loop-lo-preserved-then-word-x c =
+    let head : At-loop-lo = search in
     halve_low (mid head) c.requires head.loop-lo.invariant (omega arith) (omega arith)
     (omega (arith, c.word.ensures.0))
 
@@ -40,7 +41,8 @@ pub loop-lo-smaller : goal.loop-lo-smaller
 loop-lo-smaller c = omega arith
 
 pub loop-lo-preserved : goal.loop-lo-preserved
-loop-lo-preserved c = let head : At-loop-lo = search in
+loop-lo-preserved c =
+    let head : At-loop-lo = search in
     halve_high (mid head) c.requires head.loop-lo.invariant (omega arith) (omega arith)
     (omega (arith, c.word.ensures.0))
 

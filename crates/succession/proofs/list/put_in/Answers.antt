@@ -35,12 +35,14 @@ pub shift-requires : goal.shift-requires
 shift-requires c = let placed : After-below-k = search in (low placed, omega arith)
 
 pub offset_bounds-run-k : goal.offset_bounds-run-k
-offset_bounds-run-k c = let placed : After-below-k = search in
+offset_bounds-run-k c =
+    let placed : After-below-k = search in
     let inside : placed.below-k.result < length c.args.run.now = omega (arith, low placed) in
     search rules
 
 pub bounds-run-k : goal.bounds-run-k
-bounds-run-k c = let placed : After-below-k = search in
+bounds-run-k c =
+    let placed : After-below-k = search in
     omega (arith, low placed, c.requires.1, c.shift.ensures.long)
 
 pub returns : goal.returns

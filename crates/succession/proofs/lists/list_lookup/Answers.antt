@@ -22,10 +22,12 @@ module _ (start : Start) where
 
 pub returns-then-before : goal.returns-then-before
 unfolding list_lookup
-returns-then-before c = let start : Start = search in
+returns-then-before c =
+    let start : Start = search in
     c.list_part.ensures ∙ ap (chosen start) (sym c.if-before.true)
 
 pub returns : goal.returns
 unfolding list_lookup
-returns c = let start : Start = search in
+returns c =
+    let start : Start = search in
     c.list_part-2.ensures ∙ ap (chosen start) (sym c.if-before.false)

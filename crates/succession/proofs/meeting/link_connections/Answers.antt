@@ -8,7 +8,8 @@ use Prim.Native.Nat.{◌-◌, ◌/◌}
 use Rattle.succession.proofs.meeting.link_connections.Goals as goal
 
 pub loop-j-init : goal.loop-j-init
-loop-j-init c = let junctions = c.args.junctions.now in
+loop-j-init c =
+    let junctions = c.args.junctions.now in
     let buckets = c.clear.auto.ws ∙ c.requires.connections_len_bound.3 in
     let empty : Empty c.clear.new.ws c.args.next.now =
     record { buckets = buckets; rows = c.requires.connections_len_bound.4; clear = c.clear.ensures } in (
@@ -24,7 +25,8 @@ pub overflow_sub-j : goal.overflow_sub-j
 overflow_sub-j c = omega arith
 
 pub link_part-requires : goal.link_part-requires
-link_part-requires c = let connections = c.args.connections.now in let junctions = c.args.junctions.now in
+link_part-requires c =
+    let connections = c.args.connections.now in let junctions = c.args.junctions.now in
     record {
       n_bound = (
         c.requires.connections_len_bound.0,
@@ -66,7 +68,8 @@ pub shape_of-next : goal.shape_of-next
 shape_of-next c = c.loop-j.invariant.2 ∙ sym c.requires.connections_len_bound.4
 
 pub returns : goal.returns
-returns c = let connections = c.args.connections.now in let junctions = c.args.junctions.now in
+returns c =
+    let connections = c.args.connections.now in let junctions = c.args.junctions.now in
     record {
       few = c.requires.connections_len_bound.0;
       few_junctions = c.requires.connections_len_bound.1;

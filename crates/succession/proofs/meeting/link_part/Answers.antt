@@ -100,7 +100,8 @@ pub shape_of-next : goal.shape_of-next
 shape_of-next c = c.loop-c.invariant.3
 
 pub returns : goal.returns
-returns c = let junctions = c.args.junctions.now in let n = c.args.n in
+returns c =
+    let junctions = c.args.junctions.now in let n = c.args.n in
     subst (λ (x : ℕ).
     Chained (connection_hash junctions c.args.sides.now n) (n - x) c.loop-c.heads
     c.loop-c.next) (let e : c.loop-c.c ≡ first_of junctions c.args.j =

@@ -17,7 +17,8 @@ loop-i-init c = (
 )
 
 pub overflow_mul-i : goal.overflow_mul-i
-overflow_mul-i c = let roads = c.args.roads.now in
+overflow_mul-i c =
+    let roads = c.args.roads.now in
     omega (
       arith,
       row_in (length roads / 20) 20 19 c.loop-i.i (length roads)
@@ -26,7 +27,8 @@ overflow_mul-i c = let roads = c.args.roads.now in
     )
 
 pub overflow_add-i : goal.overflow_add-i
-overflow_add-i c = let roads = c.args.roads.now in
+overflow_add-i c =
+    let roads = c.args.roads.now in
     omega (
       arith,
       row_in (length roads / 20) 20 19 c.loop-i.i (length roads)
@@ -35,7 +37,8 @@ overflow_add-i c = let roads = c.args.roads.now in
     )
 
 pub target_row-start-requires : goal.target_row-start-requires
-target_row-start-requires c = let roads = c.args.roads.now in
+target_row-start-requires c =
+    let roads = c.args.roads.now in
     record {
       roads_len_bound = (
         c.requires.roads_len_bound.0,
@@ -54,7 +57,8 @@ target_row-start-requires c = let roads = c.args.roads.now in
     }
 
 pub overflow_mul-i-in-loop-i : goal.overflow_mul-i-in-loop-i
-overflow_mul-i-in-loop-i c = let roads = c.args.roads.now in
+overflow_mul-i-in-loop-i c =
+    let roads = c.args.roads.now in
     omega (
       arith,
       row_in (length roads / 20) 20 19 c.loop-i.i (length roads)
@@ -63,7 +67,8 @@ overflow_mul-i-in-loop-i c = let roads = c.args.roads.now in
     )
 
 pub overflow_add-i-in-loop-i : goal.overflow_add-i-in-loop-i
-overflow_add-i-in-loop-i c = let roads = c.args.roads.now in
+overflow_add-i-in-loop-i c =
+    let roads = c.args.roads.now in
     omega (
       arith,
       row_in (length roads / 20) 20 19 c.loop-i.i (length roads)
@@ -72,7 +77,8 @@ overflow_add-i-in-loop-i c = let roads = c.args.roads.now in
     )
 
 pub target_row-end-requires : goal.target_row-end-requires
-target_row-end-requires c = let roads = c.args.roads.now in
+target_row-end-requires c =
+    let roads = c.args.roads.now in
     record {
       roads_len_bound = (
         c.requires.roads_len_bound.0,
@@ -111,7 +117,8 @@ pub loop-i-smaller : goal.loop-i-smaller
 loop-i-smaller c = omega (arith, c.loop-i-test.true)
 
 pub loop-i-preserved : goal.loop-i-preserved
-loop-i-preserved c = let l = c.loop-i in
+loop-i-preserved c =
+    let l = c.loop-i in
     let fits : l.i * 2 + 1 < length l.ends =
     omega (arith, l.invariant.1, l.invariant.2, c.loop-i-test.true, c.requires.roads_len_bound.0) in (
       omega (arith, c.loop-i-test.true),
@@ -129,7 +136,8 @@ pub shape_of-ends : goal.shape_of-ends
 shape_of-ends c = omega (arith, c.loop-i.invariant.2, c.requires.roads_len_bound.3)
 
 pub returns : goal.returns
-returns c = let roads = c.args.roads.now in
+returns c =
+    let roads = c.args.roads.now in
     let l = c.loop-i in
     let past : l.i ≡ length roads / 20 = omega (arith, l.invariant.0, l.invariant.1, c.loop-i-test.false) in
     subst (λ (k : ℕ). Ended c.args.text.now roads c.args.junctions.now k l.ends) past

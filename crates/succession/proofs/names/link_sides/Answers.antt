@@ -18,7 +18,8 @@ loop-i-init c = (
 )
 
 pub overflow_mul-i : goal.overflow_mul-i
-overflow_mul-i c = let connections = c.args.connections.now in
+overflow_mul-i c =
+    let connections = c.args.connections.now in
     omega (
       arith,
       row_in (length connections / 7) 7 6 c.loop-i.i (length connections)
@@ -27,7 +28,8 @@ overflow_mul-i c = let connections = c.args.connections.now in
     )
 
 pub row_named-incoming-requires : goal.row_named-incoming-requires
-row_named-incoming-requires c = let connections = c.args.connections.now in
+row_named-incoming-requires c =
+    let connections = c.args.connections.now in
     record {
       lt_w = (
         omega arith,
@@ -46,7 +48,8 @@ row_named-incoming-requires c = let connections = c.args.connections.now in
     }
 
 pub overflow_mul-i-in-loop-i : goal.overflow_mul-i-in-loop-i
-overflow_mul-i-in-loop-i c = let connections = c.args.connections.now in
+overflow_mul-i-in-loop-i c =
+    let connections = c.args.connections.now in
     omega (
       arith,
       row_in (length connections / 7) 7 6 c.loop-i.i (length connections)
@@ -55,7 +58,8 @@ overflow_mul-i-in-loop-i c = let connections = c.args.connections.now in
     )
 
 pub overflow_add-i : goal.overflow_add-i
-overflow_add-i c = let connections = c.args.connections.now in
+overflow_add-i c =
+    let connections = c.args.connections.now in
     omega (
       arith,
       row_in (length connections / 7) 7 6 c.loop-i.i (length connections)
@@ -64,7 +68,8 @@ overflow_add-i c = let connections = c.args.connections.now in
     )
 
 pub row_named-connecting-requires : goal.row_named-connecting-requires
-row_named-connecting-requires c = let connections = c.args.connections.now in
+row_named-connecting-requires c =
+    let connections = c.args.connections.now in
     record {
       lt_w = (
         omega arith,
@@ -104,7 +109,8 @@ loop-i-smaller c = omega (arith, c.loop-i-test.true)
 
 pub loop-i-preserved : goal.loop-i-preserved
 unfolding road_row_of
-loop-i-preserved c = let l = c.loop-i in
+loop-i-preserved c =
+    let l = c.loop-i in
     let fits : l.i * 2 + 1 < length l.sides =
     omega (arith, l.invariant.1, l.invariant.2, c.loop-i-test.true, c.requires.roads_len_bound.3) in (
       omega (arith, c.loop-i-test.true),
@@ -122,7 +128,8 @@ pub shape_of-sides : goal.shape_of-sides
 shape_of-sides c = omega (arith, c.loop-i.invariant.2, c.requires.roads_len_bound.4)
 
 pub returns : goal.returns
-returns c = let connections = c.args.connections.now in
+returns c =
+    let connections = c.args.connections.now in
     let l = c.loop-i in
     let past : l.i ≡ length connections / 7 = omega (arith, l.invariant.0, l.invariant.1, c.loop-i-test.false) in
     subst (λ (k : ℕ). Sided c.args.text.now c.args.roads.now connections k l.sides) past

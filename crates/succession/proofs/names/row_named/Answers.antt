@@ -24,7 +24,8 @@ find_name-requires c = record {
 }
 
 pub returns : goal.returns
-returns c = let ws = c.args.ws.now in let w = c.args.w in let text = c.args.text.now in
+returns c =
+    let ws = c.args.ws.now in let w = c.args.w in let text = c.args.text.now in
     let table = c.args.table.now in let at = c.args.at in
     let e : c.find_name.result ≡ last_of (length ws / w) (bears text w 0 ws (name_from table at)) =
     c.find_name.ensures

@@ -83,7 +83,8 @@ pub slice_bounds-successors_of-start : goal.slice_bounds-successors_of-start
 slice_bounds-successors_of-start c = let turn : In-loop-i = search in omega (arith, room turn)
 
 pub successors_of-at-requires : goal.successors_of-at-requires
-successors_of-at-requires c = let turn : In-loop-i = search in
+successors_of-at-requires c =
+    let turn : In-loop-i = search in
     let start = begun turn in
     let loop = (head turn).loop-i in
     let inside : loop.at ≤ length loop.own = omega (arith, room turn) in
@@ -95,19 +96,22 @@ successors_of-at-requires c = let turn : In-loop-i = search in
     }
 
 pub overflow_add-at : goal.overflow_add-at
-overflow_add-at c = let turn : In-loop-i = search in
+overflow_add-at c =
+    let turn : In-loop-i = search in
     let most = successors_most (walk (begun turn)) (i turn) in
     omega (arith, few turn, c.successors_of-at.ensures.size, most)
 
 pub overflow_add-i : goal.overflow_add-i
-overflow_add-i c = let turn : In-loop-i = search in
+overflow_add-i c =
+    let turn : In-loop-i = search in
     omega (arith, turn.loop-i-test.true, (begun turn).requires.sound.few)
 
 pub loop-i-smaller : goal.loop-i-smaller
 loop-i-smaller c = omega (arith, c.loop-i-test.true)
 
 pub loop-i-preserved : goal.loop-i-preserved
-loop-i-preserved c = let turn : In-loop-i = search in
+loop-i-preserved c =
+    let turn : In-loop-i = search in
     let start = begun turn in
     let loop = (head turn).loop-i in
     let inv = loop.invariant in
@@ -146,14 +150,16 @@ pub bounds-offsets-n : goal.bounds-offsets-n
 bounds-offsets-n c = omega (arith, c.loop-i.invariant.2, c.requires.room.0)
 
 pub shape_of-offsets : goal.shape_of-offsets
-shape_of-offsets c = let start : Start = search in
+shape_of-offsets c =
+    let start : Start = search in
     length-set c.loop-i.offsets (rows start) c.loop-i.at ∙ c.loop-i.invariant.2
 
 pub shape_of-own : goal.shape_of-own
 shape_of-own c = c.loop-i.invariant.4
 
 pub returns : goal.returns
-returns c = let start : Start = search in
+returns c =
+    let start : Start = search in
     let inv = c.loop-i.invariant in
     let n = rows start in
     let past : c.loop-i.i ≡ n = omega (arith, inv.0, c.loop-i-test.false) in

@@ -5,13 +5,15 @@ use Rattle.succession.specs.ByRow.{sections_by_row}
 use Rattle.succession.proofs.sections.end_section.Goals as goal
 
 pub returns-then-contact-eq1 : goal.returns-then-contact-eq1
-returns-then-contact-eq1 c = let s = c.args in
+returns-then-contact-eq1 c =
+    let s = c.args in
     c.last_section.ensures
     ∙ ap (end_section (sections_by_row s.roads.now s.sections.now s.road))
     (sym (eq-eqb s.contact 1 c.if-contact-eq1.true))
 
 pub returns : goal.returns
-returns c = let s = c.args in
+returns c =
+    let s = c.args in
     c.first_section.ensures
     ∙ ap (end_section (sections_by_row s.roads.now s.sections.now s.road))
     (sym (ne_eqb s.contact 1 c.if-contact-eq1.false))

@@ -17,14 +17,16 @@ pub sections_of-part-requires : goal.sections_of-part-requires
 sections_of-part-requires c = (omega arith, c.requires.1.parts (c.args.road - 1) (omega arith))
 
 pub returns-then-part-eq0 : goal.returns-then-part-eq0
-returns-then-part-eq0 c = let s = c.args in
+returns-then-part-eq0 c =
+    let s = c.args in
     ends_none c.sections_of-part.result.now true c.if-part-eq0.true
     ∙ ap (λ (l : List ℕ). end_section l true)
     (c.sections_of-part.ensures
     ∙ sym (by_row s.roads.now s.sections.now s.road c.if-road-eq0.false))
 
 pub returns : goal.returns
-returns c = let s = c.args in
+returns c =
+    let s = c.args in
     (ends_last c.sections_of-part.result.now (omega arith))
     ∙ ap (λ (l : List ℕ). end_section l true)
     (c.sections_of-part.ensures

@@ -6,7 +6,8 @@ use Rattle.model.specs.Rows.{part}
 use Rattle.succession.proofs.sections.sections_of.Goals as goal
 
 pub returns : goal.returns
-returns c = let s = c.args in
+returns c =
+    let s = c.args in
     let a = c.word-first.result in
     let e : a + c.word-count.result - a ≡ c.word-count.result = omega arith in
     ap (λ (k : ℕ). take k (drop a s.sections.now)) e

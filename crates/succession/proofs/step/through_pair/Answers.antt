@@ -8,7 +8,8 @@ use Rattle.succession.proofs.Absorbed.{pair_leads, pair_other, took_none}
 use Rattle.succession.proofs.step.through_pair.Goals as goal
 
 pub returns-then-pairs-p : goal.returns-then-pairs-p
-returns-then-pairs-p c = let both = c.args.both in let n = c.args.n in let run = c.args.run.now in
+returns-then-pairs-p c =
+    let both = c.args.both in let n = c.args.n in let run = c.args.run.now in
     subst (λ (es : List Entry). Took both n es run run n)
     (sym (pair_other c.args.pairs.now c.args.lanes.now c.args.owner.now
     c.args.road c.args.section (flag c.args.contact) c.args.k c.args.p

@@ -9,7 +9,8 @@ use Rattle.succession.proofs.Turns.{step_leads, step_none}
 use Rattle.succession.proofs.step.within_road.Goals as goal
 
 pub returns-then-lanes-link-ne1 : goal.returns-then-lanes-link-ne1
-returns-then-lanes-link-ne1 c = let both = c.args.both in let n = c.args.n in let run = c.args.run.now in
+returns-then-lanes-link-ne1 c =
+    let both = c.args.both in let n = c.args.n in let run = c.args.run.now in
     subst (λ (es : List Entry). Took both n es run run n)
     (sym (step_none c.args.lanes.now c.args.owner.now c.args.l c.args.s
     c.args.link (flag c.args.contact) c.if-lanes-link-ne1.true))

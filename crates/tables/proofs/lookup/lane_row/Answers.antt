@@ -9,7 +9,8 @@ use Rattle.tables.specs.Found.{row_found}
 use Rattle.tables.proofs.lookup.lane_row.Goals as goal
 
 pub row_found-requires : goal.row_found-requires
-row_found-requires c = let lanes = c.args.lanes.now in
+row_found-requires c =
+    let lanes = c.args.lanes.now in
     let in_table = last_le (length lanes / 10) (is_id lanes c.args.id.0) in
     omega (arith, in_table, c.find_id-f.ensures, c.requires.lanes_len_bound.0)
 

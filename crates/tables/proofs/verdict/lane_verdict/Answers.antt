@@ -146,7 +146,8 @@ keys_are linked =
     ∙ ap not (sym linked.link_keys.ensures.value)
 
 pub returns-then-not-admitted : goal.returns-then-not-admitted
-returns-then-not-admitted c = let tried : After-admitted = search in
+returns-then-not-admitted c =
+    let tried : After-admitted = search in
     let barred = is_some_lem _ (sym tried.admitted.ensures ∙ not-true _ c.if-not-admitted.true-raw) in
     record {
       result_value = first_stays (to_5 (start tried)) (lane_rules _) _ barred (first tried);
@@ -158,7 +159,8 @@ identities_once-requires c = lanes_few (search)
 
 pub returns-then-not-identities_once : goal.returns-then-not-identities_once
 unfolding lane_rules
-returns-then-not-identities_once c = let past : Else-not-admitted = search in
+returns-then-not-identities_once c =
+    let past : Else-not-admitted = search in
     let twice = identities_once_lem _ ∙ sym c.identities_once.ensures ∙ not-true _ c.if-not-identities_once.true-raw in
     record {
       result_value = later past (broken_at 0 (from_6 past) tt twice);
@@ -166,7 +168,8 @@ returns-then-not-identities_once c = let past : Else-not-admitted = search in
     }
 
 pub lanes_listed-requires : goal.lanes_listed-requires
-lanes_listed-requires c = let past : Else-not-admitted = search in
+lanes_listed-requires c =
+    let past : Else-not-admitted = search in
     let judged-map = judged (tried past) in
     let empty = names_empty (begun past) in
     record {
@@ -184,7 +187,8 @@ lanes_listed-requires c = let past : Else-not-admitted = search in
 
 pub returns-then-not-lanes_listed : goal.returns-then-not-lanes_listed
 unfolding lane_rules
-returns-then-not-lanes_listed c = let past : Else-not-admitted = search in
+returns-then-not-lanes_listed c =
+    let past : Else-not-admitted = search in
     let unlisted = lanes_listed_lem _ _ _ _ ∙ sym c.lanes_listed.ensures.value
     ∙ not-true _ c.if-not-lanes_listed.true-raw in
     record {
@@ -193,7 +197,8 @@ returns-then-not-lanes_listed c = let past : Else-not-admitted = search in
     }
 
 pub link_keys-requires : goal.link_keys-requires
-link_keys-requires c = let past : Else-not-admitted = search in
+link_keys-requires c =
+    let past : Else-not-admitted = search in
     record {
       n_in_bounds = (
         rows_in (length (tables (begun past)).lanes) 10,
@@ -205,7 +210,8 @@ link_keys-requires c = let past : Else-not-admitted = search in
 
 pub returns-then-link_keys : goal.returns-then-link_keys
 unfolding lane_rules
-returns-then-link_keys c = let past : Else-not-admitted = search in
+returns-then-link_keys c =
+    let past : Else-not-admitted = search in
     let twice = keys_are (search) ∙ ap not c.if-link_keys.true in
     record {
       result_value = later past (broken_at 2 (from_6 past) (identified (search), (listed (search), tt)) twice);
@@ -214,7 +220,8 @@ returns-then-link_keys c = let past : Else-not-admitted = search in
 
 pub returns : goal.returns
 unfolding lane_rules
-returns c = let past : Else-not-admitted = search in
+returns c =
+    let past : Else-not-admitted = search in
     let all_listed : Else-not-lanes_listed = search in
     let linked : After-link_keys = search in
     let single = keys_are linked ∙ ap not c.if-link_keys.false in

@@ -77,7 +77,8 @@ sections_fit_lem past =
 -- ---- the answers
 pub returns-then-not-sizes : goal.returns-then-not-sizes
 unfolding rules_to5
-returns-then-not-sizes c = let start : Start = search in
+returns-then-not-sizes c =
+    let start : Start = search in
     record {
       result_value = broken_at 0 (rule_list start) tt (not-true _ c.if-not-sizes.true-raw);
       chained = refused 1;
@@ -98,7 +99,8 @@ link_names-requires c = record {
 
 pub returns-then-link_names : goal.returns-then-link_names
 unfolding rules_to5
-returns-then-link_names c = let twice = once_is (search) ∙ ap not c.if-link_names.true in
+returns-then-link_names c =
+    let twice = once_is (search) ∙ ap not c.if-link_names.true in
     record {
       result_value = broken_at 2 (rule_list (start (search))) (sized (search), (worded (search), tt)) twice;
       chained = refused 3;
@@ -109,7 +111,8 @@ sections_fit-requires c = (few (search)).few_sections
 
 pub returns-then-not-sections_fit : goal.returns-then-not-sections_fit
 unfolding rules_to5
-returns-then-not-sections_fit c = let unfit = sym c.sections_fit.ensures ∙ not-true _ c.if-not-sections_fit.true-raw in
+returns-then-not-sections_fit c =
+    let unfit = sym c.sections_fit.ensures ∙ not-true _ c.if-not-sections_fit.true-raw in
     record {
       result_value =
           broken_at 3 (rule_list (start (search))) (sized (search), (worded (search), (once (search), tt))) unfit;
@@ -131,7 +134,8 @@ returns-then-not-connections_fit c =
 
 pub returns : goal.returns
 unfolding rules_to5
-returns c = let connections-fit = sym c.connections_fit.ensures ∙ not-false _ c.if-not-connections_fit.false-raw in
+returns c =
+    let connections-fit = sym c.connections_fit.ensures ∙ not-false _ c.if-not-connections_fit.false-raw in
     record {
       result_value = sym (pass_all (rule_list (start (search)))
           (sized (search), (worded (search), (once (search), (sections_fit_lem (search), (connections-fit, tt))))));

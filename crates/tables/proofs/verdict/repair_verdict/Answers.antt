@@ -26,7 +26,8 @@ module _ (sized : After-map_sized-sizes) where
       start.args.junctions.now start.args.connections.now start.args.pairs.now
 
 pub map_verdict-requires : goal.map_verdict-requires
-map_verdict-requires c = let sized : After-map_sized-sizes = search in
+map_verdict-requires c =
+    let sized : After-map_sized-sizes = search in
     record {
       few = λ passes. few 8192 (tables sized) (omega arith) (sym sized.map_sized-sizes.ensures ∙ passes);
       empty = (start sized).requires.empty;
@@ -34,7 +35,8 @@ map_verdict-requires c = let sized : After-map_sized-sizes = search in
 
 pub returns : goal.returns
 unfolding repair_rules map_worded
-returns c = let sized : After-map_sized-sizes = search in
+returns c =
+    let sized : After-map_sized-sizes = search in
     record {
       result_value = c.map_verdict.ensures.result_value
           ∙ ap₂ (λ sizes words. first_broken (rules_to5 sizes words (tables sized)))

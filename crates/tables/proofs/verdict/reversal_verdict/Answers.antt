@@ -197,7 +197,8 @@ ends_are tested =
     tested.one_ended.ensures ∙ sym (one_ended_lem _ _ _ _ _ _ _ (kept past).once (one_each (search)))
 
 pub table_verdict-first-requires : goal.table_verdict-first-requires
-table_verdict-first-requires c = let asked : After-both-sizes = search in
+table_verdict-first-requires c =
+    let asked : After-both-sizes = search in
     let sized : After-map_sized = search in
     let t = tables sized in
     let said : asked.both-sizes.result ≡ true → (map_sized 16384 t && lanes_sized t) ≡ true =
@@ -211,7 +212,8 @@ table_verdict-first-requires c = let asked : After-both-sizes = search in
 
 pub returns-then-not-admitted : goal.returns-then-not-admitted
 unfolding reversal_rules
-returns-then-not-admitted c = let tried : After-admitted = search in
+returns-then-not-admitted c =
+    let tried : After-admitted = search in
     let barred = is_some_lem _ (sym tried.admitted.ensures ∙ not-true _ c.if-not-admitted.true-raw) in
     record {
       result_value = first_stays (table_rules (t tried)) (from_12 tried) _ barred (first tried);
@@ -220,7 +222,8 @@ returns-then-not-admitted c = let tried : After-admitted = search in
 
 pub returns-then-not-marks_fit : goal.returns-then-not-marks_fit
 unfolding mark_rules marks_fit
-returns-then-not-marks_fit c = let past : Else-not-admitted = search in
+returns-then-not-marks_fit c =
+    let past : Else-not-admitted = search in
     let unfit = sym c.marks_fit.ensures ∙ not-true _ c.if-not-marks_fit.true-raw in
     record {
       result_value = later past (broken_at 0 (from_12 (tried past)) tt unfit);
@@ -229,7 +232,8 @@ returns-then-not-marks_fit c = let past : Else-not-admitted = search in
 
 pub returns-then-not-both : goal.returns-then-not-both
 unfolding mark_rules
-returns-then-not-both c = let past : Else-not-admitted = search in
+returns-then-not-both c =
+    let past : Else-not-admitted = search in
     let least = sym (numbers_are (search)) ∙ not-true _ c.if-not-both.true-raw in
     record {
       result_value = later past (broken_at 1 (from_12 (tried past)) (marks_fit_lem (search), tt) least);
@@ -237,12 +241,14 @@ returns-then-not-both c = let past : Else-not-admitted = search in
     }
 
 pub one_ended-requires : goal.one_ended-requires
-one_ended-requires c = let past : Else-not-admitted = search in
+one_ended-requires c =
+    let past : Else-not-admitted = search in
     (one_each (search), few_junctions (there past) (left_on _ (edges_sized (there past)) (kept past).sized))
 
 pub returns-then-not-one_ended : goal.returns-then-not-one_ended
 unfolding mark_rules
-returns-then-not-one_ended c = let past : Else-not-admitted = search in
+returns-then-not-one_ended c =
+    let past : Else-not-admitted = search in
     let two-ended = sym (ends_are (search)) ∙ not-true _ c.if-not-one_ended.true-raw in
     record {
       result_value = later past
@@ -252,7 +258,8 @@ returns-then-not-one_ended c = let past : Else-not-admitted = search in
 
 pub returns : goal.returns
 unfolding mark_rules
-returns c = let past : Else-not-admitted = search in
+returns c =
+    let past : Else-not-admitted = search in
     let single = sym (ends_are (search)) ∙ not-false _ c.if-not-one_ended.false-raw in
     record {
       result_value = later past

@@ -61,7 +61,8 @@ words_are asked =
     both_is asked.both-words.ensures map-worded.map_worded.ensures lanes-worded.lanes_worded.ensures
 
 pub lane_verdict-requires : goal.lane_verdict-requires
-lane_verdict-requires c = let asked : After-both-sizes = search in
+lane_verdict-requires c =
+    let asked : After-both-sizes = search in
     let sized : After-map_sized = search in
     let t = tables sized in
     let said = sym (sizes_are asked) in
@@ -74,7 +75,8 @@ lane_verdict-requires c = let asked : After-both-sizes = search in
 
 pub returns : goal.returns
 unfolding succession_rules
-returns c = let sized : After-map_sized = search in
+returns c =
+    let sized : After-map_sized = search in
     let t = tables sized in
     record {
       result_value = c.lane_verdict.ensures.result_value

@@ -84,7 +84,8 @@ module _ (past : Else-not-admitted) where
   later = then_first (to_8 begun) (last begun) (sym admitted ∙ first tried)
 
 pub returns-then-not-admitted : goal.returns-then-not-admitted
-returns-then-not-admitted c = let tried : After-admitted = search in
+returns-then-not-admitted c =
+    let tried : After-admitted = search in
     let barred = is_some_lem _ (sym tried.admitted.ensures ∙ not-true _ c.if-not-admitted.true-raw) in
     record {
       result_value = first_stays (to_8 (start tried)) (last (start tried)) _ barred (first tried);
@@ -96,7 +97,8 @@ edges_fit-requires c = lanes_few (search)
 
 pub returns-then-not-edges_fit : goal.returns-then-not-edges_fit
 unfolding edges_even
-returns-then-not-edges_fit c = let past : Else-not-admitted = search in
+returns-then-not-edges_fit c =
+    let past : Else-not-admitted = search in
     let uneven = sym c.edges_fit.ensures ∙ not-true _ c.if-not-edges_fit.true-raw in
     record {
       result_value = later past (broken_at 0 (last (begun past)) tt uneven);
@@ -105,7 +107,8 @@ returns-then-not-edges_fit c = let past : Else-not-admitted = search in
 
 pub returns : goal.returns
 unfolding edges_even
-returns c = let past : Else-not-admitted = search in
+returns c =
+    let past : Else-not-admitted = search in
     let even = sym c.edges_fit.ensures ∙ not-false _ c.if-not-edges_fit.false-raw in
     record {
       result_value = later past (sym (pass_all (last (begun past)) (even, tt)));

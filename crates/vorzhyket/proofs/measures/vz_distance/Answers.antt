@@ -6,7 +6,8 @@ use Rattle.vorzhyket.specs.Exported.{exported_closest}
 use Rattle.vorzhyket.proofs.measures.vz_distance.Goals as goal
 
 pub returns : goal.returns
-returns c = let p = c.point_at-p.ensures in
+returns c =
+    let p = c.point_at-p.ensures in
     let q = c.point_at-q.ensures in
     let r = c.point_at-r.ensures in
     let s = c.point_at-s.ensures in

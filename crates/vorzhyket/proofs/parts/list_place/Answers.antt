@@ -38,11 +38,13 @@ unfolding list_place
 returns-then-list-eq0 c = place_empty _ (ap length c.list_part-list.ensures) c.if-list-eq0.true
 
 pub bounds-offsets-at : goal.bounds-offsets-at
-bounds-offsets-at c = let full : Else-list-eq0 = search in
+bounds-offsets-at c =
+    let full : Else-list-eq0 = search in
     omega (arith, (long full).0)
 
 pub overflow_cast-result : goal.overflow_cast-result
-overflow_cast-result c = let full : Else-list-eq0 = search in
+overflow_cast-result c =
+    let full : Else-list-eq0 = search in
     let size = ap length c.list_part-list.ensures in
     omega (arith, (long full).1, c.type_inv.offsets (suc c.args.row))
 

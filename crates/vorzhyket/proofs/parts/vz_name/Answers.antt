@@ -7,7 +7,8 @@ use Rattle.vorzhyket.proofs.PlaceLaws.{name_long, place_empty, place_full}
 use Rattle.vorzhyket.proofs.parts.vz_name.Goals as goal
 
 pub overflow_cast-part : goal.overflow_cast-part
-overflow_cast-part c = let bytes = ap length c.name_part-bytes.ensures in
+overflow_cast-part c =
+    let bytes = ap length c.name_part-bytes.ensures in
     omega (arith, name_long c.args.text.now c.args.start c.args.length)
 
 pub returns-then-bytes-eq0 : goal.returns-then-bytes-eq0

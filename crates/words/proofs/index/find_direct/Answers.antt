@@ -41,15 +41,18 @@ module _ (start : Start) where
   chained = start.requires.chained
 
 pub bucket-requires : goal.bucket-requires
-bucket-requires c = let start : Start = search in
+bucket-requires c =
+    let start : Start = search in
     (start_small start, size_small start)
 
 pub word-at-requires : goal.word-at-requires
-word-at-requires c = let start : Start = search in
+word-at-requires c =
+    let start : Start = search in
     omega (arith, c.bucket.ensures.1, buckets start)
 
 pub loop-at-init : goal.loop-at-init
-loop-at-init c = let start : Start = search in
+loop-at-init c =
+    let start : Start = search in
     look_begin (chained start) (only_direct _ _ _) c.bucket.ensures.0
     (omega (arith, c.bucket.ensures.1, buckets start)) c.word-at.ensures.0
 
@@ -57,7 +60,8 @@ pub overflow_sub-r : goal.overflow_sub-r
 overflow_sub-r c = omega arith
 
 pub is_direct-requires : goal.is_direct-requires
-is_direct-requires c = let start : Start = search in
+is_direct-requires c =
+    let start : Start = search in
     let row : c.loop-at.at - 1 < start.args.n = look_row c.loop-at.invariant c.loop-at-test.true in (
       omega (arith, row, few start),
       omega (arith, row_in _ 5 4 _ _ row (rows_inside start) (omega arith)),
@@ -70,7 +74,8 @@ returns-then-is_direct c =
     look_hit c.loop-at.invariant c.loop-at-test.true (sym c.is_direct.ensures ∙ c.if-is_direct.true)
 
 pub word-at-requires-in-loop-at : goal.word-at-requires-in-loop-at
-word-at-requires-in-loop-at c = let start : Start = search in
+word-at-requires-in-loop-at c =
+    let start : Start = search in
     omega (arith, look_row c.loop-at.invariant c.loop-at-test.true, links start)
 
 pub loop-at-smaller : goal.loop-at-smaller

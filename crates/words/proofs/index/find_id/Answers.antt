@@ -58,11 +58,13 @@ pub overflow_cast-id : goal.overflow_cast-id
 overflow_cast-id c = omega arith
 
 pub word-at-requires : goal.word-at-requires
-word-at-requires c = let start : Start = search in
+word-at-requires c =
+    let start : Start = search in
     omega (arith, buckets start)
 
 pub loop-at-init : goal.loop-at-init
-loop-at-init c = let start : Start = search in
+loop-at-init c =
+    let start : Start = search in
     look_begin (chained start) (only_id _ _) refl (omega (arith, buckets start)) c.word-at.ensures.0
 
 pub overflow_sub-r : goal.overflow_sub-r
@@ -79,7 +81,8 @@ unfolding is_id
 returns-then-lanes-r c = look_hit c.loop-at.invariant c.loop-at-test.true (eq-eqb _ _ c.if-lanes-r.true)
 
 pub word-at-requires-in-loop-at : goal.word-at-requires-in-loop-at
-word-at-requires-in-loop-at c = let start : Start = search in
+word-at-requires-in-loop-at c =
+    let start : Start = search in
     omega (arith, look_row c.loop-at.invariant c.loop-at-test.true, links start)
 
 pub loop-at-smaller : goal.loop-at-smaller

@@ -41,15 +41,18 @@ module _ (start : Start) where
   chained = start.requires.chained
 
 pub key_bucket-requires : goal.key_bucket-requires
-key_bucket-requires c = let start : Start = search in
+key_bucket-requires c =
+    let start : Start = search in
     road_small start
 
 pub word-at-requires : goal.word-at-requires
-word-at-requires c = let start : Start = search in
+word-at-requires c =
+    let start : Start = search in
     omega (arith, c.key_bucket.ensures.1, buckets start)
 
 pub loop-at-init : goal.loop-at-init
-loop-at-init c = let start : Start = search in
+loop-at-init c =
+    let start : Start = search in
     look_begin (chained start) (only_key _ _ _ _ _) c.key_bucket.ensures.0
     (omega (arith, c.key_bucket.ensures.1, buckets start)) c.word-at.ensures.0
 
@@ -57,7 +60,8 @@ pub overflow_sub-r : goal.overflow_sub-r
 overflow_sub-r c = omega arith
 
 pub has_key-requires : goal.has_key-requires
-has_key-requires c = let start : Start = search in
+has_key-requires c =
+    let start : Start = search in
     let row : c.loop-at.at - 1 < start.args.n = look_row c.loop-at.invariant c.loop-at-test.true in (
       omega (arith, row, few start),
       omega (arith, row_in _ 10 9 _ _ row (rows_inside start) (omega arith)),
@@ -68,7 +72,8 @@ pub returns-then-has_key : goal.returns-then-has_key
 returns-then-has_key c = look_hit c.loop-at.invariant c.loop-at-test.true (sym c.has_key.ensures ∙ c.if-has_key.true)
 
 pub word-at-requires-in-loop-at : goal.word-at-requires-in-loop-at
-word-at-requires-in-loop-at c = let start : Start = search in
+word-at-requires-in-loop-at c =
+    let start : Start = search in
     omega (arith, look_row c.loop-at.invariant c.loop-at-test.true, links start)
 
 pub loop-at-smaller : goal.loop-at-smaller

@@ -64,15 +64,18 @@ module _ (turn : In-loop-last) where
       (name_inside start)
 
 pub bucket-requires : goal.bucket-requires
-bucket-requires c = let start : Start = search in
+bucket-requires c =
+    let start : Start = search in
     (start_small start, size_small start)
 
 pub word-last-requires : goal.word-last-requires
-word-last-requires c = let start : Start = search in
+word-last-requires c =
+    let start : Start = search in
     omega (arith, c.bucket.ensures.1, buckets start)
 
 pub loop-last-init : goal.loop-last-init
-loop-last-init c = let start : Start = search in
+loop-last-init c =
+    let start : Start = search in
     look_begin (chained start) (only_name _ _ _ _ _) c.bucket.ensures.0
     (omega (arith, c.bucket.ensures.1, buckets start)) c.word-last.ensures.0
 
@@ -80,7 +83,8 @@ pub overflow_sub-r : goal.overflow_sub-r
 overflow_sub-r c = omega arith
 
 pub word-before-requires : goal.word-before-requires
-word-before-requires c = let start : Start = search in
+word-before-requires c =
+    let start : Start = search in
     omega (arith, look_row c.loop-last.invariant c.loop-last-test.true, links start)
 
 pub overflow_mul-r : goal.overflow_mul-r
@@ -90,7 +94,8 @@ pub overflow_add-r : goal.overflow_add-r
 overflow_add-r c = omega (arith, row_fits (search))
 
 pub named-requires : goal.named-requires
-named-requires c = let start : Start = search in
+named-requires c =
+    let start : Start = search in
     (omega (arith, row_fits (search)), start_small start, size_small start)
 
 pub returns-then-named : goal.returns-then-named

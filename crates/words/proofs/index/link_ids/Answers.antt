@@ -48,7 +48,8 @@ module _ (turn : In-loop-i) where
   row_fits = row_in _ 10 9 _ _ turn.loop-i-test.true (rows_inside start) (omega arith)
 
 pub loop-i-init : goal.loop-i-init
-loop-i-init c = let start : Start = search in
+loop-i-init c =
+    let start : Start = search in
     linking_none (empty start)
 
 pub overflow_mul-id : goal.overflow_mul-id
@@ -58,7 +59,8 @@ pub bounds-lanes-i : goal.bounds-lanes-i
 bounds-lanes-i c = omega (arith, row_fits (search))
 
 pub find_id-f-requires : goal.find_id-f-requires
-find_id-f-requires c = let start : Start = search in
+find_id-f-requires c =
+    let start : Start = search in
     let inv = c.loop-i.invariant in
     record {
       n_in_bounds =
@@ -70,7 +72,8 @@ pub overflow_cast-id : goal.overflow_cast-id
 overflow_cast-id c = omega arith
 
 pub link-requires : goal.link-requires
-link-requires c = let start : Start = search in
+link-requires c =
+    let start : Start = search in
     let inv = c.loop-i.invariant in (
       omega (arith, inv.buckets),
       omega (arith, few start, inv.rows, c.loop-i-test.true),
@@ -85,7 +88,8 @@ loop-i-smaller c = omega (arith, c.loop-i-test.true)
 
 pub loop-i-preserved : goal.loop-i-preserved
 unfolding id_hash id_before
-loop-i-preserved c = let start : Start = search in
+loop-i-preserved c =
+    let start : Start = search in
     linking_more c.loop-i.invariant _ c.loop-i-test.true (few start) c.met-twice.ensures
     c.find_id-f.ensures refl refl (omega arith) c.link.ensures.heads_after c.link.ensures.next_after
 
@@ -96,5 +100,6 @@ pub shape_of-next : goal.shape_of-next
 shape_of-next c = omega arith
 
 pub returns : goal.returns
-returns c = let made = all_linked c.loop-i.invariant (omega arith) in
+returns c =
+    let made = all_linked c.loop-i.invariant (omega arith) in
     record { value = made.0; chained = made.1 }

@@ -52,11 +52,13 @@ module _ (turn : In-loop-i) where
   row_fits = row_in _ 10 9 _ _ turn.loop-i-test.true (rows_inside start) (omega arith)
 
 pub loop-i-init : goal.loop-i-init
-loop-i-init c = let start : Start = search in
+loop-i-init c =
+    let start : Start = search in
     linking_none (empty start)
 
 pub word-road-requires : goal.word-road-requires
-word-road-requires c = let start : Start = search in
+word-road-requires c =
+    let start : Start = search in
     omega (arith, owners start, c.loop-i-test.true)
 
 pub overflow_mul-section : goal.overflow_mul-section
@@ -78,7 +80,8 @@ pub bounds-lanes-i-in-loop-i : goal.bounds-lanes-i-in-loop-i
 bounds-lanes-i-in-loop-i c = omega (arith, row_fits (search))
 
 pub find_key-f-requires : goal.find_key-f-requires
-find_key-f-requires c = let start : Start = search in
+find_key-f-requires c =
+    let start : Start = search in
     let inv = c.loop-i.invariant in
     record {
       n_in_bounds = (
@@ -96,7 +99,8 @@ pub key_bucket-h-requires : goal.key_bucket-h-requires
 key_bucket-h-requires c = c.word-road.ensures.1
 
 pub link-requires : goal.link-requires
-link-requires c = let start : Start = search in
+link-requires c =
+    let start : Start = search in
     let inv = c.loop-i.invariant in (
       omega (arith, c.key_bucket-h.ensures.1, inv.buckets),
       omega (arith, few start, inv.rows, c.loop-i-test.true),
@@ -111,7 +115,8 @@ loop-i-smaller c = omega (arith, c.loop-i-test.true)
 
 pub loop-i-preserved : goal.loop-i-preserved
 unfolding lane_hash key_before
-loop-i-preserved c = let start : Start = search in
+loop-i-preserved c =
+    let start : Start = search in
     let lanes = start.args.lanes.now in
     let owner = start.args.owner.now in
     let i = c.loop-i.i in
@@ -131,5 +136,6 @@ pub shape_of-next : goal.shape_of-next
 shape_of-next c = omega arith
 
 pub returns : goal.returns
-returns c = let made = all_linked c.loop-i.invariant (omega arith) in
+returns c =
+    let made = all_linked c.loop-i.invariant (omega arith) in
     record { value = made.0; chained = made.1 }

@@ -57,7 +57,8 @@ module _ (turn : In-loop-i) where
   row_fits = row_in _ _ _ _ _ turn.loop-i-test.true (rows_inside start) (name_inside start)
 
 pub loop-i-init : goal.loop-i-init
-loop-i-init c = let start : Start = search in
+loop-i-init c =
+    let start : Start = search in
     linking_none (empty start)
 
 pub overflow_mul-i : goal.overflow_mul-i
@@ -82,7 +83,8 @@ pub word-l-requires : goal.word-l-requires
 word-l-requires c = omega (arith, row_fits (search))
 
 pub find_name-f-requires : goal.find_name-f-requires
-find_name-f-requires c = let start : Start = search in
+find_name-f-requires c =
+    let start : Start = search in
     let inv = c.loop-i.invariant in
     record {
       w_bound = (
@@ -102,7 +104,8 @@ pub bucket-h-requires : goal.bucket-h-requires
 bucket-h-requires c = (c.word-s.ensures.1, c.word-l.ensures.1)
 
 pub link-requires : goal.link-requires
-link-requires c = let start : Start = search in
+link-requires c =
+    let start : Start = search in
     let inv = c.loop-i.invariant in (
       omega (arith, c.bucket-h.ensures.1, inv.buckets),
       omega (arith, few start, inv.rows, c.loop-i-test.true),
@@ -117,7 +120,8 @@ loop-i-smaller c = omega (arith, c.loop-i-test.true)
 
 pub loop-i-preserved : goal.loop-i-preserved
 unfolding name_hash name_before
-loop-i-preserved c = let start : Start = search in
+loop-i-preserved c =
+    let start : Start = search in
     let name_is = ap₂ span c.word-s.ensures.0 c.word-l.ensures.0 in
     let bucket-is = c.bucket-h.ensures.0 ∙ ap (hash_name _) name_is in
     let bearers : Span → ℕ → Bool =
@@ -133,5 +137,6 @@ pub shape_of-next : goal.shape_of-next
 shape_of-next c = omega arith
 
 pub returns : goal.returns
-returns c = let made = all_linked c.loop-i.invariant (omega arith) in
+returns c =
+    let made = all_linked c.loop-i.invariant (omega arith) in
     record { value = made.0; chained = made.1 }

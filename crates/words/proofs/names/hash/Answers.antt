@@ -25,7 +25,8 @@ pub loop-i-smaller : goal.loop-i-smaller
 loop-i-smaller c = omega arith
 
 pub loop-i-preserved : goal.loop-i-preserved
-loop-i-preserved c = let turned = hash_turn _ c.loop-i.i c.loop-i.h c.loop-i-test.true in
+loop-i-preserved c =
+    let turned = hash_turn _ c.loop-i.i c.loop-i.h c.loop-i-test.true in
     (omega arith, omega arith, turned ∙ c.loop-i.invariant.2)
 
 pub returns : goal.returns

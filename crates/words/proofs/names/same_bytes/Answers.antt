@@ -34,7 +34,8 @@ pub loop-i-preserved : goal.loop-i-preserved
 loop-i-preserved c = (omega arith, below_more _ _ c.loop-i.invariant.1 c.if-a-i.false)
 
 pub returns : goal.returns
-returns c = let a = c.args.a.now in
+returns c =
+    let a = c.args.a.now in
     let b = c.args.b.now in
     let past : c.loop-i.i ≡ length a = omega arith in
     sym (equal_on a b (ext_get_or 0 a b c.if-a-b.false (λ k h. c.loop-i.invariant.1 k (omega arith))))
