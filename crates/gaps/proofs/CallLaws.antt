@@ -8,12 +8,12 @@ use native.Mathlib.Omega.{arith}
 use lib.Dec.{eqb, leb}
 use lib.ListN.{length, take, take-append-drop}
 use borrow.Author.Tests.{eqb-true, leb-true, not-true}
+use Rattle.laws.proofs.RulesReversed.{unbroken_append}
 use Rattle.model.specs.Calls.{gap_rules, lane_rules, rules_to5}
 use Rattle.model.specs.Rules.{Rule, edges_even, edges_sized, first_broken, lanes_sized, lists_fit, lists_sized}
 use Rattle.model.specs.Rules.{map_sized}
 use Rattle.model.specs.Rules.{rule, sized}
 use Rattle.model.specs.Tables.{Tables}
-use Rattle.laws.proofs.RulesReversed.{unbroken_append}
 use Rattle.words.specs.Keys.{id_before}
 use Rattle.words.specs.Rows.{any}
 use Rattle.words.proofs.Scans.{left_on, right_on}

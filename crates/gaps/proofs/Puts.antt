@@ -1,55 +1,47 @@
--- Words put into an output if it is to be written.
-use Prim.Native.Nat.{ℕ, ◌+◌, ◌≤◌}
-use mathlib.Core.Path.{◌≡◌, refl, sym, ap, ap₂, ◌∙◌, subst}
-use mathlib.Core.List.{List, [], ◌++◌, append-nil}
-use mathlib.Core.Bool.{Bool, true, false}
-use native.Mathlib.Nat.{add-zero}
+-- Words put after words.
+use Prim.Native.Nat.{ℕ, ◌+◌, ◌-◌, ◌≤◌}
+use mathlib.Core.Path.{◌≡◌, sym, ap, ◌∙◌}
+use mathlib.Core.List.{List, [], ◌++◌, append-nil, append_assoc}
 use native.Mathlib.Omega.{arith}
-use lib.ListN.{length, take, drop, length-append, take-append-drop}
+use borrow.Rule.Slice.PartMut.{put_mid}
+use lib.ListN.{length, drop, take, length-append, length-drop, drop_of_length-le}
+use lib.Seq.{drop-drop, take_all}
 use Rattle.model.specs.Rows.{written}
 use Rattle.words.specs.Rows.{spliced}
-use Rattle.words.proofs.Laws.{put_all, spliced_twice}
-use Rattle.gaps.specs.Links.{Put, Room, put_if}
-
-pub put_none : (write : Bool) (at : ℕ) (out : List ℕ) → put_if write at [] out ≡ out
-unfolding put_if spliced
-put_none true at out =
-    ap₂ (λ (l : List ℕ) (k : ℕ). l ++ drop k out) (append-nil (take at out)) (add-zero at)
-    ∙ take-append-drop at out
-put_none false at out = refl
-
--- THE LAW OF EVERY WRITER, whether it writes or counts: words put after words
-pub put_twice : (write : Bool) (at : ℕ) (xs ys out : List ℕ)
-    → (write ≡ true → at + length (xs ++ ys) ≤ length out)
-    → put_if write (at + length xs) ys (put_if write at xs out) ≡ put_if write at (xs ++ ys) out
-unfolding put_if
-put_twice true at xs ys out room =
-    let fits = room refl in
-    let joined = length-append xs ys in
-    spliced_twice at xs ys out (omega arith)
-put_twice false at xs ys out room = refl
+use Rattle.words.proofs.Laws.{put_step, written_none}
+use Rattle.gaps.specs.Lent.{Put}
 
 -- nothing put yet
-pub put_nothing : {write : Bool} {at : ℕ} {out : List ℕ} → Put write at [] out out at
-put_nothing {write} {at} {out} = record { end_is = sym (add-zero at); words_are = sym (put_none write at out) }
+pub put_nothing : {out : List ℕ} → Put [] out out 0
+put_nothing {out} = record { count_is = omega arith; words_are = sym (written_none out) }
 
 -- a turn of a loop: xs were put, and now ys
-pub put_turn : {write : Bool} {at : ℕ} {xs ys all out₀ out after : List ℕ} {place end : ℕ}
-    → all ≡ xs ++ ys → Room write at all out₀ → Put write at xs out₀ out place → Put write place ys out after end
-    → Put write at all out₀ after end
-put_turn {write} {at} {xs} {ys} {all} {out₀} more room below now = record {
-  end_is = let joined = length-append xs ys in let longer = ap length more in
-      omega (arith, joined, longer, below.end_is, now.end_is);
-  words_are = now.words_are
-      ∙ ap₂ (λ (p : ℕ) (o : List ℕ). put_if write p ys o) below.end_is below.words_are
-      ∙ put_twice write at xs ys out₀ (λ w. subst (λ (l : List ℕ). at + length l ≤ length out₀) more (room w))
-      ∙ ap (λ (l : List ℕ). put_if write at l out₀) (sym more);
-}
+pub put_turn : (ys : List ℕ) {xs all out₀ out after : List ℕ} {count end : ℕ} → all ≡ xs ++ ys
+    → length all ≤ length out₀ → Put xs out₀ out count → after ≡ spliced count ys out → end ≡ count + length ys
+    → Put all out₀ after end
+put_turn ys {xs} {all} {out₀} more room below put longer =
+    let joined : length all ≡ length xs + length ys = ap length more ∙ length-append xs ys in
+    record {
+      count_is = omega (arith, joined, below.count_is);
+      words_are = put_step xs ys out₀ below.words_are put below.count_is more (omega (arith, joined, below.count_is));
+    }
 
-pub put_begin : (content out : List ℕ) → put_if true 0 content out ≡ written content out
-unfolding put_if
-put_begin content out = put_all content out
+-- ---- an output from word at on
+module _ (at : ℕ) (out : List ℕ) (within : at ≤ length out) where
+  abbrev tail : List ℕ
+  tail = take (length out - at) (drop at out)
 
-pub put_off : (at : ℕ) (content out : List ℕ) → put_if false at content out ≡ out
-unfolding put_if
-put_off at content out = refl
+  tail_is : tail ≡ drop at out
+  tail_is = take_all (length out - at) (drop at out) (omega (arith, length-drop at out))
+
+  pub tail_size : length tail ≡ length out - at
+  tail_size = ap length tail_is ∙ length-drop at out
+
+  -- what is put at its front is put into the output from word at on
+  pub tail_put : (ys : List ℕ) {new : List ℕ} → new ≡ written ys tail
+      → put_mid at (length out - at) out new ≡ spliced at ys out
+  unfolding spliced written
+  tail_put ys {new} is =
+      let rest : drop (length out - at) (drop at out) ≡ [] =
+      drop_of_length-le (drop at out) (omega (arith, length-drop at out)) in
+      rw (is, rest, append-nil, tail_is, drop-drop) (sym (append_assoc (take at out) ys (drop (at + length ys) out)))

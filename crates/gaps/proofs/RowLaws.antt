@@ -1,30 +1,24 @@
 -- What is seen of a link, and its row.
-use Prim.Native.Nat.{ℕ, zero, suc, ◌+◌, ◌≤◌}
-use mathlib.Core.Path.{◌≡◌, refl, sym, ◌∙◌, subst}
-use mathlib.Core.List.{List}
-use mathlib.Core.Bool.{Bool, true, false, not, cond}
+use Prim.Native.Nat.{ℕ, ◌≤◌}
+use mathlib.Core.Path.{◌≡◌, sym, ◌∙◌, subst}
+use mathlib.Core.List.{List, []}
+use mathlib.Core.Bool.{Bool, true, false, not, cond, true≢false}
 use native.Mathlib.Omega.{arith}
 use lib.Dec.{T}
 use lib.ListN.{length}
 use lib.Ieee.{Float, is_nan, le}
+use Rattle.std.specs.Option.{is_some}
 use Rattle.geometry.specs.Gap.{closest_ends, decision_of, row_bits, seen_of, tolerance}
+use Rattle.std.specs.Prelude.{Option, None, Some}
 use Rattle.geometry.specs.declared.gap.Decision.{Decision}
 use Rattle.geometry.specs.declared.gap.Decision.TheVariants.{Passed, Wide}
 use Rattle.geometry.specs.declared.gap.Direction.{Direction}
-use Rattle.geometry.specs.declared.gap.Direction.TheVariants.{Both}
 use Rattle.geometry.specs.declared.gap.Seen.{Seen}
 use Rattle.geometry.specs.declared.segment.Point.{Point}
 use Rattle.geometry.proofs.Promises.{gap_never_nan, gap_of_choice, places_are_numbers}
 use Rattle.model.specs.Calls.{gap_width}
-use Rattle.model.specs.Tables.{direction_of}
-use Rattle.words.specs.Rows.{spliced}
-use Rattle.gaps.specs.Links.{Numbers, Put, Room, is_number, put_if, row_of, row_with}
-use Rattle.gaps.proofs.Puts.{put_nothing}
-
-pub other_word : (w : ℕ) → (w ≡ 0 → ⊥) → (w ≡ 1 → ⊥) → Both ≡ direction_of w
-other_word zero a b = absurd (a refl)
-other_word (suc zero) a b = absurd (b refl)
-other_word (suc (suc w)) a b = refl
+use Rattle.gaps.specs.Lent.{Gives}
+use Rattle.gaps.specs.Links.{Numbers, is_number, row_of, row_with}
 
 -- ---- what is seen has bits
 decision_number : (g : Float) → T (not (is_nan g)) → T (is_number (decision_of g))
@@ -49,29 +43,16 @@ link_seen {s} {a} {b} {c} {d} {p} {q} {r} {t} seen from leaves to enters =
     seen ∙ (λ i. seen_of (closest_ends (from i) (leaves i) (to i) (enters i))) in
     (same, subst Numbers (sym same) (ends_numbers b r d t))
 
-pub wide_number : {s : Seen} {w : Float} → s.decision ≡ Wide w → Numbers s → T (not (is_nan w))
-wide_number wide numbers = subst (λ (d : Decision). T (is_number d)) wide numbers.width
+-- ---- its row
+-- what is given has the words of one row, or none
+pub gives_some : (r : Option (List ℕ)) (ws : List ℕ) {b : Bool} → b ≡ is_some r → b ≡ true → Gives r ws
+    → length ws ≡ gap_width
+gives_some None ws is some given = absurd (true≢false (sym some ∙ is))
+gives_some (Some row) ws is some given = given.1
 
--- ---- its row, put or counted
-module _ (lane next at : ℕ) (out : List ℕ) {write : Bool} (s : Seen) where
-  pub passed_row : s.decision ≡ Passed → Put write at (row_of lane next s) out out at
-  passed_row passed = rw passed put_nothing
-
-  module _ {w : Float} (wide : s.decision ≡ Wide w) where
-    pub wide_counted : write ≡ false → Put write at (row_of lane next s) out out (at + gap_width)
-    unfolding put_if
-    wide_counted counts = rw (wide, counts) (record { end_is = refl; words_are = refl })
-
-    -- the row that is made of its width
-    module _ {row : List ℕ} (made : row ≡ row_of lane next (record { decision = Wide w; u = s.u; v = s.v }))
-        (writes : write ≡ true) where
-      pub wide_room : Room write at (row_of lane next s) out → at + length row ≤ length out
-      wide_room room = rw made (rw wide at (room writes))
-
-      pub wide_put : {after : List ℕ} → after ≡ spliced at row out
-          → Put write at (row_of lane next s) out after (at + gap_width)
-      unfolding put_if
-      wide_put put = rw (wide, writes, sym made) (record { end_is = rw made refl; words_are = put })
+pub gives_none : (r : Option (List ℕ)) (ws : List ℕ) {b : Bool} → b ≡ is_some r → b ≡ false → Gives r ws → ws ≡ []
+gives_none None ws is none given = given
+gives_none (Some row) ws is none given = absurd (true≢false (sym is ∙ none))
 
 pub row_most : (lane next : ℕ) (s : Seen) → length (row_of lane next s) ≤ gap_width
 row_most lane next s = go s.decision

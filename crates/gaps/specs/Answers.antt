@@ -1,12 +1,10 @@
 -- The answer of the gap check as document 01's. Definitions only.
-use Rattle.std.specs.Prelude.{[], ◌∷◌}
-use Rattle.model.specs.Rules.{refusal_word}
+use Rattle.std.specs.Prelude.{[], ◌∷◌, ℕ, Result, Ok, Err}
 use Rattle.model.specs.Calls.{Answer, refused, wrote}
-use Rattle.tables.specs.Verdicts.{refusal_of}
-use Rattle.gaps.specs.declared.call.Gaps.{Gaps}
-use Rattle.gaps.specs.declared.call.Gaps.TheVariants.{Written, Refused}
+use Rattle.tables.specs.Refusals.{number_of}
+use Rattle.tables.specs.declared.refusal.Refusal.{Refusal}
 
 -- the rows written, or the refusal's number
-abbrev pub answer_of : Gaps → Answer
-answer_of (Written n) = wrote (n ∷ [])
-answer_of (Refused v) = refused (refusal_word (refusal_of v))
+abbrev pub answer_of : Result ℕ Refusal → Answer
+answer_of (Ok n) = wrote (n ∷ [])
+answer_of (Err r) = refused (number_of r)

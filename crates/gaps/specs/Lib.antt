@@ -1,2 +1,3 @@
 pub mod Links
+pub mod Lent
 pub mod Answers

@@ -1,6 +1,6 @@
 -- The gap rows by row numbers: what the loops over lanes and links write. proofs/ has them as the model's gap
 -- rows. Definitions only.
-use Rattle.std.specs.Prelude.{Bool, true, not, ◌&&◌, cond, List, [], ◌∷◌, ◌≡◌, ℕ, suc, ◌+◌, ◌*◌, ◌-◌, ◌/◌, ◌≤◌, T, eqb}
+use Rattle.std.specs.Prelude.{Bool, true, not, ◌&&◌, List, [], ◌∷◌, ℕ, suc, ◌+◌, ◌*◌, ◌-◌, ◌/◌, ◌<◌, T, eqb}
 use Rattle.std.specs.Prelude.{Float, length, get_or}
 use Rattle.std.specs.Float.Ieee.{is_nan}
 use Rattle.geometry.specs.declared.gap.Decision.{Decision}
@@ -11,22 +11,8 @@ use Rattle.geometry.specs.Gap.{closest_ends, place_bits, row_bits, seen_of}
 use Rattle.model.specs.Lists.{every}
 use Rattle.model.specs.Tables.{direction_of, lanes_in}
 use Rattle.model.specs.Rules.{climbs, borne}
-use Rattle.words.specs.Chain.{Chained}
-use Rattle.words.specs.Rows.{joined, last_of, spliced}
-use Rattle.words.specs.Keys.{id_hash, is_id}
-
--- an output with words put in from word at on, if it is to be written
-unfoldable pub put_if : Bool → ℕ → List ℕ → List ℕ → List ℕ
-put_if write at ws out = cond write (spliced at ws out) out
-
--- rows put so, and the place after them, whether they are written or only counted
-pub record Put (write : Bool) (at : ℕ) (rows before after : List ℕ) (end : ℕ) : Type 0 where
-  pub end_is : end ≡ at + length rows
-  pub words_are : after ≡ put_if write at rows before
-
--- room for them, if they are to be written
-abbrev pub Room : Bool → ℕ → List ℕ → List ℕ → Type 0
-Room write at rows out = write ≡ true → at + length rows ≤ length out
+use Rattle.words.specs.Rows.{joined, last_of}
+use Rattle.words.specs.Keys.{is_id}
 
 -- lane row, successor row, gap bits and the bits of the two places; no word where the gap is passed
 abbrev pub row_with : ℕ → ℕ → (u v : Float) → List ℕ → List ℕ
@@ -81,16 +67,6 @@ lists_right lanes offsets ids =
     eqb (length offsets) (suc (length lanes / 10)) && climbs (length ids) offsets && every
     (borne (lanes_in lanes)) ids
 
--- ---- what the functions over links are lent
--- few lanes, linked by identity
-pub record ById (lanes heads next : List ℕ) : Type 0 where
-  pub few : length lanes / 10 ≤ 16384
-  pub buckets : length heads ≡ 16384
-  pub rows : length next ≡ 16384
-  pub linked : Chained (id_hash lanes) (length lanes / 10) heads next
-
--- such lanes with twelve edges each, and not too many links
-pub record Lent (lanes : List ℕ) (edges : List Float) (heads next ids : List ℕ) : Type 0 where
-  pub by_id : ById lanes heads next
-  pub even : length edges ≡ 12 * (length lanes / 10)
-  pub short : length ids ≤ 131072
+-- does a lane bear identity k?
+abbrev pub is_borne : List ℕ → ℕ → Type 0
+is_borne lanes k = 0 < last_of (length lanes / 10) (is_id lanes k)

@@ -2,5 +2,5 @@
 #![tactic(auto)]
 
 pub mod call;
-pub mod links;
-pub mod lists;
+mod links;
+mod lists;

@@ -1,174 +1,194 @@
 // The rows of the links: what is seen of each link, and its row written or counted.
-ghost use Rattle.std.specs.Prelude.{◌≡◌, true, not, List, ℕ, ◌+◌, ◌*◌, ◌/◌, ◌≤◌, ◌<◌, T, length};
-ghost use Rattle.std.specs.Float.Ieee.{is_nan};
-ghost use Rattle.geometry.specs.declared.gap.Decision.TheVariants.{Wide};
-ghost use Rattle.model.specs.Tables.{direction_of, lanes_in};
-ghost use Rattle.model.specs.Lists.{every};
-ghost use Rattle.model.specs.Rules.{borne};
-ghost use Rattle.model.specs.Calls.{gap_width};
-ghost use Rattle.words.specs.Keys.{is_id};
-ghost use Rattle.words.specs.Rows.{last_of};
-ghost use Rattle.gaps.specs.Links.{ById, Lent, Put, Room, Numbers, row_of, seen_at, link_row, lane_rows};
-ghost use Rattle.gaps.specs.Links.{rows_below, lists_right};
+ghost use Rattle.std.specs.Prelude.{◌≡◌, true, ◌+◌, ◌*◌, ◌/◌, ◌≤◌, ◌<◌, length, get_or};
+ghost use Rattle.model.specs.Tables.{direction_of};
+ghost use Rattle.gaps.specs.Links.{row_of, lists_right};
 
-use geometry::gap::{Decision, Direction, Seen};
+use crate::lists::Packed;
+use geometry::gap::{Decision, Seen, Way};
 use geometry::{edges, gap};
-use tables::lookup;
-use tables::lookup::{LaneId, RowFound};
+use tables::lookup::LaneId;
+use words::by_key::ById;
+use words::kinds::direction;
 use words::rows;
 
 // How many words a row has.
 pub const GAP_ROW: usize = 5;
 
-// Which way a lane's traffic runs, by its word.
-fn direction(word: u32) -> Direction
-    ensures { result ≡ direction_of word }
-{
-    match word {
-        0 => Direction::Forward,
-        1 => Direction::Backward,
-        _ => Direction::Both,
+// What the rows are made from: the lanes by identity, their edges, and the lists of successors.
+#[derive(Clone, Copy)]
+pub struct Links<'a> {
+    lanes: ById<'a>,
+    edges: &'a [f32],
+    lists: Packed<'a>,
+    ghost few: { length lanes.lanes.now / 10 ≤ 16384 },
+    ghost even: { length edges.now ≡ 12 * (length lanes.lanes.now / 10) },
+    ghost short: { length lists.ids.now ≤ 131072 },
+    ghost right: { lists_right lanes.lanes.now lists.offsets.now lists.ids.now ≡ true },
+}
+
+impl<'a> Links<'a> {
+    ghost use Rattle.gaps.specs.Lent.{lane_count, words_below, Made, Put};
+    ghost use Rattle.geometry.specs.Edges.{ends_at};
+    ghost use Rattle.model.specs.Calls.{gap_width};
+
+    // Lanes with twelve edges each, and lists that are right.
+    pub fn over(lanes: ById<'a>, edges: &'a [f32], lists: Packed<'a>) -> Self
+        requires few { (length lanes.lanes.now / 10 ≤ 16384) × (length lists.ids.now ≤ 131072) }
+        requires even { length edges.now ≡ 12 * (length lanes.lanes.now / 10) }
+        requires right { lists_right lanes.lanes.now lists.offsets.now lists.ids.now ≡ true }
+        ensures { Made result lanes.entry.lanes.now edges.now lists.entry.offsets.now lists.entry.ids.now }
+    {
+        Links {
+            lanes,
+            edges,
+            lists,
+        }
+    }
+
+    // How many lanes there are.
+    fn count(&self) -> usize
+        ensures { result ≡ lane_count self.now }
+    {
+        self.lanes.lanes.len() / 10
+    }
+
+    // A lane's ends, and which way its traffic runs.
+    #[inline(always)]
+    fn way(&self, row: usize) -> Way
+        requires { row < lane_count self.now }
+        ensures ends { result.ends ≡ ends_at self.now.edges.now row }
+        ensures direction { result.direction ≡ direction_of (get_or self.now.lanes.lanes.now (row * 10 + 5) 0) }
+    {
+        Way {
+            ends: edges::ends_at(self.edges, row),
+            direction: direction(self.lanes.lanes, row),
+        }
+    }
+
+    // The lane in a row.
+    fn lane(&self, row: usize) -> Lane<'a>
+        requires { row < lane_count self.now }
+        ensures { (result.links ≡ self.now) × (result.row ≡ row) }
+    {
+        Lane { links: *self, row }
+    }
+
+    // How many words the rows have at most: every link has one.
+    pub fn most(&self) -> usize
+        ensures { result ≡ gap_width * length self.now.lists.ids.now }
+    {
+        GAP_ROW * self.lists.ids.len()
+    }
+
+    // How many words the rows of all links have.
+    pub fn len(&self) -> usize
+        ensures { result ≡ length (words_below self.now (lane_count self.now)) }
+    {
+        let mut words = 0;
+        for row in 0..self.count() {
+            words += self.lane(row).len();
+        }
+        words
+    }
+
+    // Puts the rows of all links at the front of an output, and returns how many words they have.
+    pub fn put(&self, out: &mut [u32]) -> usize
+        requires { length (words_below self.now (lane_count self.now)) ≤ length out.old }
+        ensures { Put (words_below self.now (lane_count self.now)) out.old out.new result }
+    {
+        let mut at = 0;
+        for row in 0..self.count() {
+            at += self.lane(row).put(&mut out[at..]);
+        }
+        at
     }
 }
 
-// The decision for a link from the lane in row `lane` to that in row `next`, and where the two come closest.
-fn link_seen(lanes: &[u32], edges: &[f32], lane: usize, next: usize) -> Seen
-    requires lane_in_bounds { (lane < length lanes.now / 10) × (next < length lanes.now / 10) }
-    requires edges_len { length edges.now ≡ 12 * (length lanes.now / 10) }
-    ensures { (result ≡ seen_at lanes.now edges.now lane next) × Numbers result }
-{
-    let leaves = direction(lanes[lane * 10 + 5]);
-    let enters = direction(lanes[next * 10 + 5]);
-    let from = edges::ends_at(edges, lane);
-    let to = edges::ends_at(edges, next);
-    gap::link_gap(from, leaves, to, enters)
+// A lane whose links are seen.
+#[derive(Clone, Copy)]
+struct Lane<'a> {
+    links: Links<'a>,
+    row: usize,
+    ghost there: { row < length links.lanes.lanes.now / 10 },
 }
 
-// The row of a gap that is wide.
-fn wide_row(lane: u32, next: u32, width: f32, u: f32, v: f32) -> [u32; GAP_ROW]
-    requires { T (not (is_nan width)) × T (not (is_nan u)) × T (not (is_nan v)) }
-    ensures { result ≡ row_of lane next (record { decision = Wide width; u = u; v = v }) }
-{
-    [
-        lane,
-        next,
-        f32::to_bits(width),
-        gap::place_bits(u),
-        gap::place_bits(v),
-    ]
-}
+impl<'a> Lane<'a> {
+    ghost use Rattle.gaps.specs.Lent.{lane_count, Gives, link_words, next_ids, words_at, Put};
+    ghost use Rattle.gaps.specs.Links.{Numbers, seen_at, is_borne};
 
-// The place after the row of what was seen, which is put at `at` if it is to be written.
-fn put_row(out: &mut [u32], at: usize, write: bool, lane: u32, next: u32, seen: Seen) -> usize
-    requires at_bound { (at < 1048576) × Numbers seen }
-    requires room { Room write at (row_of lane next seen) out.old }
-    ensures { Put write at (row_of lane next seen) out.old out.new result }
-{
-    let decision = seen.decision;
-    match decision {
-        Decision::Passed => at,
-        Decision::Wide(w) => {
-            if !write {
-                return at + GAP_ROW;
+    // The decision for its link to the lane in row `next`, and where the two come closest.
+    #[inline(always)]
+    fn seen(&self, next: usize) -> Seen
+        requires { next < lane_count self.now.links }
+        ensures { (result ≡ seen_at self.now.links.lanes.lanes.now self.now.links.edges.now self.now.row next)
+            × Numbers result }
+    {
+        gap::link_gap(self.links.way(self.row), self.links.way(next))
+    }
+
+    // The row of such a link; none where the gap is passed.
+    #[inline(always)]
+    fn row_of(&self, next: usize) -> Option<[u32; GAP_ROW]>
+        requires { next < lane_count self.now.links }
+        ensures { Gives result (row_of self.now.row next
+            (seen_at self.now.links.lanes.lanes.now self.now.links.edges.now self.now.row next)) }
+    {
+        let seen = self.seen(next);
+        match seen.decision {
+            Decision::Passed => None,
+            Decision::Wide(width) => Some([
+                self.row as u32,
+                next as u32,
+                width.to_bits(),
+                gap::place_bits(seen.u),
+                gap::place_bits(seen.v),
+            ]),
+        }
+    }
+
+    // The row of a link to the lane of an identity.
+    #[inline(always)]
+    fn row_to(&self, id: LaneId) -> Option<[u32; GAP_ROW]>
+        requires { is_borne self.now.links.lanes.lanes.now id.0 }
+        ensures { Gives result (link_words self.now.links self.now.row id.0) }
+    {
+        self.row_of(self.links.lanes.find(id.0)?)
+    }
+
+    // The identities of its successors.
+    #[tactic(auto, using(crate::proofs::LinkLaws::list_lies))]
+    fn next_ids(&self) -> &'a [u32]
+        ensures { result.now ≡ next_ids self.now.links self.now.row }
+    {
+        let offsets = self.links.lists.offsets;
+        &self.links.lists.ids[rows::word(offsets, self.row)..rows::word(offsets, self.row + 1)]
+    }
+
+    // How many words the rows of its links have.
+    fn len(&self) -> usize
+        ensures { result ≡ length (words_at self.now.links self.now.row) }
+    {
+        let mut words = 0;
+        for &id in self.next_ids() {
+            if self.row_to(LaneId(id)).is_some() {
+                words += GAP_ROW;
             }
-            let row = wide_row(lane, next, w, seen.u, seen.v);
-            rows::put(out, at, &row);
-            at + GAP_ROW
         }
+        words
     }
-}
 
-// The place after the row of a link from the lane in row `lane` to the lane of an identity.
-fn link_row(
-    lanes: &[u32],
-    edges: &[f32],
-    heads: &[u32],
-    next: &[u32],
-    lane: usize,
-    id: LaneId,
-    out: &mut [u32],
-    at: usize,
-    write: bool,
-) -> usize
-    requires by_id { ById lanes.now heads.now next.now }
-    requires edges_len { length edges.now ≡ 12 * (length lanes.now / 10) }
-    requires lane_in_bounds { (lane < length lanes.now / 10) × (at < 1048576) }
-    requires nonzero { 0 < last_of (length lanes.now / 10) (is_id lanes.now id.0) }
-    requires room { let row : List ℕ = link_row lanes.now edges.now lane id.0 in
-        Room write at row out.old }
-    ensures { let row : List ℕ = link_row lanes.now edges.now lane id.0 in
-        Put write at row out.old out.new result }
-{
-    match lookup::lane_row(lanes, heads, next, id) {
-        RowFound::Row(r) => {
-            let seen = link_seen(lanes, edges, lane, r as usize);
-            put_row(out, at, write, lane as u32, r, seen)
+    // Puts the rows of its links at the front of an output, and returns how many words they have.
+    fn put(&self, out: &mut [u32]) -> usize
+        requires { length (words_at self.now.links self.now.row) ≤ length out.old }
+        ensures { Put (words_at self.now.links self.now.row) out.old out.new result }
+    {
+        let mut at = 0;
+        for &id in self.next_ids() {
+            if let Some(row) = self.row_to(LaneId(id)) {
+                rows::put(out, at, &row);
+                at += GAP_ROW;
+            }
         }
-        RowFound::Nothing => at,
+        at
     }
-}
-
-// The place after the rows of one lane's links, whose `count` identities stand from place `first` on.
-fn lane_rows(
-    lanes: &[u32],
-    edges: &[f32],
-    heads: &[u32],
-    next: &[u32],
-    ids: &[u32],
-    lane: usize,
-    first: usize,
-    count: usize,
-    out: &mut [u32],
-    at: usize,
-    write: bool,
-) -> usize
-    requires lent { Lent lanes.now edges.now heads.now next.now ids.now }
-    requires ids_value { every (borne (lanes_in lanes.now)) ids.now ≡ true }
-    requires lane_in_bounds { (lane < length lanes.now / 10) × (first + count ≤ length ids.now)
-        × (at ≤ gap_width * first) }
-    requires room { let rows : List ℕ = lane_rows lanes.now edges.now ids.now lane first count in
-        Room write at rows out.old }
-    ensures { let rows : List ℕ = lane_rows lanes.now edges.now ids.now lane first count in
-        Put write at rows out.old out.new result }
-{
-    let mut place = at;
-    let mut k = 0;
-    while k < count {
-        let id = LaneId(ids[first + k]);
-        place = link_row(lanes, edges, heads, next, lane, id, out, place, write);
-        k += 1;
-    }
-    place
-}
-
-// How many words the rows of all links have; they are written to `out` if they are to be.
-pub fn all_rows(
-    lanes: &[u32],
-    edges: &[f32],
-    heads: &[u32],
-    next: &[u32],
-    offsets: &[u32],
-    ids: &[u32],
-    out: &mut [u32],
-    write: bool,
-) -> usize
-    requires lent { Lent lanes.now edges.now heads.now next.now ids.now }
-    requires ids_value { lists_right lanes.now offsets.now ids.now ≡ true }
-    requires room { let rows : List ℕ = rows_below lanes.now edges.now offsets.now ids.now (length lanes.now / 10) in
-        Room write 0 rows out.old }
-    ensures { let rows : List ℕ = rows_below lanes.now edges.now offsets.now ids.now (length lanes.now / 10) in
-        Put write 0 rows out.old out.new result }
-{
-    let n = lanes.len() / 10;
-    let mut place = 0;
-    let mut i = 0;
-    while i < n {
-        let first = rows::word(offsets, i);
-        let count = rows::word(offsets, i + 1) - first;
-        place = lane_rows(
-            lanes, edges, heads, next, ids, i, first, count, out, place, write,
-        );
-        i += 1;
-    }
-    place
 }

@@ -1,59 +1,51 @@
-// 11: the lists of successors, as offsets and packed identities.
+// The lists of successors, as offsets and packed identities, and 11.
 ghost use Rattle.std.specs.Prelude.{◌≡◌};
-ghost use Rattle.model.specs.Lists.{every};
+ghost use Rattle.model.specs.Rules.{borne, climbs, lists_sized};
 ghost use Rattle.model.specs.Tables.{lanes_in};
-ghost use Rattle.model.specs.Rules.{climbs, borne};
-ghost use Rattle.gaps.specs.Links.{ById, lists_right};
+ghost use Rattle.gaps.specs.Links.{lists_right};
 
-use words::tests::{both, found};
-use words::{index, rows};
+use rules::sizes;
+use words::by_key::ById;
 
 // The offsets begin at 0, do not fall, and end at `end`.
 fn offsets_climb(offsets: &[u32], end: usize) -> bool
     ensures { result ≡ climbs end offsets.now }
 {
-    if offsets.len() == 0 {
-        return false;
-    }
-    if offsets[0] != 0 {
-        return false;
-    }
-    let mut last = 0;
-    let mut i = 1;
-    while i < offsets.len() {
-        let o = rows::word(offsets, i);
-        if o < last {
-            return false;
-        }
-        last = o;
-        i += 1;
-    }
-    last == end
+    offsets.first() == Some(&0)
+        && offsets.is_sorted()
+        && offsets.last().is_some_and(|&last| last as usize == end)
 }
 
-// A lane bears each identity.
-fn all_borne(lanes: &[u32], heads: &[u32], next: &[u32], ids: &[u32]) -> bool
-    requires { ById lanes.now heads.now next.now }
-    ensures { result ≡ every (borne (lanes_in lanes.now)) ids.now }
+// Whether a lane bears the identity.
+fn is_borne(lanes: &ById, id: u32) -> bool
+    ensures { result ≡ borne (lanes_in lanes.now.lanes.now) id }
 {
-    let n = lanes.len() / 10;
-    let mut i = 0;
-    while i < ids.len() {
-        let f = index::find_id(lanes, heads, next, n, ids[i]);
-        if !found(f) {
-            return false;
-        }
-        i += 1;
-    }
-    true
+    lanes.find(id).is_some()
 }
 
-// 11
-pub fn lists_fit(lanes: &[u32], heads: &[u32], next: &[u32], offsets: &[u32], ids: &[u32]) -> bool
-    requires { ById lanes.now heads.now next.now }
-    ensures { result ≡ lists_right lanes.now offsets.now ids.now }
-{
-    let sized = offsets.len() == lanes.len() / 10 + 1;
-    let climb = both(sized, offsets_climb(offsets, ids.len()));
-    both(climb, all_borne(lanes, heads, next, ids))
+// Packed lists: where each begins and the last one ends, and all their identities. (Succession has its own: neither of
+// the two crates stands above the other.)
+#[derive(Clone, Copy)]
+pub struct Packed<'a> {
+    pub offsets: &'a [u32],
+    pub ids: &'a [u32],
+}
+
+impl<'a> Packed<'a> {
+    // 1, of the lists
+    #[tactic(auto, unfolding(model::specs::Rules::lists_sized))]
+    pub fn sized(&self) -> bool
+        ensures { result ≡ lists_sized self.now.offsets.now self.now.ids.now }
+    {
+        sizes::fits(self.offsets.len(), 1, 16385) && sizes::fits(self.ids.len(), 1, 131072)
+    }
+
+    // 11
+    pub fn fit(&self, lanes: &ById) -> bool
+        ensures { result ≡ lists_right lanes.now.lanes.now self.now.offsets.now self.now.ids.now }
+    {
+        self.offsets.len() == lanes.lanes.len() / 10 + 1
+            && offsets_climb(self.offsets, self.ids.len())
+            && self.ids.iter().all(|&id| is_borne(lanes, id))
+    }
 }

@@ -11,17 +11,18 @@ use lib.Dec.{T, ltb, lit<, lit≤}
 use lib.Ieee.{Float, nan, inf, binary32, lt, le, eq, is_nan, of_bits, to_bits}
 use lib.Ieee.Bits.{of_bits-to_bits, nan_bits_is}
 use borrow.Author.Tests.{ltb-true, ltb-false, lt-ltb, le-ltb, not-true, not-false}
+use Rattle.std.proofs.lemmas.Float.{not_nan_f32_bits}
 use Rattle.geometry.specs.Root.{root_of}
 use Rattle.geometry.specs.Gap.{tolerance}
 use Rattle.geometry.specs.Units.{units, units_at, NearestBits}
-use Rattle.geometry.proofs.Patterns.{bits_value, no_nan}
-use Rattle.geometry.proofs.Values.{pattern_top}
+use Rattle.geometry.proofs.Patterns.{bits_value}
+use Rattle.geometry.proofs.Values.{held_by, pattern_top}
 use Rattle.geometry.proofs.RootLaws.{root_is_at}
 use Rattle.geometry.proofs.RootNearest.{root_some}
 use Rattle.geometry.proofs.RootOrder.{bits_mono, bits_far}
-use Rattle.geometry.proofs.FloatOrder.{nan_or_not, nan_lt, lt_nan, nan_le, nan_eq, eq_nan, below_number}
+use Rattle.geometry.proofs.FloatOrder.{nan_or_not, nan_lt, lt_nan, nan_le, nan_eq, eq_nan, below_number, eq_comm}
 use Rattle.geometry.proofs.FloatOrder.{compared_numbers, eq_is, lt_once, le_is}
-use Rattle.geometry.proofs.GapOrder.{Plain, plain_order, bits_order, inf_bits}
+use Rattle.geometry.proofs.GapOrder.{Plain, plain_by, plain_order, bits_order, inf_bits}
 
 -- ---- the pattern of a number without a sign, and that of its root
 data RootAt : ℕ → ℕ → Type 0 where
@@ -117,7 +118,7 @@ closer_not x y plain_x plain_y not_below = go (nan_or_not x) (nan_or_not y)
 
 -- ---- `tied`
 bits_number : (b : ℕ) → b ≤ 0x7f80_0000 → T (not (is_nan (of_bits binary32 b)))
-bits_number b top = rw nan_bits_is at (no_nan b top)
+bits_number b top = rw nan_bits_is at (not_nan_f32_bits b (omega arith))
 
 -- the root of a number is one
 root_number : (x : Float) → Plain x → T (not (is_nan x)) → T (not (is_nan (root_of x)))
@@ -202,3 +203,10 @@ passed_is x plain = go (nan_or_not x)
         let test = bits_le (to_bits binary32 x) 0x3c23_d70b (at_top r.at).0 (lit≤ tt) in
         ap₂ le r.root (sym tolerance_bits) ∙ root-test ∙ ap not (passed_bits r.at) ∙ sym test
         ∙ ap (λ (y : Float). le y (of_bits binary32 0x3c23_d70b)) (sym r.number)
+
+-- for `closer`, `tied` and `gap_decision`
+pub ruleset closer = (closer_far, closer_not, plain_by, held_by, pattern_top, below_number)
+
+pub ruleset tied = (tied_lower, tied_nan, eq_comm, plain_by)
+
+pub ruleset decision = (passed_is, plain_by)

@@ -28,7 +28,7 @@ count_constant {A} n c (y ∷ ys) = ap (λ k. cond (eqb n c) (suc k) k) (count_c
     go true = refl
     go false = refl
 
-length_keep : (n : ℕ) (ys : List ℕ) → length (keep (eqb n) ys) ≡ count n ys
+pub length_keep : (n : ℕ) (ys : List ℕ) → length (keep (eqb n) ys) ≡ count n ys
 length_keep n [] = refl
 length_keep n (y ∷ ys) = go (eqb n y) (length_keep n ys)
   where

@@ -31,7 +31,7 @@ bit_flag zero h = refl
 bit_flag (suc zero) h = refl
 bit_flag (suc (suc k)) h = absurd (omega (arith, leb-true (suc (suc k)) 1 h))
 
-name_forth : (s n : ℕ) → name_words (cond (is_absent s n) none (some (record { start = s; size = n }))) ≡ s ∷ n ∷ []
+pub name_forth : (s n : ℕ) → name_words (cond (is_absent s n) none (some (record { start = s; size = n }))) ≡ s ∷ n ∷ []
 name_forth s n = go (is_absent s n) refl
   where
     go : (b : Bool) → is_absent s n ≡ b → name_words (cond b none (some (record { start = s; size = n }))) ≡ s ∷ n ∷ []

@@ -156,7 +156,7 @@ gather_more {B = B} f xs r d h =
     ∙ gather_append f (take r xs) (get_or xs r d ∷ [])
     ∙ ap (λ (l : List B). gather f (take r xs) ++ l) (mathlib.Core.List.append-nil (f (get_or xs r d)))
 
-rows_from_append : {X A : Type 0} (row : ℕ → X → List ℕ) (f : X → List A) (i : ℕ) (xs ys : List X)
+pub rows_from_append : {X A : Type 0} (row : ℕ → X → List ℕ) (f : X → List A) (i : ℕ) (xs ys : List X)
     → rows_from row f i (xs ++ ys) ≡ rows_from row f i xs ++ rows_from row f (i + length (gather f xs)) ys
 rows_from_append row f i [] ys = ap (λ (k : ℕ). rows_from row f k ys) (sym (native.Mathlib.Nat.add-zero i))
 rows_from_append row f i (x ∷ xs) ys =

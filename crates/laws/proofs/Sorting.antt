@@ -123,7 +123,7 @@ abbrev pub Ordered : List ℕ → Type 0
 Ordered [] = Unit {0}
 Ordered (x ∷ xs) = Each (λ y. x ≤ y) xs × Ordered xs
 
-ordered_insert : (n : ℕ) (xs : List ℕ) → Ordered xs → Ordered (insert n xs)
+pub ordered_insert : (n : ℕ) (xs : List ℕ) → Ordered xs → Ordered (insert n xs)
 ordered_insert n [] h = (tt, tt)
 ordered_insert n (x ∷ xs) h = go (leb n x) refl (ordered_insert n xs h.1)
   where

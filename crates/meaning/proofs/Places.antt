@@ -9,35 +9,22 @@ use Prim.Native.Nat.{ℕ, ◌<◌}
 use native.Mathlib.Omega.{arith}
 use lib.Dec.{eqb, ltb}
 use borrow.Author.Tests.{eqb-true, eq-eqb, ltb-true, ltb-false, lt-ltb}
-use Rattle.model.specs.Lists.{ascends, distinct, every, final, keep, last_or, member}
+use Rattle.model.specs.Lists.{ascends, distinct, final, keep, last_or, member}
 use Rattle.model.specs.Records.{Junction, Lane, Map, Road, Span}
 use Rattle.model.specs.Repair.{road_of}
 use Rattle.model.specs.Succession.{Entry, end_section, junction_of, lookup, lookup_at_end, next_section, sections_from}
 use Rattle.model.specs.Succession.{sections_of, stands_at}
 use Rattle.laws.proofs.ListTests.{and_both, and_left, and_right}
 use Rattle.laws.proofs.RulesReversed.{Good}
-use Rattle.laws.proofs.Valid.{Alike, Ascends, Each}
+use Rattle.laws.proofs.Valid.{Alike, Ascends}
 use Rattle.meaning.specs.Meaning.{◌∈◌, Adjacent, JunctionNamed, LaneAt, Outermost, RoadAmong, RoadNamed}
 use Rattle.meaning.specs.Meaning.{SectionAt}
 use Rattle.meaning.proofs.Inside.{each_in, every_in, final_in, final_most, final_none, final_split, first_in}
 use Rattle.meaning.proofs.Inside.{first_least, first_none, in_keep, in_map, member_in, of_keep, of_map}
 use Rattle.meaning.proofs.Inside.{one_alike, split_final}
+use Rattle.laws.proofs.RulesReversed.{ascends_fact}
 
 -- ---- sections
-pub ascends_fact : (xs : List ℕ) → ascends xs ≡ true → Ascends xs
-ascends_fact [] ascending = tt
-ascends_fact (x ∷ xs) ascending = (
-  above xs (and_left (every (ltb x) xs) (ascends xs) ascending),
-  ascends_fact xs (and_right (every (ltb x) xs) (ascends xs) ascending),
-)
-  where
-    above : (ys : List ℕ) → every (ltb x) ys ≡ true → Each (λ y. x < y) ys
-    above [] ascending = tt
-    above (y ∷ ys) ascending = (
-      ltb-true x y (and_left (ltb x y) (every (ltb x) ys) ascending),
-      above ys (and_right (ltb x y) (every (ltb x) ys) ascending),
-    )
-
 pub next_adjacent : (ss : List ℕ) (s t : ℕ) (e : Bool) → Ascends ss → next_section ss s e ≡ some t → Adjacent ss e s t
 unfolding next_section
 next_adjacent ss s t true ascending found = record {

@@ -12,7 +12,6 @@ use Rattle.model.specs.Calls.{outcome, refused, written_or9, wrote}
 use Rattle.model.specs.Reading.{RawTables, read_junctions, read_warnings}
 use Rattle.model.specs.ReadingCalls.{JunctionOutputs, junction_content, junction_counts, junction_lengths}
 use Rattle.model.specs.ReadingCalls.{junction_writing, put_junctions, raw_junction_rules, raw_parts_fit, raw_sized}
-use Rattle.model.specs.ReadingCalls.{rows_named}
 use Rattle.model.specs.Rows.{parts_fit, table}
 use Rattle.model.specs.Rules.{first_broken, fits, sized}
 use Rattle.model.specs.Tables.{all_connections, all_pairs, connection_words, junction_words, pair_words}
@@ -21,8 +20,9 @@ use Rattle.rules.proofs.Counts.{sized_few}
 use Rattle.words.proofs.Scans.{left_on, right_on}
 use Rattle.tables.proofs.Called.{all_written, too_short}
 use Rattle.rules.proofs.Fits.{fit_of}
-use Rattle.reading.specs.JunctionAnswers.{outputs}
-use Rattle.reading.specs.Laid.{JunctionsRead, Ready, junction_outs}
+use Rattle.reading.specs.JunctionAnswers.{outputs, words_of}
+use Rattle.reading.specs.declared.junctions.Rows.{Rows}
+use Rattle.reading.specs.Laid.{JunctionsRead, Ready, junction_outs, named, parted, sizes}
 use Rattle.reading.proofs.RunLaws.{run_rows, run_wide, run_written}
 
 four_fit : (a b c d x y z u : ℕ) → fits (a ∷ b ∷ c ∷ d ∷ []) (x ∷ y ∷ z ∷ u ∷ []) ≡ true
@@ -39,35 +39,19 @@ four_fit a b c d x y z u all =
 
 -- ---- refusals
 module _ (t : RawTables) where
-  -- 1, 2 and 5, as the code tests them
-  abbrev pub sizes : Bool
-  sizes =
-      raw_sized t.text 8 (length t.junctions) && sized 14 16384 (length t.connections)
-      && sized 4 16384 (length t.lane_links)
-
-  abbrev pub named : Bool
-  named =
-      rows_named t.text 8 3 t.junctions && rows_named t.text 14 6 t.connections
-      && rows_named t.text 4 2 t.lane_links
-
-  abbrev pub parted : Bool
-  parted =
-      parts_fit 6 7 0 (length t.connections / 14) (table 8 t.junctions)
-      && parts_fit 12 13 0 (length t.lane_links / 4) (table 14 t.connections)
-
-  pub junctions_1 : sizes ≡ false → some 1 ≡ first_broken (raw_junction_rules t)
+  pub junctions_1 : sizes t ≡ false → some 1 ≡ first_broken (raw_junction_rules t)
   unfolding raw_junction_rules
   junctions_1 a = rw a
 
-  pub junctions_2 : sizes ≡ true → named ≡ false → some 2 ≡ first_broken (raw_junction_rules t)
+  pub junctions_2 : sizes t ≡ true → named t ≡ false → some 2 ≡ first_broken (raw_junction_rules t)
   unfolding raw_junction_rules
   junctions_2 a b = rw (a, b)
 
-  pub junctions_5 : sizes ≡ true → named ≡ true → parted ≡ false → some 5 ≡ first_broken (raw_junction_rules t)
+  pub junctions_5 : sizes t ≡ true → named t ≡ true → parted t ≡ false → some 5 ≡ first_broken (raw_junction_rules t)
   unfolding raw_junction_rules raw_parts_fit
   junctions_5 a b c = rw (a, b, c)
 
-  pub junctions_0 : sizes ≡ true → named ≡ true → parted ≡ true → none ≡ first_broken (raw_junction_rules t)
+  pub junctions_0 : sizes t ≡ true → named t ≡ true → parted t ≡ true → none ≡ first_broken (raw_junction_rules t)
   unfolding raw_junction_rules raw_parts_fit
   junctions_0 a b c = rw (a, b, c)
 
@@ -81,19 +65,19 @@ module _ (t : RawTables) where
   abbrev links_sized : Bool
   links_sized = sized 4 16384 (length t.lane_links)
 
-  pub few_junctions : sizes ≡ true → length t.junctions / 8 ≤ 16384
+  pub few_junctions : sizes t ≡ true → length t.junctions / 8 ≤ 16384
   unfolding raw_sized
   few_junctions all =
       let two = left_on (junctions_sized && connections_sized) links_sized all in
       let first = left_on junctions_sized connections_sized two in
       sized_few 8 16384 _ (right_on (leb (length t.text) 1048576) (sized 8 16384 (length t.junctions)) first)
 
-  pub few_connections : sizes ≡ true → length t.connections / 14 ≤ 16384
+  pub few_connections : sizes t ≡ true → length t.connections / 14 ≤ 16384
   few_connections all =
       sized_few 14 16384 _
       (right_on junctions_sized connections_sized (left_on (junctions_sized && connections_sized) links_sized all))
 
-  pub few_links : sizes ≡ true → length t.lane_links / 4 ≤ 16384
+  pub few_links : sizes t ≡ true → length t.lane_links / 4 ≤ 16384
   few_links all = sized_few 4 16384 _ (right_on (junctions_sized && connections_sized) links_sized all)
 
   -- what an admission says
@@ -120,7 +104,7 @@ module _ (t : RawTables) where
       (r : JunctionsRead (read_junctions t) (read_warnings t) (junction_outs jo 0 co 0 po 0 wo 0)
       (junction_outs jo' m co' n po' p wo' w))
     where
-      lengths_are : junction_lengths (junction_content t) ≡ m * 5 ∷ n * 7 ∷ p * 2 ∷ w * 4 ∷ []
+      pub lengths_are : junction_lengths (junction_content t) ≡ m * 5 ∷ n * 7 ∷ p * 2 ∷ w * 4 ∷ []
       unfolding junction_lengths junction_content junction_words connection_words pair_words all_connections all_pairs
       lengths_are =
           let junctions = run_wide r.rows in
@@ -142,48 +126,41 @@ module _ (t : RawTables) where
     abbrev outs : JunctionOutputs
     outs = outputs jo co po wo
 
-    -- whether the outputs are long enough, as the count says
-    abbrev room_for : (m n p w : ℕ) → Bool
-    room_for m n p w =
-        fits (m * 5 ∷ n * 7 ∷ p * 2 ∷ w * 4 ∷ []) (length jo ∷ length co ∷ length po ∷ length wo ∷ [])
+    -- whether the outputs are long enough for so many rows
+    abbrev room_for : Rows → Bool
+    room_for n = fits (words_of n) (length jo ∷ length co ∷ length po ∷ length wo ∷ [])
 
-    room_is : (m n p w : ℕ) {b : Bool} → junction_lengths (junction_content t) ≡ m * 5 ∷ n * 7 ∷ p * 2 ∷ w * 4 ∷ []
-        → room_for m n p w ≡ b → fits (junction_lengths (junction_content t)) (junction_lengths outs) ≡ b
-    unfolding junction_lengths
-    room_is m n p w lengths room =
-        ap (λ (l : List ℕ). fits l (length jo ∷ length co ∷ length po ∷ length wo ∷ [])) lengths ∙ room
+    -- how much there is to write, as it was counted
+    module _ (n : Rows) (lengths : junction_lengths (junction_content t) ≡ words_of n) where
+      room_is : {b : Bool} → room_for n ≡ b
+          → fits (junction_lengths (junction_content t)) (junction_lengths outs) ≡ b
+      unfolding junction_lengths
+      room_is room = ap (λ (l : List ℕ). fits l (length jo ∷ length co ∷ length po ∷ length wo ∷ [])) lengths ∙ room
 
-    put_is : {m n p w : ℕ} {jo' co' po' wo' : List ℕ}
-        → fits (junction_lengths (junction_content t)) (junction_lengths outs) ≡ true
-        → JunctionsRead (read_junctions t) (read_warnings t) (junction_outs jo 0 co 0 po 0 wo 0)
-        (junction_outs jo' m co' n po' p wo' w)
-        → outputs jo' co' po' wo' ≡ put_junctions (junction_content t) outs
-    unfolding junction_lengths junction_content put_junctions junction_words connection_words pair_words all_connections
-        all_pairs
-    put_is room r =
-        let long = four_fit _ _ _ _ (length jo) (length co) (length po) (length wo) room in
-        let junctions = run_written r.rows long.0 in
-        let connections = run_written r.rest.rows long.1 in
-        let pairs = run_written r.rest.rest.pairs long.2 in
-        let warnings = run_written r.rest.rest.warnings long.3 in
-        λ i. outputs (junctions i) (connections i) (pairs i) (warnings i)
+      pub counted_short : room_for n ≡ false
+          → outcome (refused 9) outs ≡ written_or9 junction_writing (junction_content t) outs
+      counted_short short = too_short junction_writing (junction_content t) outs (room_is short)
 
-    -- a first run, which wrote to other outputs
-    module _ {m n p w : ℕ} {jo₁ co₁ po₁ wo₁ jo₂ co₂ po₂ wo₂ : List ℕ}
-        (counted : JunctionsRead (read_junctions t) (read_warnings t) (junction_outs jo₁ 0 co₁ 0 po₁ 0 wo₁ 0)
-        (junction_outs jo₂ m co₂ n po₂ p wo₂ w))
-      where
-        pub counted_short : room_for m n p w ≡ false
-            → outcome (refused 9) outs ≡ written_or9 junction_writing (junction_content t) outs
-        counted_short short =
-            too_short junction_writing (junction_content t) outs (room_is m n p w (lengths_are counted) short)
+      -- a run that wrote to them
+      module _ {m' n' p' w' : ℕ} {jo' co' po' wo' : List ℕ}
+          (r : JunctionsRead (read_junctions t) (read_warnings t) (junction_outs jo 0 co 0 po 0 wo 0)
+          (junction_outs jo' m' co' n' po' p' wo' w'))
+        where
+          put_is : fits (junction_lengths (junction_content t)) (junction_lengths outs) ≡ true
+              → outputs jo' co' po' wo' ≡ put_junctions (junction_content t) outs
+          unfolding junction_lengths junction_content put_junctions junction_words connection_words pair_words
+              all_connections all_pairs
+          put_is room =
+              let long = four_fit _ _ _ _ (length jo) (length co) (length po) (length wo) room in
+              let junctions = run_written r.rows long.0 in
+              let connections = run_written r.rest.rows long.1 in
+              let pairs = run_written r.rest.rest.pairs long.2 in
+              let warnings = run_written r.rest.rest.warnings long.3 in
+              λ i. outputs (junctions i) (connections i) (pairs i) (warnings i)
 
-        -- and a second, into these
-        pub counted_written : {m' n' p' w' : ℕ} {jo' co' po' wo' : List ℕ} → room_for m n p w ≡ true
-            → JunctionsRead (read_junctions t) (read_warnings t) (junction_outs jo 0 co 0 po 0 wo 0)
-            (junction_outs jo' m' co' n' po' p' wo' w')
-            → outcome (wrote (m' ∷ n' ∷ p' ∷ w' ∷ [])) (outputs jo' co' po' wo')
-            ≡ written_or9 junction_writing (junction_content t) outs
-        counted_written room r =
-            let long = room_is m n p w (lengths_are counted) room in
-            all_written junction_writing (junction_content t) outs long (sym (counts_are r)) (put_is long r)
+          pub counted_written : room_for n ≡ true
+              → outcome (wrote (m' ∷ n' ∷ p' ∷ w' ∷ [])) (outputs jo' co' po' wo')
+              ≡ written_or9 junction_writing (junction_content t) outs
+          counted_written room =
+              let long = room_is room in
+              all_written junction_writing (junction_content t) outs long (sym (counts_are r)) (put_is long)

@@ -1,37 +1,18 @@
--- The reading of lanes: its rows, its refusals in their order, and what an admission says.
-use Prim.Native.Nat.{ℕ, ◌+◌, ◌*◌, ◌/◌, ◌≤◌}
-use mathlib.Core.Path.{◌≡◌, refl, sym, ap, ap₂, ◌∙◌}
-use mathlib.Core.List.{List, [], ◌∷◌, ◌++◌}
-use mathlib.Core.Bool.{true, false}
-use mathlib.Core.Option.{Option, none, some}
-use native.Mathlib.Nat.{add-zero}
-use native.Mathlib.Omega.{arith}
+-- The reading of lanes: its rows, and what an admission says.
+use Prim.Native.Nat.{ℕ, ◌*◌, ◌/◌, ◌≤◌}
+use mathlib.Core.Path.{◌≡◌, refl, sym, ap, ◌∙◌}
+use mathlib.Core.List.{List}
+use mathlib.Core.Option.{none}
 use lib.Dec.{leb}
 use lib.ListN.{length}
 use Rattle.model.specs.Lists.{gather}
-use Rattle.model.specs.Reading.{number_of, part_rows, read_lane, row_at}
-use Rattle.model.specs.ReadingCalls.{raw_lane_content, raw_lane_rules, raw_sized, rows_named}
-use Rattle.model.specs.Records.{Span}
+use Rattle.model.specs.Reading.{part_rows, read_lane, row_at}
+use Rattle.model.specs.ReadingCalls.{raw_lane_content, raw_lane_rules, raw_sized}
 use Rattle.model.specs.Rules.{first_broken, sized}
-use Rattle.model.specs.Tables.{link_words, name_in}
 use Rattle.laws.proofs.RulesReversed.{all_pass}
 use Rattle.rules.proofs.Counts.{sized_few}
 use Rattle.words.proofs.Scans.{right_on}
-use Rattle.reading.specs.Read.{link_read}
-use Rattle.reading.specs.declared.numbers.Link.{Link}
-use Rattle.reading.proofs.NameLaws.{name_of}
 use Rattle.reading.proofs.RowLaws.{numbered_rows, part_even}
-
-pub lane_row_lem : (text raw : List ℕ) (i : ℕ) {before after : Link}
-    → before ≡ link_read (number_of text (name_in raw (i * 4)))
-    → after ≡ link_read (number_of text (name_in raw (i * 4 + 2)))
-    → before.flag ∷ before.number ∷ after.flag ∷ after.number ∷ [] ≡ read_lane text (row_at 4 raw i)
-unfolding read_lane
-lane_row_lem text raw i before_is after_is =
-    let first = ap (name_in raw) (sym (add-zero (i * 4))) ∙ sym (name_of 4 i raw 0 (omega arith)) in
-    let second = sym (name_of 4 i raw 2 (omega arith)) in
-    ap₂ (λ (x y : Link). x.flag ∷ x.number ∷ y.flag ∷ y.number ∷ []) before_is after_is
-    ∙ ap₂ (λ (x y : Option Span). link_words (number_of text x) ++ link_words (number_of text y)) first second
 
 -- the row of lane k
 abbrev pub lane_at : (text raw : List ℕ) → ℕ → List ℕ
@@ -52,20 +33,6 @@ lanes_length text raw =
 
 -- ---- refusals
 module _ (text raw : List ℕ) where
-  pub lanes_1 : raw_sized text 4 (length raw) ≡ false → some 1 ≡ first_broken (raw_lane_rules text raw)
-  unfolding raw_lane_rules
-  lanes_1 a = rw a
-
-  pub lanes_2 : raw_sized text 4 (length raw) ≡ true → rows_named text 4 2 raw ≡ false
-      → some 2 ≡ first_broken (raw_lane_rules text raw)
-  unfolding raw_lane_rules
-  lanes_2 a b = rw (a, b)
-
-  pub lanes_0 : raw_sized text 4 (length raw) ≡ true → rows_named text 4 2 raw ≡ true
-      → none ≡ first_broken (raw_lane_rules text raw)
-  unfolding raw_lane_rules
-  lanes_0 a b = rw (a, b)
-
   pub lanes_few : none ≡ first_broken (raw_lane_rules text raw) → length raw / 4 ≤ 16384
   unfolding raw_lane_rules raw_sized
   lanes_few e =

@@ -1,8 +1,8 @@
 -- The length check.
-use Prim.Native.Nat.{ℕ, suc, ◌-◌}
+use Prim.Native.Nat.{ℕ, suc, ◌-◌, ◌<◌}
 use mathlib.Core.Path.{◌≡◌, refl, sym, ap, ap₂, ◌∙◌}
 use mathlib.Core.List.{List, [], ◌∷◌}
-use mathlib.Core.Bool.{Bool, true, false, ◌||◌, cond}
+use mathlib.Core.Bool.{Bool, true, false, ◌||◌, cond, or-false}
 use mathlib.Core.Option.{some}
 use native.Mathlib.Omega.{arith}
 use lib.Ieee.{Float, add, binary64, fin, inf, lt, nan, neg, sub}
@@ -11,6 +11,9 @@ use borrow.Author.Tests.{eq-eqb, ne_eqb}
 use Rattle.model.specs.Length.{absolute, far_off, fine, length_call, length_tolerance, plan_view, report, reported}
 use Rattle.model.specs.Length.{uneven}
 use Rattle.model.specs.Lists.{last_or}
+use Rattle.std.specs.Bool.{then_some}
+use Rattle.std.specs.Prelude.{Option, Ok}
+use Rattle.reading.specs.Answers.{checked_of}
 
 -- more than the tolerance above or below zero
 far_either : (d : Float) → lt length_tolerance (absolute d) ≡ lt length_tolerance d || lt length_tolerance (neg d)
@@ -19,11 +22,7 @@ far_either nan = refl
 far_either (inf true) = refl
 far_either (inf false) = refl
 far_either (fin true m e) = refl
-far_either (fin false m e) = sym (off (lt length_tolerance (fin false m e)))
-  where
-    off : (b : Bool) → b || false ≡ b
-    off true = refl
-    off false = refl
+far_either (fin false m e) = sym (or-false (lt length_tolerance (fin false m e)))
 
 pub far_above : (x sum : Float) → lt length_tolerance (sub binary64 x sum) ≡ true → true ≡ far_off x sum
 unfolding far_off
@@ -72,20 +71,25 @@ pub length_none : (ss ls : List Float) (x : Float) → length ss ≡ length ls �
 length_none [] ls x e z = sym (even_call [] ls x 0 refl e)
 length_none (s ∷ ss) ls x e z = absurd (let y : suc (length ss) ≡ 0 = z in omega arith)
 
-module _ (ss ls : List Float) (x d : Float) (n : ℕ) (e : n ≡ length ss) (f : n ≡ length ls) (z : n ≡ 0 → ⊥) where
-  sum_report : length_call ss ls x
-      ≡ cond (far_off x (add binary64 (get_or ss (n - 1) d) (get_or ls (n - 1) d)))
-      (reported (add binary64 (get_or ss (n - 1) d) (get_or ls (n - 1) d))) fine
-  sum_report = even_call ss ls x n e f ∙ ap (report x) (plan_view_lem ss ls d n e f z)
+sum_report : (ss ls : List Float) (x d : Float) (n : ℕ) → n ≡ length ss → n ≡ length ls → (n ≡ 0 → ⊥)
+    → length_call ss ls x
+    ≡ cond (far_off x (add binary64 (get_or ss (n - 1) d) (get_or ls (n - 1) d)))
+    (reported (add binary64 (get_or ss (n - 1) d) (get_or ls (n - 1) d))) fine
+sum_report ss ls x d n e f z = even_call ss ls x n e f ∙ ap (report x) (plan_view_lem ss ls d n e f z)
 
-  pub length_off : far_off x (add binary64 (get_or ss (n - 1) d) (get_or ls (n - 1) d)) ≡ true
-      → reported (add binary64 (get_or ss (n - 1) d) (get_or ls (n - 1) d)) ≡ length_call ss ls x
-  length_off t =
-      sym (sum_report
-      ∙ ap (λ (b : Bool). cond b (reported (add binary64 (get_or ss (n - 1) d) (get_or ls (n - 1) d))) fine) t)
+-- a sum that is reported where a test holds
+reported_if : (far : Bool) (sum : Float) → checked_of (Ok (then_some far sum)) ≡ cond far (reported sum) fine
+reported_if true sum = refl
+reported_if false sum = refl
 
-  pub length_fine : far_off x (add binary64 (get_or ss (n - 1) d) (get_or ls (n - 1) d)) ≡ false
-      → fine ≡ length_call ss ls x
-  length_fine t =
-      sym (sum_report
-      ∙ ap (λ (b : Bool). cond b (reported (add binary64 (get_or ss (n - 1) d) (get_or ls (n - 1) d))) fine) t)
+pub length_sum : (ss ls : List Float) (x : Float) {a b : Float} {far : Bool} {r : Option Float}
+    → length ss ≡ length ls → 0 < length ss → a ≡ get_or ss (length ss - 1) nan → b ≡ get_or ls (length ls - 1) nan
+    → far ≡ far_off x (add binary64 a b) → r ≡ then_some far (add binary64 a b)
+    → checked_of (Ok r) ≡ length_call ss ls x
+length_sum ss ls x {a} {b} even some-start a_is b_is far_is r_is =
+    let last : b ≡ get_or ls (length ss - 1) nan = b_is ∙ ap (λ (n : ℕ). get_or ls (n - 1) nan) (sym even) in
+    ap (λ o. checked_of (Ok o)) r_is
+    ∙ reported_if _ (add binary64 a b)
+    ∙ ap (λ (t : Bool). cond t (reported (add binary64 a b)) fine) far_is
+    ∙ ap₂ (λ (u v : Float). cond (far_off x (add binary64 u v)) (reported (add binary64 u v)) fine) a_is last
+    ∙ sym (sum_report ss ls x nan (length ss) refl even (λ z. omega arith))

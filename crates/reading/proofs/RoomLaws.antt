@@ -4,23 +4,21 @@ use mathlib.Core.Path.{◌≡◌, sym, subst}
 use mathlib.Core.List.{List}
 use native.Mathlib.Omega.{arith}
 use lib.ListN.{length, get_or}
+use Rattle.model.specs.Reading.{row_at}
 use Rattle.words.specs.Rows.{total}
 use Rattle.words.proofs.KeyLaws.{rows_in}
 use Rattle.words.proofs.Laws.{total_le, total_more}
 use Rattle.words.proofs.Scans.{row_fits}
 use Rattle.rules.specs.Parts.{counts}
 use Rattle.rules.proofs.Fits.{fit_in}
-use Rattle.reading.specs.Laid.{Before, Low, Ready}
+use Rattle.reading.specs.Laid.{Low, Ready}
+use Rattle.reading.proofs.NameLaws.{word_at}
 
 -- connection c, after n connections, p pairs and w warnings
 pub record Room (connections links : List ℕ) (c n p w : ℕ) : Type 0 where
-  pub row : c * 14 + 14 ≤ length connections
-  pub small : c < 16384
   pub part : get_or connections (c * 14 + 12) 0 + get_or connections (c * 14 + 13) 0 ≤ length links / 4
-  pub few : get_or connections (c * 14 + 12) 0 + get_or connections (c * 14 + 13) 0 ≤ 16384
   pub pairs : p + get_or connections (c * 14 + 13) 0 ≤ 16384
   pub warnings : w + get_or connections (c * 14 + 13) 0 < 32768
-  pub kept : n < 16384
 
 pub room : {junctions connections links : List ℕ} {c n p w : ℕ} → Ready junctions connections links
     → c < length connections / 14 → Low connections c n p w → Room connections links c n p w
@@ -30,13 +28,9 @@ room {connections = connections} {links = links} {c = c} ready there low =
     let part = fit_in 14 12 13 connections (length links / 4) ready.link_parts c there in
     let begins = ready.link_parts.begins c there in
     record {
-      row = omega arith;
-      small = omega (arith, ready.few_connections);
       part = part;
-      few = omega (arith, ready.few_links);
       pairs = omega (arith, low.pairs_low, ready.few_links);
       warnings = omega (arith, low.warnings_low, ready.few_links, ready.few_connections);
-      kept = omega (arith, low.connections_low, ready.few_connections);
     }
 
 -- the same connections, counted otherwise
@@ -68,8 +62,6 @@ low_dropped {connections} {c} k low =
 
 -- junction j, whose connections are those of its part, after n connections, p pairs and w warnings
 pub record Ground (junctions connections : List ℕ) (j first count n p w : ℕ) : Type 0 where
-  pub row : j * 8 + 8 ≤ length junctions
-  pub small : j < 16384
   pub part : first + count ≤ length connections / 14
   pub few : first + count ≤ 16384
   pub start : Low connections first n p w
@@ -77,12 +69,14 @@ pub record Ground (junctions connections : List ℕ) (j first count n p w : ℕ)
   pub warnings : w + count ≤ 32768
   pub next : first + count ≡ total (j + 1) (counts 8 7 junctions)
 
-pub ground : {junctions connections links : List ℕ} {j first count n p w : ℕ}
+pub ground : {junctions connections links : List ℕ} {j first count : ℕ} {row : List ℕ} {n p w : ℕ}
     → Ready junctions connections links → j < length junctions / 8
-    → Low connections (total j (counts 8 7 junctions)) n p w → first ≡ get_or junctions (j * 8 + 6) 0
-    → count ≡ get_or junctions (j * 8 + 7) 0 →
-    Ground junctions connections j first count n p w
-ground {junctions} {connections} {links} {j} {first} {count} {n} {p} {w} ready there before first_is count_is =
+    → Low connections (total j (counts 8 7 junctions)) n p w → row ≡ row_at 8 junctions j → first ≡ get_or row 6 0
+    → count ≡ get_or row 7 0 → Ground junctions connections j first count n p w
+ground {junctions} {connections} {links} {j} {first} {count} {row} {n} {p} {w} ready there before row_is first_is
+    count_is =
+    let begins-at = word_at 8 j junctions 6 (omega arith) row_is first_is in
+    let covers = word_at 8 j junctions 7 (omega arith) row_is count_is in
     let row_ends = row_fits (length junctions / 8) 8 j there in
     let rows_end = rows_in (length junctions) 8 in
     let part-there = fit_in 8 6 7 junctions (length connections / 14) ready.connection_parts j there in
@@ -92,20 +86,10 @@ ground {junctions} {connections} {links} {j} {first} {count} {n} {p} {w} ready t
     let links-before = total_le first (length connections / 14) (counts 14 13 connections) (omega arith) in
     let all-links = ready.link_parts.whole in
     record {
-      row = omega arith;
-      small = omega (arith, ready.few_junctions);
       part = omega arith;
       few = omega (arith, ready.few_connections);
       start = low;
       kept = low.connections_low;
       warnings = omega (arith, low.warnings_low, ready.few_connections, ready.few_links);
       next = omega (arith, total_more j (counts 8 7 junctions));
-    }
-
--- before the first junction
-pub before_all : (junctions connections : List ℕ) → Before junctions connections 0 0 0 0 0
-before_all junctions connections =
-    record {
-      junctions_low = omega arith;
-      low = record { connections_low = omega arith; pairs_low = omega arith; warnings_low = omega arith };
     }

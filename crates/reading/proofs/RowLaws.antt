@@ -2,7 +2,7 @@
 use Prim.Native.Nat.{ℕ, zero, suc, ◌+◌, ◌*◌, ◌/◌, ◌<◌, ◌≤◌}
 use mathlib.Core.Path.{◌≡◌, refl, sym, ap, ◌∙◌}
 use mathlib.Core.List.{List, [], ◌∷◌, ◌++◌, append_assoc, append-nil}
-use mathlib.Core.Bool.{true}
+use mathlib.Core.Option.{none}
 use native.Mathlib.Nat.{add-zero, suc-mul, zero-mul, mul-div_cancel}
 use native.Mathlib.Numerals.{add-one}
 use native.Mathlib.Omega.{arith}
@@ -13,8 +13,6 @@ use Rattle.model.specs.Lists.{gather}
 use Rattle.model.specs.Reading.{part_rows, row_at}
 use Rattle.model.specs.Rows.{rows, table, written}
 use Rattle.model.specs.Rules.{Rule, first_broken}
-use Rattle.tables.specs.Verdicts.{admits, refusal_of}
-use Rattle.tables.specs.declared.verdict.Verdict.{Verdict}
 use Rattle.tables.proofs.Called.{all_written, call_admitted, one_fits, one_short, too_short}
 use Rattle.words.specs.Rows.{spliced}
 use Rattle.words.proofs.Laws.{put_step, written_none}
@@ -86,16 +84,16 @@ numbered_rows {A} f w ws =
         ∙ go n (suc i))
 
 -- ---- a call that writes one table of n rows of w words, from what its checks answer
-module _ (w : ℕ) (rules : List Rule) (content out : List ℕ) (n : ℕ) (wide : length content ≡ n * w) (v : Verdict)
-    (free : admits v ≡ true) (first : refusal_of v ≡ first_broken rules) where
+module _ (w : ℕ) (rules : List Rule) (content out : List ℕ) (n : ℕ) (wide : length content ≡ n * w)
+    (first : none ≡ first_broken rules) where
   pub table_short : length out < n * w → outcome (refused 9) out ≡ called (table_writing w) rules content out
   table_short short =
       too_short (table_writing w) content out (one_short content out (omega arith))
-      ∙ call_admitted (table_writing w) rules content out v free first
+      ∙ call_admitted (table_writing w) rules content out first
 
   pub table_written : {after : List ℕ} → 0 < w → n * w ≤ length out → after ≡ written content out
       → outcome (wrote (n ∷ [])) after ≡ called (table_writing w) rules content out
   table_written positive room put =
       let rows : n ≡ length content / w = sym (ap (λ (m : ℕ). m / w) wide ∙ mul-div_cancel n positive) in
       all_written (table_writing w) content out (one_fits content out (omega arith)) (ap (λ (k : ℕ). k ∷ []) rows) put
-      ∙ call_admitted (table_writing w) rules content out v free first
+      ∙ call_admitted (table_writing w) rules content out first

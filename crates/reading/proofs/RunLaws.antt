@@ -2,7 +2,7 @@
 use Prim.Native.Nat.{ℕ, ◌+◌, ◌*◌, ◌/◌, ◌≤◌, ◌<◌}
 use mathlib.Core.Path.{◌≡◌, refl, sym, ap, ap₂, ◌∙◌, subst}
 use mathlib.Core.Bool.{Bool, true, false, cond}
-use mathlib.Core.List.{List, [], ◌∷◌, ◌++◌, append_assoc, append-nil}
+use mathlib.Core.List.{List, [], ◌∷◌, ◌++◌, append-nil}
 use native.Mathlib.Nat.{add-mul, add-zero, mul-div_cancel, zero-mul}
 use native.Mathlib.Omega.{arith}
 use lib.ListN.{length, take, drop, length-append, take-append-drop}
@@ -10,18 +10,20 @@ use Rattle.model.specs.Lists.{gather}
 use Rattle.model.specs.Reading.{ReadWarning, part_rows, read_warning_row}
 use Rattle.model.specs.Records.{Connection, Junction, Pair}
 use Rattle.model.specs.Rows.{rows_from, written}
-use Rattle.model.specs.Tables.{bit, connection_row, junction_row, pair_row}
+use Rattle.model.specs.Tables.{connection_row, junction_row, pair_row}
 use Rattle.laws.proofs.WordsReversed.{gather_append}
 use Rattle.words.specs.Rows.{spliced}
 use Rattle.words.proofs.Laws.{put_all, spliced_twice}
 use Rattle.reading.specs.Laid.{ConnectionOuts, ConnectionsRead, JunctionOuts, JunctionsRead, LinkOuts}
-use Rattle.reading.specs.Laid.{LinksRead, Output, PutIf, Run, Warned, output}
+use Rattle.reading.specs.Laid.{LinksRead, Output, Run, Warned, junction_outs, output}
 use Rattle.reading.proofs.RowLaws.{part_more, part_next}
+use Rattle.laws.proofs.RowTests.{rows_from_append}
 
 -- ---- rows of one table
 pub run_none : (w : ℕ) (o : Output) → Run w [] 0 o o
 unfolding spliced
 run_none w o = record {
+  same = refl;
   count = sym (add-zero o.rows);
   wide = sym (zero-mul w);
   put = λ _. sym (ap₂ (λ (l : List ℕ) (k : ℕ). l ++ drop k o.words) (append-nil (take (o.rows * w) o.words))
@@ -30,12 +32,6 @@ run_none w o = record {
   kept = refl;
 }
 
-pub run_one : (w : ℕ) (row : List ℕ) (old : Output) {after : List ℕ} → length row ≡ w
-    → PutIf (old.rows * w) row old.words after → length after ≡ length old.words
-    → Run w row 1 old (output after (old.rows + 1))
-run_one w row old wide put kept =
-    record { count = refl; wide = let one : length row ≡ 1 * w = omega arith in one; put = put; kept = kept }
-
 pub run_join : {w k l : ℕ} {a b : List ℕ} {x y z : Output} → Run w a k x y → Run w b l y z
     → Run w (a ++ b) (k + l) x z
 run_join {w} {k} {l} {a} {b} {x} {y} {z} r s =
@@ -43,6 +39,7 @@ run_join {w} {k} {l} {a} {b} {x} {y} {z} r s =
     let begins : y.rows * w ≡ x.rows * w + length a =
     ap (λ (m : ℕ). m * w) r.count ∙ add-mul x.rows k w ∙ ap (λ (m : ℕ). x.rows * w + m) (sym r.wide) in
     record {
+      same = s.same ∙ r.same;
       count = omega (arith, r.count, s.count);
       wide = both ∙ ap₂ ◌+◌ r.wide s.wide ∙ sym (add-mul k l w);
       put = λ room. s.put (omega (arith, r.kept))
@@ -76,19 +73,13 @@ rows_join : {A : Type 0} (row : A → List ℕ) (xs ys : List A) {w : ℕ} {x y 
     → Run w (gather row (xs ++ ys)) (length (xs ++ ys)) x z
 rows_join row xs ys r s = run_as (run_join r s) (sym (gather_append row xs ys)) (sym (length-append xs ys))
 
-pub bit_most : (b : Bool) → bit b ≤ 1
-bit_most true = omega arith
-bit_most false = omega arith
-
 -- a warning that is given where a test holds
-pub warned_if : {b holds : Bool} (v : ReadWarning) {x y : Output} → b ≡ holds
-    → Run 4 (cond b (read_warning_row v) []) (bit b) x y → Warned (cond holds (v ∷ []) []) x y
-warned_if {holds = holds} v {x} {y} e r =
-    go holds (subst (λ (a : Bool). Run 4 (cond a (read_warning_row v) []) (bit a) x y) e r)
-  where
-    go : (a : Bool) → Run 4 (cond a (read_warning_row v) []) (bit a) x y → Warned (cond a (v ∷ []) []) x y
-    go true r = run_as r (sym (append-nil (read_warning_row v))) refl
-    go false r = r
+pub warned_on : {holds : Bool} (v : ReadWarning) {x y : Output} → holds ≡ true → Run 4 (read_warning_row v) 1 x y
+    → Warned (cond holds (v ∷ []) []) x y
+warned_on v e r = rw e (run_as r (sym (append-nil (read_warning_row v))) refl)
+
+pub warned_off : {holds : Bool} (v : ReadWarning) (x : Output) → holds ≡ false → Warned (cond holds (v ∷ []) []) x x
+warned_off v x e = rw e (run_none 4 x)
 
 -- warnings by row: those of row k after those of the k rows before it
 pub warned_turn : (g : ℕ → List ReadWarning) (k : ℕ) {x y z : Output} → Warned (gather g (part_rows 0 k)) x y
@@ -115,18 +106,6 @@ links_join {ps} {qs} {ws} {vs} r s = record {
 }
 
 -- ---- connections, and junctions: each part begins where those before it end
-from_append : {X A : Type 0} (row : ℕ → X → List ℕ) (f : X → List A) (i : ℕ) (xs ys : List X)
-    → rows_from row f i (xs ++ ys) ≡ rows_from row f i xs ++ rows_from row f (i + length (gather f xs)) ys
-from_append row f i [] ys = ap (λ (k : ℕ). rows_from row f k ys) (sym (add-zero i))
-from_append row f i (x ∷ xs) ys =
-    let counted = length-append (f x) (gather f xs) in
-    let ends : i + length (f x) + length (gather f xs) ≡ i + length (gather f (x ∷ xs)) = omega arith in
-    ap (λ (l : List ℕ). row i x ++ l)
-    (from_append row f (i + length (f x)) xs ys
-    ∙ ap (λ (k : ℕ). rows_from row f (i + length (f x)) xs ++ rows_from row f k ys) ends)
-    ∙ sym (append_assoc (row i x) (rows_from row f (i + length (f x)) xs)
-    (rows_from row f (i + length (gather f (x ∷ xs))) ys))
-
 -- runs of rows with parts, the second beginning at k
 parts_join : {X A : Type 0} (row : ℕ → X → List ℕ) (f : X → List A) (i : ℕ) (xs ys : List X) {w k : ℕ}
     {x y z : Output} → k ≡ i + length (gather f xs) → Run w (rows_from row f i xs) (length xs) x y
@@ -134,7 +113,7 @@ parts_join : {X A : Type 0} (row : ℕ → X → List ℕ) (f : X → List A) (i
     → Run w (rows_from row f i (xs ++ ys)) (length (xs ++ ys)) x z
 parts_join row f i xs ys ends r s =
     run_as (run_join r s)
-    (ap (λ (k : ℕ). rows_from row f i xs ++ rows_from row f k ys) ends ∙ sym (from_append row f i xs ys))
+    (ap (λ (k : ℕ). rows_from row f i xs ++ rows_from row f k ys) ends ∙ sym (rows_from_append row f i xs ys))
     (sym (length-append xs ys))
 
 pub connections_as : {cs ds : List Connection} {ws vs : List ReadWarning} {old new : ConnectionOuts}
@@ -188,3 +167,38 @@ module _ (f : ℕ → List Junction) (g : ℕ → List ReadWarning) (k : ℕ) wh
       → JunctionsRead (gather f (part_rows 0 k)) (gather g (part_rows 0 k)) x y → JunctionsRead (f k) (g k) y z
       → JunctionsRead (gather f (part_rows 0 (k + 1))) (gather g (part_rows 0 (k + 1))) x z
   junctions_turn r s = junctions_as (junctions_join r s) (part_next f k) (part_next g k)
+
+-- ---- whichever slices the outputs are
+run_of_words : {w k : ℕ} {rows : List ℕ} {x y : Output} → Run w rows k x y
+    → Run w rows k (output x.words x.rows) (output y.words y.rows)
+run_of_words r = record { same = refl; count = r.count; wide = r.wide; put = r.put; kept = r.kept }
+
+-- a run, as its output is called before and after
+pub output_as : {w k n : ℕ} {rows out after : List ℕ} {x y : Output} → Run w rows k x y → x.words ≡ out → x.rows ≡ n
+    → y.words ≡ after → Run w rows k (output out n) (output after y.rows)
+output_as r a m b = rw (← a, ← m, ← b) (run_of_words r)
+
+-- junctions read into outputs, as they are called before and after
+pub laid_as : {js : List Junction} {ws : List ReadWarning} {x y : JunctionOuts} {jo co po wo jo' co' po' wo' : List ℕ}
+    {j k p w : ℕ}
+    → JunctionsRead js ws x y
+    → x.junctions.words ≡ jo → x.junctions.rows ≡ j
+    → x.rest.connections.words ≡ co → x.rest.connections.rows ≡ k
+    → x.rest.rest.pairs.words ≡ po → x.rest.rest.pairs.rows ≡ p
+    → x.rest.rest.warnings.words ≡ wo → x.rest.rest.warnings.rows ≡ w
+    → y.junctions.words ≡ jo' → y.rest.connections.words ≡ co'
+    → y.rest.rest.pairs.words ≡ po' → y.rest.rest.warnings.words ≡ wo'
+    → JunctionsRead js ws (junction_outs jo j co k po p wo w)
+    (junction_outs jo' y.junctions.rows co' y.rest.connections.rows po' y.rest.rest.pairs.rows wo'
+    y.rest.rest.warnings.rows)
+laid_as r a m b n d q e v a' b' d' e' =
+    rw (← a, ← m, ← b, ← n, ← d, ← q, ← e, ← v, ← a', ← b', ← d', ← e') (record {
+      rows = run_of_words r.rows;
+      rest = record {
+        rows = run_of_words r.rest.rows;
+        rest = record {
+          pairs = run_of_words r.rest.rest.pairs;
+          warnings = run_of_words r.rest.rest.warnings;
+        };
+      };
+    })

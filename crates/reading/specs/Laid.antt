@@ -1,12 +1,14 @@
 -- What the readers of lane links, connections and junctions have done: rows counted, and their words put where
 -- an output has room for them. Definitions only.
-use Rattle.std.specs.Prelude.{◌≡◌, Bool, List, [], ◌∷◌, ℕ, ◌+◌, ◌*◌, ◌/◌, ◌≤◌, ◌<◌, length, get_or}
+use Rattle.std.specs.Prelude.{◌≡◌, Bool, ◌&&◌, List, [], ℕ, ◌+◌, ◌*◌, ◌/◌, ◌≤◌, length}
 use Rattle.model.specs.Lists.{gather}
-use Rattle.model.specs.Reading.{RawTables, ReadWarning, kind_at, lane_link_warnings, read_pair, read_warning_row}
+use Rattle.model.specs.Reading.{RawTables, ReadWarning, lane_link_warnings, read_pair, read_warning_row}
 use Rattle.model.specs.Reading.{to_list}
 use Rattle.model.specs.Records.{Connection, Junction, Pair}
-use Rattle.model.specs.Rows.{rows_from}
-use Rattle.model.specs.Tables.{bit, connection_row, junction_row, kind_word, pair_row}
+use Rattle.model.specs.ReadingCalls.{raw_sized, rows_named}
+use Rattle.model.specs.Rows.{parts_fit, rows_from, table}
+use Rattle.model.specs.Rules.{sized}
+use Rattle.model.specs.Tables.{connection_row, junction_row, pair_row}
 use Rattle.words.specs.Rows.{spliced, total}
 use Rattle.rules.specs.Parts.{Fit, counts}
 
@@ -23,8 +25,9 @@ unfoldable pub drops_at : (text lane_links : List ℕ) → (j c l : ℕ) → Lis
 drops_at text lane_links j c l = lane_link_warnings (raw_tables text [] [] lane_links) j c l
 
 -- ---- outputs so far
--- how many rows an output has, and its words
+-- which slice an output is, how many rows it has, and its words
 pub record Output : Type 0 where
+  pub slice : ℕ
   pub rows : ℕ
   pub words : List ℕ
 
@@ -43,9 +46,9 @@ pub record JunctionOuts : Type 0 where
   pub junctions : Output
   pub rest : ConnectionOuts
 
--- built from the words of each and its number of rows, in the order of the code's parameters
+-- built from the words of each and its number of rows, in the order of the code's parameters, whichever slice it is
 abbrev pub output : List ℕ → ℕ → Output
-output words rows = record { rows = rows; words = words }
+output words rows = record { slice = 0; rows = rows; words = words }
 
 abbrev pub link_outs : List ℕ → ℕ → List ℕ → ℕ → LinkOuts
 link_outs po p wo w = record { pairs = output po p; warnings = output wo w }
@@ -56,21 +59,14 @@ connection_outs co n po p wo w = record { connections = output co n; rest = link
 abbrev pub junction_outs : List ℕ → ℕ → List ℕ → ℕ → List ℕ → ℕ → List ℕ → ℕ → JunctionOuts
 junction_outs jo m co n po p wo w = record { junctions = output jo m; rest = connection_outs co n po p wo w }
 
--- the row of the connection whose raw row begins at word `at`, its connecting road's name at word k, with that contact
--- and `count` pairs from row `first` on
-abbrev pub connection_read : List ℕ → (at k : ℕ) → Bool → (first count : ℕ) → List ℕ
-connection_read connections at k contact first count =
-    get_or connections (at + 4) 0 ∷ get_or connections (at + 4 + 1) 0 ∷ get_or connections k 0
-    ∷ get_or connections (k + 1) 0
-    ∷ bit contact ∷ first ∷ count ∷ []
-
 -- ---- what a run of reading leaves: from the outputs `old` to the outputs `new`
 -- a row put into an output from word `at` on, where there is room
 abbrev pub PutIf : (at : ℕ) → (row out after : List ℕ) → Type 0
 PutIf at row out after = at + length row ≤ length out → after ≡ spliced at row out
 
--- k rows of w words more: they are counted, and put in where there is room
+-- k rows of w words more: they are counted, and put in where there is room; it is still the slice that it was
 pub record Run (w : ℕ) (rows : List ℕ) (k : ℕ) (old new : Output) : Type 0 where
+  pub same : new.slice ≡ old.slice
   pub count : new.rows ≡ old.rows + k
   pub wide : length rows ≡ k * w
   pub put : PutIf (old.rows * w) rows old.words new.words
@@ -104,6 +100,22 @@ pub record JunctionsRead (js : List Junction) (ws : List ReadWarning) (old new :
       old.junctions new.junctions
   pub rest : ConnectionsRead (connections_of js) ws old.rest new.rest
 
+-- ---- 1, 2 and 5, as the code tests them
+abbrev pub sizes : RawTables → Bool
+sizes t =
+    raw_sized t.text 8 (length t.junctions) && sized 14 16384 (length t.connections)
+    && sized 4 16384 (length t.lane_links)
+
+abbrev pub named : RawTables → Bool
+named t =
+    rows_named t.text 8 3 t.junctions && rows_named t.text 14 6 t.connections
+    && rows_named t.text 4 2 t.lane_links
+
+abbrev pub parted : RawTables → Bool
+parted t =
+    parts_fit 6 7 0 (length t.connections / 14) (table 8 t.junctions)
+    && parts_fit 12 13 0 (length t.lane_links / 4) (table 14 t.connections)
+
 -- what 1 and 5 say of the raw tables
 pub record Ready (junctions connections lane_links : List ℕ) : Type 0 where
   pub few_junctions : length junctions / 8 ≤ 16384
@@ -118,12 +130,6 @@ pub record Low (connections : List ℕ) (c n p w : ℕ) : Type 0 where
   pub connections_low : n ≤ c
   pub pairs_low : p ≤ total c (counts 14 13 connections)
   pub warnings_low : w ≤ c + total c (counts 14 13 connections)
-
--- connections of junction j are read, whose kind is `kind`
-pub record At (t : RawTables) (j kind : ℕ) : Type 0 where
-  pub ready : Ready t.junctions t.connections t.lane_links
-  pub junction_there : j < length t.junctions / 8
-  pub kind_is : kind ≡ kind_word (kind_at t j)
 
 -- the same of the rows before junction j: at most j junctions, and what their connections give
 pub record Before (junctions connections : List ℕ) (j m n p w : ℕ) : Type 0 where

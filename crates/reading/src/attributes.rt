@@ -1,82 +1,91 @@
-// Attributes: names that may be absent, at two words of a table.
-ghost use Rattle.std.specs.Prelude.{◌≡◌, ◌+◌, ◌*◌, ◌≤◌, ◌<◌, length, get_or};
-ghost use Rattle.model.specs.Lists.{is_some};
-ghost use Rattle.model.specs.Tables;
-ghost use Rattle.model.specs.Tables.{is_absent, name_in};
-ghost use Rattle.model.specs.Reading.{reads, number_of, contact_of};
+// Attributes: names that may be absent, at two words of a row.
+ghost use Rattle.std.specs.Prelude.{◌≡◌, ◌+◌, ◌*◌, ◌≤◌, ◌<◌, length};
+ghost use Rattle.model.specs.Tables.{name_in};
+ghost use Rattle.model.specs.Reading.{reads, same_names, number_of, contact_of};
 ghost use Rattle.model.specs.ReadingCalls.{name_worded, names_worded, rows_named};
-ghost use Rattle.reading.specs.Read.{contact_read, link_read};
+ghost use Rattle.words.specs.Fields.{number_read};
+ghost use Rattle.reading.specs.Read.{attribute_read, contact_read};
 
 use crate::numbers;
-use crate::numbers::Link;
-use words::tests::{both, either, is};
-use words::{names, rows};
+use words::name::Name;
 
-// Whether the name at words `at` and `at + 1` is absent.
-pub fn absent_at(ws: &[u32], at: usize) -> bool
+// The attribute at words `at` and `at + 1`; none where it is absent.
+pub fn attribute(ws: &[u32], at: usize) -> Option<Name>
     requires { at + 1 < length ws.now }
-    ensures { result ≡ is_absent (get_or ws.now at 0) (get_or ws.now (at + 1) 0) }
+    ensures { attribute_read result ≡ name_in ws.now at }
 {
-    both(is(ws[at], 4294967295), is(ws[at + 1], 0))
+    let name = Name::at(ws, at);
+    (!name.is_absent()).then_some(name)
 }
 
 // Whether the attribute is there and has just these bytes.
-pub fn reads_at(text: &[u8], ws: &[u32], at: usize, bytes: &[u8]) -> bool
-    requires { at + 1 < length ws.now }
-    ensures { result ≡ reads text.now bytes.now (name_in ws.now at) }
+#[tactic(auto, using(crate::proofs::NameLaws::bytes_are))]
+pub fn reads(text: &[u8], bytes: &[u8], attribute: Option<Name>) -> bool
+    ensures { result ≡ reads text.now bytes.now (attribute_read attribute) }
 {
-    if absent_at(ws, at) {
-        return false;
-    }
-    let s = rows::word(ws, at);
-    let n = rows::word(ws, at + 1);
-    names::same_bytes(names::name(text, s, n), bytes)
+    attribute.is_some_and(|name| name.bytes(text) == bytes)
 }
 
-// 1 where the attribute is there.
-pub fn there_at(ws: &[u32], at: usize) -> u32
-    requires { at + 1 < length ws.now }
-    ensures { result ≡ Tables.bit (is_some (name_in ws.now at)) }
+// Whether two attributes are there and equal: two absent ones are not, and names are equal by their bytes.
+pub fn same_names(text: &[u8], a: Option<Name>, b: Option<Name>) -> bool
+    ensures { result ≡ same_names text.now (attribute_read a) (attribute_read b) }
 {
-    if absent_at(ws, at) {
-        return 0;
-    }
-    1
+    a.zip(b).is_some_and(|(a, b)| a.same(b, text))
 }
 
-// What a contactPoint says: whether the contact is the end, whether it is given, whether it is spelled loosely.
-#[derive(Clone, Copy)]
-pub struct ContactPoint {
-    pub contact: bool,
-    pub given: bool,
-    pub loose: bool,
+// What a contactPoint says: nothing, the start, the end, or neither of the two, which is a loose spelling.
+#[derive(Clone, Copy, PartialEq, Eq, Debug)]
+pub enum ContactPoint {
+    Absent,
+    Start,
+    End,
+    Loose,
 }
 
-// The contactPoint at words `at` and `at + 1`.
-pub fn contact_at(text: &[u8], ws: &[u32], at: usize) -> ContactPoint
-    requires { at + 1 < length ws.now }
-    ensures { result ≡ contact_read (contact_of text.now (name_in ws.now at)) }
-{
-    let contact = reads_at(text, ws, at, b"end");
-    let given = either(reads_at(text, ws, at, b"start"), contact);
-    ContactPoint {
-        contact,
-        given,
-        loose: both(!absent_at(ws, at), !given),
+impl ContactPoint {
+    // Whether the contact is the end.
+    pub fn is_end(self) -> bool
+        ensures { result ≡ (contact_read self).contact }
+    {
+        self == ContactPoint::End
     }
+
+    // Whether a contact is given.
+    pub fn is_given(self) -> bool
+        ensures { result ≡ (contact_read self).given }
+    {
+        matches!(self, ContactPoint::Start | ContactPoint::End)
+    }
+
+    // Whether it is spelled loosely.
+    pub fn is_loose(self) -> bool
+        ensures { result ≡ (contact_read self).loose }
+    {
+        self == ContactPoint::Loose
+    }
+}
+
+// What the attribute says as a contactPoint. (Tried: a match on the texts, of which the check leaves goals open.)
+pub fn contact_of(text: &[u8], attribute: Option<Name>) -> ContactPoint
+    ensures { contact_read result ≡ contact_of text.now (attribute_read attribute) }
+{
+    if attribute.is_none() {
+        return ContactPoint::Absent;
+    }
+    if reads(text, b"end", attribute) {
+        return ContactPoint::End;
+    }
+    if reads(text, b"start", attribute) {
+        return ContactPoint::Start;
+    }
+    ContactPoint::Loose
 }
 
 // The attribute as a lane number.
-pub fn number_at(text: &[u8], ws: &[u32], at: usize) -> Link
-    requires { at + 1 < length ws.now }
-    ensures { result ≡ link_read (number_of text.now (name_in ws.now at)) }
+pub fn number_of(text: &[u8], attribute: Option<Name>) -> Option<u32>
+    ensures { number_read result ≡ number_of text.now (attribute_read attribute) }
 {
-    if absent_at(ws, at) {
-        return numbers::no_link();
-    }
-    let s = rows::word(ws, at);
-    let n = rows::word(ws, at + 1);
-    numbers::lane_number(names::name(text, s, n))
+    numbers::lane_number(attribute?.bytes(text))
 }
 
 // 2: whether the name is absent or lies in the text.
@@ -84,12 +93,8 @@ fn name_fits(text: &[u8], ws: &[u32], at: usize) -> bool
     requires { at + 1 < length ws.now }
     ensures { result ≡ name_worded text.now ws.now at }
 {
-    if absent_at(ws, at) {
-        return true;
-    }
-    let s = rows::word(ws, at);
-    let n = rows::word(ws, at + 1);
-    s + n <= text.len()
+    let name = Name::at(ws, at);
+    name.is_absent() || name.is_placed(text)
 }
 
 // 2: n names from word `at` on.
@@ -97,14 +102,7 @@ pub fn names_fit(text: &[u8], ws: &[u32], at: usize, n: usize) -> bool
     requires { (at + n * 2 ≤ length ws.now) × (n ≤ 6) }
     ensures { result ≡ names_worded text.now n ws.now at }
 {
-    let mut i = 0;
-    while i < n {
-        if !name_fits(text, ws, at + i * 2) {
-            return false;
-        }
-        i += 1;
-    }
-    true
+    (0..n).all(|i| name_fits(text, ws, at + i * 2))
 }
 
 // 2: the n names that each row of w words begins with.
@@ -112,13 +110,5 @@ pub fn rows_named(text: &[u8], ws: &[u32], w: usize, n: usize) -> bool
     requires { (0 < w) × (w ≤ 14) × (n * 2 ≤ w) × (n ≤ 6) }
     ensures { result ≡ rows_named text.now w n ws.now }
 {
-    let rows = ws.len() / w;
-    let mut i = 0;
-    while i < rows {
-        if !names_fit(text, ws, i * w, n) {
-            return false;
-        }
-        i += 1;
-    }
-    true
+    ws.chunks_exact(w).all(|row| names_fit(text, row, 0, n))
 }

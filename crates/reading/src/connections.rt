@@ -1,242 +1,170 @@
 // Connections: those that are kept with their pairs, and the warnings.
-ghost use Rattle.std.specs.Prelude.{◌≡◌, ◌&&◌, [], ◌+◌, ◌*◌, ◌/◌, ◌≤◌, ◌<◌, length};
-ghost use Rattle.model.specs.Lists.{gather, is_some};
-ghost use Rattle.model.specs.Tables.{name_in, kind_word};
-ghost use Rattle.model.specs.Reading.{RawTables, same_names, kind_read, kind_at, passed_over, part_rows};
-ghost use Rattle.model.specs.Reading.{kept_connections, connection_warnings};
-ghost use Rattle.reading.specs.Laid.{At, ConnectionOuts, ConnectionsRead, Low, connection_outs, connection_read};
-ghost use Rattle.reading.specs.Laid.{raw_tables};
+ghost use Rattle.std.specs.Prelude.{◌≡◌, cond, [], ◌∷◌, ◌+◌, ◌/◌, ◌≤◌, ◌<◌, length};
+ghost use Rattle.model.specs.Lists.{gather, pick};
+ghost use Rattle.model.specs.Rules.{is_direct};
+ghost use Rattle.model.specs.Tables.{name_in};
+ghost use Rattle.model.specs.Reading.{kind_read, kind_at, passed_over, part_rows, kept_connections};
+ghost use Rattle.model.specs.Reading.{connection_loose, connection_warnings};
+ghost use Rattle.words.specs.Fields.{junction_kind};
+ghost use Rattle.reading.specs.Laid.{ConnectionsRead, Warned};
+ghost use Rattle.reading.specs.Outs.{LowLaid, connections_laid, laid};
+ghost use Rattle.reading.specs.Read.{attribute_read, both_of, contact_read, names_read, tables_read};
 
-use crate::attributes::{absent_at, contact_at, reads_at};
-use crate::links::{put_if, read_links, warn_if};
-use words::tests::bit;
-use words::{names, rows};
+use crate::attributes::{ContactPoint, attribute, contact_of, reads, same_names};
+use crate::laid::Laid;
+use crate::links::read_links;
+use crate::raw::Admitted;
+use crate::warning::Warning;
+use words::kinds::JunctionKind;
+use words::name::Name;
+use words::rows;
 
-// How many connections, pairs and warnings there are.
-#[derive(Clone, Copy)]
-pub struct Reach {
-    pub connections: usize,
-    pub pairs: usize,
-    pub warnings: usize,
+// A junction's kind by its type. (By `reads`, as a contactPoint is read.)
+pub fn kind_read(text: &[u8], attribute: Option<Name>) -> JunctionKind
+    ensures { junction_kind result ≡ kind_read text.now (attribute_read attribute) }
+{
+    if reads(text, b"direct", attribute) {
+        return JunctionKind::Direct;
+    }
+    if reads(text, b"virtual", attribute) {
+        return JunctionKind::Virtual;
+    }
+    JunctionKind::Common
 }
 
-// A junction's kind by its type: 0 common, 1 direct, 2 virtual.
-pub fn kind_at(text: &[u8], ws: &[u32], at: usize) -> u32
-    requires { at + 1 < length ws.now }
-    ensures { result ≡ kind_word (kind_read text.now (name_in ws.now at)) }
+// The incoming and the connecting road of a raw connection, in a junction of this kind; none where it has not both.
+fn roads(row: &[u32; 14], kind: JunctionKind) -> Option<(Name, Name)>
+    ensures { names_read result ≡ both_of (name_in row.now 4)
+        (pick (is_direct (junction_kind kind)) (name_in row.now 6) (name_in row.now 8)) }
 {
-    if reads_at(text, ws, at, b"direct") {
-        return 1;
-    }
-    if reads_at(text, ws, at, b"virtual") {
-        return 2;
-    }
-    0
-}
-
-// Whether two attributes are there and equal.
-fn same_names(text: &[u8], xs: &[u32], a: usize, ys: &[u32], b: usize) -> bool
-    requires { (a + 1 < length xs.now) × (b + 1 < length ys.now) }
-    ensures { result ≡ same_names text.now (name_in xs.now a) (name_in ys.now b) }
-{
-    if absent_at(xs, a) {
-        return false;
-    }
-    if absent_at(ys, b) {
-        return false;
-    }
-    let s = rows::word(ys, b);
-    let n = rows::word(ys, b + 1);
-    names::named(text, xs, a, s, n)
-}
-
-// Whether connection c of junction j is passed over.
-fn passed_over(
-    text: &[u8],
-    junctions: &[u32],
-    connections: &[u32],
-    j: usize,
-    c: usize,
-    kind: u32,
-) -> bool
-    requires j_in_bounds { (j < length junctions.now / 8) × (c < length connections.now / 14) × (j < 16384)
-        × (c < 16384) }
-    requires kind_value { let t : RawTables = raw_tables text.now junctions.now connections.now [] in
-        kind ≡ kind_word (kind_at t j) }
-    ensures { let t : RawTables = raw_tables text.now junctions.now connections.now [] in
-        result ≡ passed_over t j c }
-{
-    if kind != 2 {
-        return false;
-    }
-    if reads_at(text, connections, c * 14 + 2, b"virtual") {
-        return true;
-    }
-    same_names(text, connections, c * 14 + 4, junctions, j * 8 + 4)
-}
-
-// Where the name of a connection's connecting road stands in its row.
-fn road_word(kind: u32) -> usize
-    ensures { (result ≤ 8) × (kind ≡ 1 → result ≡ 8) × ((kind ≡ 1 → ⊥) → result ≡ 6) }
-{
-    if kind == 1 {
-        return 8;
-    }
-    6
-}
-
-// Whether two attributes are both there.
-fn both_there(ws: &[u32], a: usize, b: usize) -> bool
-    requires { (a + 1 < length ws.now) × (b + 1 < length ws.now) }
-    ensures { result ≡ (is_some (name_in ws.now a) && is_some (name_in ws.now b)) }
-{
-    if absent_at(ws, a) {
-        return false;
-    }
-    !absent_at(ws, b)
-}
-
-// The row of the connection whose raw row begins at word `at` and whose connecting road stands at word k, with `count`
-// pairs from row `first` on.
-fn connection_row(
-    connections: &[u32],
-    at: usize,
-    k: usize,
-    contact: bool,
-    first: usize,
-    count: usize,
-) -> [u32; 7]
-    requires { (at + 14 ≤ length connections.now) × (k + 1 < length connections.now) × (first ≤ 16384)
-        × (count ≤ 16384) }
-    ensures { result ≡ connection_read connections.now at k contact first count }
-{
-    [
-        connections[at + 4],
-        connections[at + 4 + 1],
-        connections[k],
-        connections[k + 1],
-        bit(contact),
-        first as u32,
-        count as u32,
-    ]
-}
-
-// Reads connection c of junction j, after n connections, p pairs and w warnings.
-fn read_connection(
-    text: &[u8],
-    junctions: &[u32],
-    connections: &[u32],
-    links: &[u32],
-    j: usize,
-    c: usize,
-    kind: u32,
-    co: &mut [u32],
-    n: usize,
-    po: &mut [u32],
-    p: usize,
-    wo: &mut [u32],
-    w: usize,
-) -> Reach
-    requires at { let g : RawTables × ConnectionOuts = (
-      raw_tables text.now junctions.now connections.now links.now,
-      connection_outs co.old n po.old p wo.old w,
-    ) in
-        At g.0 j kind }
-    requires c_in_bounds { (c < length connections.now / 14) × Low connections.now c n p w }
-    ensures { let g : RawTables × ConnectionOuts = (
-      raw_tables text.now junctions.now connections.now links.now,
-      connection_outs co.old n po.old p wo.old w,
-    ) in
-        ConnectionsRead (kept_connections g.0 j c) (connection_warnings g.0 j c) g.1
-        (connection_outs co.new result.connections po.new result.pairs wo.new result.warnings)
-        × Low connections.now (c + 1) result.connections result.pairs result.warnings }
-{
-    if passed_over(text, junctions, connections, j, c, kind) {
-        return Reach {
-            connections: n,
-            pairs: p,
-            warnings: w,
-        };
-    }
-    let at = c * 14;
-    let k = at + road_word(kind);
-    if !both_there(connections, at + 4, k) {
-        put_if(wo, w * 4, &[1, j as u32, c as u32, 0]);
-        return Reach {
-            connections: n,
-            pairs: p,
-            warnings: w + 1,
-        };
-    }
-    let first = rows::word(connections, at + 12);
-    let count = rows::word(connections, at + 13);
-    let point = contact_at(text, connections, at + 10);
-    let v = warn_if(point.loose, &[4, j as u32, c as u32, 0], wo, w);
-    let q = read_links(text, links, j as u32, c as u32, first, count, po, p, wo, v);
-    let row = connection_row(connections, at, k, point.contact, p, q.pairs - p);
-    put_if(co, n * 7, &row);
-    Reach {
-        connections: n + 1,
-        pairs: q.pairs,
-        warnings: q.warnings,
-    }
-}
-
-// Reads `count` connections from row `first` on.
-pub fn read_connections(
-    text: &[u8],
-    junctions: &[u32],
-    connections: &[u32],
-    links: &[u32],
-    j: usize,
-    first: usize,
-    count: usize,
-    kind: u32,
-    co: &mut [u32],
-    n: usize,
-    po: &mut [u32],
-    p: usize,
-    wo: &mut [u32],
-    w: usize,
-) -> Reach
-    requires at { let g : RawTables × ConnectionOuts = (
-      raw_tables text.now junctions.now connections.now links.now,
-      connection_outs co.old n po.old p wo.old w,
-    ) in
-        At g.0 j kind }
-    requires count_in_bounds { (first + count ≤ length connections.now / 14) × Low connections.now first n p w }
-    ensures { let g : RawTables × ConnectionOuts = (
-      raw_tables text.now junctions.now connections.now links.now,
-      connection_outs co.old n po.old p wo.old w,
-    ) in
-        ConnectionsRead (gather (kept_connections g.0 j) (part_rows first count))
-        (gather (connection_warnings g.0 j) (part_rows first count)) g.1
-        (connection_outs co.new result.connections po.new result.pairs wo.new result.warnings)
-        × Low connections.now (first + count) result.connections result.pairs result.warnings }
-{
-    let mut reach = Reach {
-        connections: n,
-        pairs: p,
-        warnings: w,
+    let incoming = attribute(row, 4)?;
+    let connecting = match kind {
+        JunctionKind::Direct => attribute(row, 8),
+        _ => attribute(row, 6),
     };
-    let mut k = 0;
-    while k < count {
-        reach = read_connection(
-            text,
-            junctions,
-            connections,
-            links,
-            j,
-            first + k,
-            kind,
-            co,
-            reach.connections,
-            po,
-            reach.pairs,
-            wo,
-            reach.warnings,
-        );
-        k += 1;
+    Some((incoming, connecting?))
+}
+
+// Warning 4 for connection c of junction j, where its contactPoint is spelled loosely.
+fn warn_loose(point: ContactPoint, j: u32, c: u32, warnings: &mut Laid<4>)
+    requires { warnings.old.rows ≤ 32768 }
+    ensures warned { Warned (cond (contact_read point).loose (connection_loose j c ∷ []) []) (laid warnings.old)
+        (laid warnings.new) }
+    ensures few { warnings.new.rows ≤ warnings.old.rows + 1 }
+{
+    if point.is_loose() {
+        warnings.put(&Warning::ConnectionLoose {
+            junction: j,
+            connection: c,
+        }
+        .row());
     }
-    reach
+}
+
+// A raw junction: the tables, its row and its kind.
+#[derive(Clone, Copy)]
+pub struct RawJunction<'a> {
+    pub tables: Admitted<'a>,
+    pub row: usize,
+    pub kind: JunctionKind,
+    ghost there: { row < length tables.raw.junctions.now / 8 },
+    ghost kind_is: { junction_kind kind ≡ kind_at (tables_read tables.raw) row },
+}
+
+impl<'a> RawJunction<'a> {
+    // Whether connection c is passed over.
+    #[tactic(auto, unfolding(model::specs::Reading::passed_over))]
+    fn passes_over(&self, c: usize) -> bool
+        requires { c < length self.now.tables.raw.connections.now / 14 }
+        ensures { result ≡ passed_over (tables_read self.now.tables.raw) self.now.row c }
+    {
+        let text = self.tables.raw.text;
+        let row = self.tables.connection(c);
+        self.kind == JunctionKind::Virtual
+            && (reads(text, b"virtual", attribute(row, 2))
+                || same_names(
+                    text,
+                    attribute(row, 4),
+                    attribute(self.tables.junction(self.row), 4),
+                ))
+    }
+
+    // Reads connection c.
+    fn read_connection(
+        &self,
+        c: usize,
+        connections: &mut Laid<7>,
+        pairs: &mut Laid<2>,
+        warnings: &mut Laid<4>,
+    )
+        requires { (c < length self.now.tables.raw.connections.now / 14)
+            × LowLaid self.now.tables.raw.connections.now c connections.old pairs.old warnings.old }
+        ensures read { ConnectionsRead (kept_connections (tables_read self.now.tables.raw) self.now.row c)
+            (connection_warnings (tables_read self.now.tables.raw) self.now.row c)
+            (connections_laid connections.old pairs.old warnings.old)
+            (connections_laid connections.new pairs.new warnings.new) }
+        ensures low { LowLaid self.now.tables.raw.connections.now (c + 1) connections.new pairs.new
+            warnings.new }
+    {
+        if self.passes_over(c) {
+            return;
+        }
+        let row = self.tables.connection(c);
+        let Some((incoming, connecting)) = roads(row, self.kind) else {
+            warnings.put(&Warning::ConnectionDropped {
+                junction: self.row as u32,
+                connection: c as u32,
+            }
+            .row());
+            return;
+        };
+        let point = contact_of(self.tables.raw.text, attribute(row, 10));
+        warn_loose(point, self.row as u32, c as u32, warnings);
+        let first = rows::word(row, 12);
+        let count = rows::word(row, 13);
+        let start = pairs.rows;
+        read_links(
+            &self.tables,
+            self.row as u32,
+            c as u32,
+            first,
+            count,
+            pairs,
+            warnings,
+        );
+        let size = pairs.rows - start;
+        connections.put(&[
+            incoming.start,
+            incoming.size,
+            connecting.start,
+            connecting.size,
+            u32::from(point.is_end()),
+            start as u32,
+            size as u32,
+        ]);
+    }
+
+    // Reads `count` connections from row `first` on.
+    pub fn read_connections(
+        &self,
+        first: usize,
+        count: usize,
+        connections: &mut Laid<7>,
+        pairs: &mut Laid<2>,
+        warnings: &mut Laid<4>,
+    )
+        requires { (first + count ≤ length self.now.tables.raw.connections.now / 14)
+            × LowLaid self.now.tables.raw.connections.now first connections.old pairs.old warnings.old }
+        ensures read { ConnectionsRead
+            (gather (kept_connections (tables_read self.now.tables.raw) self.now.row) (part_rows first count))
+            (gather (connection_warnings (tables_read self.now.tables.raw) self.now.row) (part_rows first count))
+            (connections_laid connections.old pairs.old warnings.old)
+            (connections_laid connections.new pairs.new warnings.new) }
+        ensures low { LowLaid self.now.tables.raw.connections.now (first + count) connections.new pairs.new
+            warnings.new }
+    {
+        for k in 0..count {
+            self.read_connection(first + k, connections, pairs, warnings);
+        }
+    }
 }

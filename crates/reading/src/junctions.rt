@@ -1,30 +1,42 @@
 // Junctions with their connections and pairs, and the warnings, as the call reads and writes them: a first run counts,
 // a second writes.
-ghost use Rattle.std.specs.Prelude.{◌≡◌, [], ◌∷◌, ◌+◌, ◌*◌, ◌/◌, ◌≤◌, ◌<◌, length};
+ghost use Rattle.std.specs.Prelude.{◌≡◌, true, [], ◌∷◌, ◌+◌, ◌*◌, ◌/◌, ◌≤◌, ◌<◌, length, IfOk};
 ghost use Rattle.model.specs.Lists.{gather};
 ghost use Rattle.model.specs.Rules.{first_broken, fits};
 ghost use Rattle.model.specs.Calls.{outcome};
-ghost use Rattle.model.specs.Reading.{RawTables, part_rows, to_list, connection_dropped, read_warning_row};
+ghost use Rattle.model.specs.Reading.{part_rows, to_list, connection_dropped, read_warning_row};
 ghost use Rattle.model.specs.Reading.{read_junction};
 ghost use Rattle.model.specs.Reading.{read_junctions, read_warnings, junction_warnings};
-ghost use Rattle.model.specs.ReadingCalls.{raw_junction_rules, read_junctions_call};
-ghost use Rattle.tables.specs.Verdicts.{refusal_of};
-ghost use Rattle.reading.specs.Laid.{Before, JunctionOuts, JunctionsRead, Low, Ready, Run, junction_outs, output};
-ghost use Rattle.reading.specs.Laid.{raw_tables};
-ghost use Rattle.reading.specs.JunctionAnswers.{answer_of, outputs};
+ghost use Rattle.model.specs.ReadingCalls.{junction_content, junction_lengths, raw_junction_rules};
+ghost use Rattle.model.specs.ReadingCalls.{read_junctions_call};
+ghost use Rattle.tables.specs.Refusals.{refusal_of};
+ghost use Rattle.reading.specs.JunctionAnswers.{answer_of, outputs_of, words_of, SameOutputs};
+ghost use Rattle.reading.specs.Laid.{JunctionsRead, Low, Run, junction_outs, named, parted, sizes};
+ghost use Rattle.reading.specs.Outs.{BeforeLaid, junctions_laid, laid};
+ghost use Rattle.reading.specs.Read.{tables_read};
 
-use crate::attributes::{absent_at, rows_named};
-use crate::connections::{kind_at, read_connections};
+use crate::attributes::{attribute, rows_named};
+use crate::connections::{RawJunction, kind_read};
+use crate::laid::Laid;
 use crate::lanes::raw_sized;
-use crate::links::put_if;
+use crate::raw::{Admitted, RawJunctions};
+use crate::warning::Warning;
 use rules::parts::parts_fit;
 use rules::sizes;
-use tables::verdict::{Verdict, admitted};
+use tables::refusal::Refusal;
 use words::rows;
-use words::tests::both;
+
+// Where the junctions, connections and pairs of a map are written, and the warnings.
+#[derive(Drop)]
+pub struct JunctionOutputs<'a> {
+    pub junctions: &'a mut [u32],
+    pub connections: &'a mut [u32],
+    pub pairs: &'a mut [u32],
+    pub warnings: &'a mut [u32],
+}
 
 // How many rows each output has.
-#[derive(Clone, Copy)]
+#[derive(Clone, Copy, PartialEq, Eq, Debug)]
 pub struct Rows {
     pub junctions: usize,
     pub connections: usize,
@@ -32,244 +44,188 @@ pub struct Rows {
     pub warnings: usize,
 }
 
-// What the reading of junctions answers: the rows written, or why it was refused.
-#[derive(Clone, Copy)]
-pub enum ReadJunctions {
-    Written(Rows),
-    Refused(Verdict),
-}
-
-// Warning 1 for each of `count` connections from row `first` on, after w warnings.
-fn drop_all(j: u32, first: usize, count: usize, wo: &mut [u32], w: usize)
-    requires { (first + count ≤ 16384) × (w + count ≤ 32768) }
-    ensures { Run 4 (gather (λ c. read_warning_row (connection_dropped j c)) (part_rows first count)) count
-        (output wo.old w) (output wo.new (w + count)) }
-{
-    let mut k = 0;
-    while k < count {
-        put_if(wo, (w + k) * 4, &[1, j, (first + k) as u32, 0]);
-        k += 1;
+impl Rows {
+    // Whether so many rows fit the outputs.
+    fn fit(&self, out: &JunctionOutputs) -> bool
+        requires { (self.now.junctions ≤ 16384) × (self.now.connections ≤ 16384) × (self.now.pairs ≤ 16384)
+            × (self.now.warnings ≤ 32768) }
+        ensures { result ≡ fits (words_of self.now)
+            (length out.now.junctions.now ∷ length out.now.connections.now ∷ length out.now.pairs.now
+            ∷ length out.now.warnings.now ∷ []) }
+    {
+        self.junctions * 5 <= out.junctions.len()
+            && self.connections * 7 <= out.connections.len()
+            && self.pairs * 2 <= out.pairs.len()
+            && self.warnings * 4 <= out.warnings.len()
     }
 }
 
-// Reads junction j, after m junctions, n connections, p pairs and w warnings.
+// Warning 1 for each of `count` connections from row `first` on.
+fn drop_all(j: u32, first: usize, count: usize, out: &mut Laid<4>)
+    requires { (first + count ≤ 16384) × (out.old.rows + count ≤ 32768) }
+    ensures put { Run 4 (gather (λ c. read_warning_row (connection_dropped j c)) (part_rows first count)) count
+        (laid out.old) (laid out.new) }
+{
+    for k in 0..count {
+        out.put(&Warning::ConnectionDropped {
+            junction: j,
+            connection: (first + k) as u32,
+        }
+        .row());
+    }
+}
+
+// Reads junction j.
 fn read_junction(
-    text: &[u8],
-    junctions: &[u32],
-    connections: &[u32],
-    links: &[u32],
+    tables: &Admitted,
     j: usize,
-    jo: &mut [u32],
-    m: usize,
-    co: &mut [u32],
-    n: usize,
-    po: &mut [u32],
-    p: usize,
-    wo: &mut [u32],
-    w: usize,
-) -> Rows
-    requires ready { Ready junctions.now connections.now links.now }
-    requires j_in_bounds { (j < length junctions.now / 8) × Before junctions.now connections.now j m n p w }
-    ensures { let g : RawTables × JunctionOuts = (
-      raw_tables text.now junctions.now connections.now links.now,
-      junction_outs jo.old m co.old n po.old p wo.old w,
-    ) in
-        JunctionsRead (to_list (read_junction g.0 j)) (junction_warnings g.0 j) g.1
-        (junction_outs jo.new result.junctions co.new result.connections po.new result.pairs
-        wo.new result.warnings)
-        × Before junctions.now connections.now (j + 1) result.junctions result.connections result.pairs
-        result.warnings }
+    junctions: &mut Laid<5>,
+    connections: &mut Laid<7>,
+    pairs: &mut Laid<2>,
+    warnings: &mut Laid<4>,
+)
+    requires { (j < length tables.now.raw.junctions.now / 8)
+        × BeforeLaid tables.now.raw.junctions.now tables.now.raw.connections.now j junctions.old connections.old
+        pairs.old warnings.old }
+    ensures read { JunctionsRead (to_list (read_junction (tables_read tables.now.raw) j))
+        (junction_warnings (tables_read tables.now.raw) j)
+        (junctions_laid junctions.old connections.old pairs.old warnings.old)
+        (junctions_laid junctions.new connections.new pairs.new warnings.new) }
+    ensures low { BeforeLaid tables.now.raw.junctions.now tables.now.raw.connections.now (j + 1) junctions.new
+        connections.new pairs.new warnings.new }
 {
-    let at = j * 8;
-    let first = rows::word(junctions, at + 6);
-    let count = rows::word(junctions, at + 7);
-    if absent_at(junctions, at) {
-        drop_all(j as u32, first, count, wo, w);
-        return Rows {
-            junctions: m,
-            connections: n,
-            pairs: p,
-            warnings: w + count,
-        };
-    }
-    let kind = kind_at(text, junctions, at + 2);
-    let q = read_connections(
-        text,
-        junctions,
-        connections,
-        links,
-        j,
-        first,
-        count,
-        kind,
-        co,
-        n,
-        po,
-        p,
-        wo,
-        w,
-    );
-    let size = (q.connections - n) as u32;
-    put_if(
-        jo,
-        m * 5,
-        &[junctions[at], junctions[at + 1], kind, n as u32, size],
-    );
-    Rows {
-        junctions: m + 1,
-        connections: q.connections,
-        pairs: q.pairs,
-        warnings: q.warnings,
-    }
-}
-
-// Reads all junctions.
-fn read_all(
-    text: &[u8],
-    junctions: &[u32],
-    connections: &[u32],
-    links: &[u32],
-    jo: &mut [u32],
-    co: &mut [u32],
-    po: &mut [u32],
-    wo: &mut [u32],
-) -> Rows
-    requires ready { Ready junctions.now connections.now links.now }
-    ensures { let g : RawTables × JunctionOuts = (
-      raw_tables text.now junctions.now connections.now links.now,
-      junction_outs jo.old 0 co.old 0 po.old 0 wo.old 0,
-    ) in
-        JunctionsRead (read_junctions g.0) (read_warnings g.0) g.1
-        (junction_outs jo.new result.junctions co.new result.connections po.new result.pairs
-        wo.new result.warnings)
-        × (result.junctions ≤ 16384)
-        × Low connections.now (length connections.now / 14) result.connections result.pairs
-        result.warnings }
-{
-    let mut read = Rows {
-        junctions: 0,
-        connections: 0,
-        pairs: 0,
-        warnings: 0,
+    let row = tables.junction(j);
+    let first = rows::word(row, 6);
+    let count = rows::word(row, 7);
+    let Some(name) = attribute(row, 0) else {
+        drop_all(j as u32, first, count, warnings);
+        return;
     };
-    let n = junctions.len() / 8;
-    let mut j = 0;
-    while j < n {
-        read = read_junction(
-            text,
-            junctions,
-            connections,
-            links,
+    let kind = kind_read(tables.raw.text, attribute(row, 2));
+    let junction = RawJunction {
+        tables: *tables,
+        row: j,
+        kind,
+    };
+    let start = connections.rows;
+    junction.read_connections(first, count, connections, pairs, warnings);
+    let size = connections.rows - start;
+    junctions.put(&[
+        name.start,
+        name.size,
+        u32::from(kind),
+        start as u32,
+        size as u32,
+    ]);
+}
+
+// Reads all junctions into these outputs.
+fn read_all(
+    tables: &Admitted,
+    junctions: &mut [u32],
+    connections: &mut [u32],
+    pairs: &mut [u32],
+    warnings: &mut [u32],
+) -> Rows
+    ensures read { JunctionsRead (read_junctions (tables_read tables.now.raw))
+        (read_warnings (tables_read tables.now.raw))
+        (junction_outs junctions.old 0 connections.old 0 pairs.old 0 warnings.old 0)
+        (junction_outs junctions.new result.junctions connections.new result.connections pairs.new result.pairs
+        warnings.new result.warnings) }
+    ensures low { (result.junctions ≤ 16384) × Low tables.now.raw.connections.now
+        (length tables.now.raw.connections.now / 14) result.connections result.pairs result.warnings }
+{
+    let mut junctions = Laid::over(junctions);
+    let mut connections = Laid::over(connections);
+    let mut pairs = Laid::over(pairs);
+    let mut warnings = Laid::over(warnings);
+    for j in 0..tables.raw.junctions.len() / 8 {
+        read_junction(
+            tables,
             j,
-            jo,
-            read.junctions,
-            co,
-            read.connections,
-            po,
-            read.pairs,
-            wo,
-            read.warnings,
+            &mut junctions,
+            &mut connections,
+            &mut pairs,
+            &mut warnings,
         );
-        j += 1;
     }
-    read
+    Rows {
+        junctions: junctions.rows,
+        connections: connections.rows,
+        pairs: pairs.rows,
+        warnings: warnings.rows,
+    }
 }
 
-// All refusals but 9.
-fn junctions_verdict(text: &[u8], junctions: &[u32], connections: &[u32], links: &[u32]) -> Verdict
-    ensures { let t : RawTables = raw_tables text.now junctions.now connections.now links.now in
-        refusal_of result ≡ first_broken (raw_junction_rules t) }
+// How many rows there are: a run that writes to outputs without room, by the same steps as the one that writes.
+fn count_all(tables: &Admitted) -> Rows
+    ensures lengths { junction_lengths (junction_content (tables_read tables.now.raw)) ≡ words_of result }
+    ensures few { (result.junctions ≤ 16384) × (result.connections ≤ 16384) × (result.pairs ≤ 16384)
+        × (result.warnings ≤ 32768) }
 {
-    let a = both(
-        raw_sized(text, 8, junctions.len()),
-        sizes::fits(connections.len(), 14, 16384),
-    );
-    if !both(a, sizes::fits(links.len(), 4, 16384)) {
-        return Verdict::BadSize;
-    }
-    let b = both(
-        rows_named(text, junctions, 8, 3),
-        rows_named(text, connections, 14, 6),
-    );
-    if !both(b, rows_named(text, links, 4, 2)) {
-        return Verdict::BadWord;
-    }
-    let d = parts_fit(junctions, 8, 6, 7, connections.len() / 14);
-    if !both(d, parts_fit(connections, 14, 12, 13, links.len() / 4)) {
-        return Verdict::BadParts;
-    }
-    Verdict::Admitted
+    read_all(tables, &mut [], &mut [], &mut [], &mut [])
 }
 
-// Whether four contents, in rows, fit their outputs, in words.
-fn fit(rows: Rows, junctions: usize, connections: usize, pairs: usize, warnings: usize) -> bool
-    requires { (rows.junctions ≤ 16384) × (rows.connections ≤ 16384) × (rows.pairs ≤ 16384)
-        × (rows.warnings ≤ 32768) }
-    ensures { result ≡ fits (rows.junctions * 5 ∷ rows.connections * 7 ∷ rows.pairs * 2 ∷ rows.warnings * 4 ∷ [])
-        (junctions ∷ connections ∷ pairs ∷ warnings ∷ []) }
+// 1
+#[tactic(auto, unfolding(model::specs::ReadingCalls::raw_sized))]
+fn sized(raw: &RawJunctions) -> bool
+    ensures { result ≡ sizes (tables_read raw.now) }
 {
-    let x = both(rows.warnings * 4 <= warnings, true);
-    let y = both(rows.pairs * 2 <= pairs, x);
-    let z = both(rows.connections * 7 <= connections, y);
-    both(rows.junctions * 5 <= junctions, z)
+    raw_sized(raw.text, 8, raw.junctions.len())
+        && sizes::fits(raw.connections.len(), 14, 16384)
+        && sizes::fits(raw.lane_links.len(), 4, 16384)
+}
+
+// 2
+fn named(raw: &RawJunctions) -> bool
+    ensures { result ≡ named (tables_read raw.now) }
+{
+    rows_named(raw.text, raw.junctions, 8, 3)
+        && rows_named(raw.text, raw.connections, 14, 6)
+        && rows_named(raw.text, raw.lane_links, 4, 2)
+}
+
+// 5
+fn parted(raw: &RawJunctions) -> bool
+    requires { sizes (tables_read raw.now) ≡ true }
+    ensures { result ≡ parted (tables_read raw.now) }
+{
+    parts_fit(raw.junctions, 8, 6, 7, raw.connections.len() / 14)
+        && parts_fit(raw.connections, 14, 12, 13, raw.lane_links.len() / 4)
+}
+
+// The raw tables, if no refusal but 9 applies.
+fn admitted<'a>(raw: &RawJunctions<'a>) -> Result<Admitted<'a>, Refusal>
+    ensures refusal { refusal_of result ≡ first_broken (raw_junction_rules (tables_read raw.now)) }
+    ensures same { IfOk result (λ tables. tables_read tables.raw ≡ tables_read raw.now) }
+{
+    if !sized(raw) {
+        return Err(Refusal::BadSize);
+    }
+    if !named(raw) {
+        return Err(Refusal::BadWord);
+    }
+    if !parted(raw) {
+        return Err(Refusal::BadParts);
+    }
+    Ok(Admitted { raw: *raw })
 }
 
 // Reads junctions: of the raw tables, the junctions, connections and pairs of a map, and the warnings.
-pub fn read_junctions(
-    text: &[u8],
-    raw_junctions: &[u32],
-    raw_connections: &[u32],
-    raw_lane_links: &[u32],
-    junctions_out: &mut [u32],
-    connections_out: &mut [u32],
-    pairs_out: &mut [u32],
-    warnings_out: &mut [u32],
-) -> ReadJunctions
-    ensures { outcome (answer_of result)
-        (outputs junctions_out.new connections_out.new pairs_out.new
-        warnings_out.new)
-        ≡ read_junctions_call
-        (raw_tables text.now raw_junctions.now raw_connections.now
-        raw_lane_links.now)
-        (outputs junctions_out.old connections_out.old pairs_out.old
-        warnings_out.old) }
+pub fn read_junctions(raw: &RawJunctions, out: &mut JunctionOutputs) -> Result<Rows, Refusal>
+    ensures outcome { outcome (answer_of result) (outputs_of out.new)
+        ≡ read_junctions_call (tables_read raw.now) (outputs_of out.old) }
+    ensures same { SameOutputs out.old out.new }
 {
-    let v = junctions_verdict(text, raw_junctions, raw_connections, raw_lane_links);
-    if !admitted(v) {
-        return ReadJunctions::Refused(v);
+    let tables = admitted(raw)?;
+    if !count_all(&tables).fit(out) {
+        return Err(Refusal::OutputShort);
     }
-    let mut no_junctions = [0u32; 1];
-    let mut no_connections = [0u32; 1];
-    let mut no_pairs = [0u32; 1];
-    let mut no_warnings = [0u32; 1];
-    let counted = read_all(
-        text,
-        raw_junctions,
-        raw_connections,
-        raw_lane_links,
-        &mut no_junctions,
-        &mut no_connections,
-        &mut no_pairs,
-        &mut no_warnings,
-    );
-    if !fit(
-        counted,
-        junctions_out.len(),
-        connections_out.len(),
-        pairs_out.len(),
-        warnings_out.len(),
-    ) {
-        return ReadJunctions::Refused(Verdict::OutputShort);
-    }
-    let rows = read_all(
-        text,
-        raw_junctions,
-        raw_connections,
-        raw_lane_links,
-        junctions_out,
-        connections_out,
-        pairs_out,
-        warnings_out,
-    );
-    ReadJunctions::Written(rows)
+    Ok(read_all(
+        &tables,
+        out.junctions,
+        out.connections,
+        out.pairs,
+        out.warnings,
+    ))
 }

@@ -3,84 +3,68 @@ ghost use Rattle.std.specs.Prelude.{◌≡◌, ◌+◌, ◌*◌, ◌/◌, ◌≤
 ghost use Rattle.model.specs.Calls.{outcome};
 ghost use Rattle.model.specs.Rows.{written};
 ghost use Rattle.model.specs.Rules.{first_broken};
-ghost use Rattle.model.specs.Reading.{read_lane, row_at};
+ghost use Rattle.model.specs.Reading.{read_lane};
 ghost use Rattle.model.specs.ReadingCalls.{raw_sized, raw_lane_rules, raw_lane_content, read_lanes_call};
-ghost use Rattle.tables.specs.Verdicts.{refusal_of};
+ghost use Rattle.tables.specs.Refusals.{refusal_of};
 ghost use Rattle.reading.specs.Answers.{answer_of};
 
-use crate::attributes::{number_at, rows_named};
+use crate::attributes::{attribute, number_of, rows_named};
 use rules::sizes;
-use tables::verdict::{Verdict, admitted};
+use tables::refusal::Refusal;
 use words::rows;
-use words::tests::both;
-
-// What the reading of lanes answers: the rows written, or why it was refused.
-#[derive(Clone, Copy)]
-pub enum ReadLanes {
-    Written(usize),
-    Refused(Verdict),
-}
 
 // 1: the text, and n words of a table with w a row.
+#[tactic(auto, unfolding(model::specs::ReadingCalls::raw_sized))]
 pub fn raw_sized(text: &[u8], w: usize, n: usize) -> bool
     requires { (0 < w) × (w ≤ 20) }
     ensures { result ≡ raw_sized text.now w n }
 {
-    let short = text.len() <= 1048576;
-    both(short, sizes::fits(n, w, 16384))
+    text.len() <= 1048576 && sizes::fits(n, w, 16384)
 }
 
-// The links of the lane in row i.
-fn lane_row(text: &[u8], raw: &[u32], i: usize) -> [u32; 4]
-    requires { (i < length raw.now / 4) × (i < 16384) }
-    ensures { result ≡ read_lane text.now (row_at 4 raw.now i) }
+// The links of the lane.
+#[tactic(auto, unfolding(model::specs::Reading::read_lane))]
+fn lane_row(text: &[u8], row: &[u32; 4]) -> [u32; 4]
+    ensures { result ≡ read_lane text.now row.now }
 {
-    let before = number_at(text, raw, i * 4);
-    let after = number_at(text, raw, i * 4 + 2);
-    [before.flag, before.number, after.flag, after.number]
+    let [before, predecessor] = rows::link_words(number_of(text, attribute(row, 0)));
+    let [after, successor] = rows::link_words(number_of(text, attribute(row, 2)));
+    [before, predecessor, after, successor]
 }
 
-// Writes the links of all lanes.
+// Writes the links of all lanes. (Tried: the check doesn't cover one loop for all tables, by `Fn(usize) -> [u32; N]`.)
 fn put_lanes(text: &[u8], raw: &[u32], out: &mut [u32])
     requires { (length raw.now / 4 ≤ 16384) × (length raw.now / 4 * 4 ≤ length out.old) }
-    ensures { out.new
-        ≡ written (raw_lane_content text.now raw.now) out.old }
+    ensures { out.new ≡ written (raw_lane_content text.now raw.now) out.old }
 {
-    let n = raw.len() / 4;
-    let mut i = 0;
-    while i < n {
-        let row = lane_row(text, raw, i);
-        rows::put(out, i * 4, &row);
-        i += 1;
+    for i in 0..raw.len() / 4 {
+        rows::put(out, i * 4, &lane_row(text, rows::row::<4>(raw, i)));
     }
 }
 
 // All refusals but 9.
-fn lanes_verdict(text: &[u8], raw: &[u32]) -> Verdict
+#[tactic(auto, unfolding(model::specs::ReadingCalls::raw_lane_rules))]
+fn lanes_verdict(text: &[u8], raw: &[u32]) -> Result<(), Refusal>
     ensures { refusal_of result ≡ first_broken (raw_lane_rules text.now raw.now) }
 {
     if !raw_sized(text, 4, raw.len()) {
-        return Verdict::BadSize;
+        return Err(Refusal::BadSize);
     }
     if !rows_named(text, raw, 4, 2) {
-        return Verdict::BadWord;
+        return Err(Refusal::BadWord);
     }
-    Verdict::Admitted
+    Ok(())
 }
 
-// Reads lanes: for each raw row, predecessor id and successor id, a flag and number each.
-pub fn read_lanes(text: &[u8], raw: &[u32], out: &mut [u32]) -> ReadLanes
-    ensures { outcome (answer_of result) out.new
-        ≡ read_lanes_call text.now raw.now out.old }
+// Reads lanes: for each raw row, predecessor id and successor id, a flag and number each. Answers how many.
+pub fn read_lanes(text: &[u8], raw: &[u32], out: &mut [u32]) -> Result<usize, Refusal>
+    ensures { outcome (answer_of result) out.new ≡ read_lanes_call text.now raw.now out.old }
 {
-    let v = lanes_verdict(text, raw);
-    if !admitted(v) {
-        return ReadLanes::Refused(v);
-    }
+    lanes_verdict(text, raw)?;
     let n = raw.len() / 4;
     if out.len() < n * 4 {
-        return ReadLanes::Refused(Verdict::OutputShort);
+        return Err(Refusal::OutputShort);
     }
     put_lanes(text, raw, out);
-    ReadLanes::Written(n)
+    Ok(n)
 }

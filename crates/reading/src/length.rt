@@ -4,13 +4,20 @@ ghost use Rattle.std.specs.Prelude.{◌≡◌};
 ghost use Rattle.model.specs.Length.{far_off, length_call};
 ghost use Rattle.reading.specs.Answers.{checked_of};
 
-// What the check answers: nothing to report, the sum that is off, or starts and lengths that differ in count.
-#[derive(Clone, Copy)]
-pub enum Length {
-    Fine,
-    Off(f64),
-    Uneven,
+use std::error::Error;
+use std::fmt;
+
+// Starts and lengths that differ in count.
+#[derive(Clone, Copy, PartialEq, Eq, Debug)]
+pub struct Uneven;
+
+impl fmt::Display for Uneven {
+    fn fmt<W: fmt::Write>(&self, f: &mut fmt::Formatter<W>) -> fmt::Result {
+        f.write_str("starts and lengths differ in count")
+    }
 }
+
+impl Error for Uneven {}
 
 // How far a road's length may lie from where its plan view ends.
 const LENGTH_TOLERANCE: f64 = 0.01;
@@ -20,26 +27,19 @@ fn far_off(length: f64, sum: f64) -> bool
     ensures { result ≡ far_off length sum }
 {
     let d = length - sum;
-    if LENGTH_TOLERANCE < d {
-        return true;
-    }
-    LENGTH_TOLERANCE < -d
+    LENGTH_TOLERANCE < d || LENGTH_TOLERANCE < -d
 }
 
 // The sum of the last start and the last length, where it is off the road's length.
-pub fn check_length(starts: &[f64], lengths: &[f64], length: f64) -> Length
+pub fn check_length(starts: &[f64], lengths: &[f64], length: f64) -> Result<Option<f64>, Uneven>
     ensures { checked_of result ≡ length_call starts.now lengths.now length }
 {
-    let n = starts.len();
-    if n != lengths.len() {
-        return Length::Uneven;
+    if starts.len() != lengths.len() {
+        return Err(Uneven);
     }
-    if n == 0 {
-        return Length::Fine;
-    }
-    let sum = starts[n - 1] + lengths[n - 1];
-    if far_off(length, sum) {
-        return Length::Off(sum);
-    }
-    Length::Fine
+    let (Some(start), Some(last)) = (starts.last(), lengths.last()) else {
+        return Ok(None);
+    };
+    let sum = *start + *last;
+    Ok(far_off(length, sum).then_some(sum))
 }

@@ -2,11 +2,14 @@
 // check.
 #![tactic(auto)]
 
-pub mod attributes;
-pub mod connections;
+mod attributes;
+mod connections;
 pub mod junctions;
+mod laid;
 pub mod lanes;
 pub mod length;
-pub mod links;
+mod links;
 pub mod numbers;
+pub mod raw;
 pub mod targets;
+mod warning;

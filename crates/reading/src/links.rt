@@ -1,112 +1,74 @@
-// Lane links: pairs, and warning 2 for each that has not two numbers. An output without room for a row is left as it
-// is, so that a first run only counts.
-ghost use Rattle.std.specs.Prelude.{◌≡◌, cond, [], ◌+◌, ◌*◌, ◌/◌, ◌≤◌, ◌<◌, length};
+// Lane links: pairs, and warning 2 for each that has not two numbers.
+ghost use Rattle.std.specs.Prelude.{◌≡◌, ◌+◌, ◌/◌, ◌≤◌, ◌<◌, length};
 ghost use Rattle.model.specs.Lists.{gather};
-ghost use Rattle.model.specs.Reading.{part_rows};
-ghost use Rattle.model.specs.Tables.{bit};
-ghost use Rattle.reading.specs.Laid.{LinkOuts, LinksRead, PutIf, Run, link_outs, output, pairs_at, drops_at};
+ghost use Rattle.model.specs.Reading.{number_of, pair_of, part_rows};
+ghost use Rattle.model.specs.Tables.{name_in};
+ghost use Rattle.reading.specs.Laid.{LinksRead, pairs_at, drops_at};
+ghost use Rattle.reading.specs.Outs.{links_laid};
+ghost use Rattle.reading.specs.Read.{pair_read};
 
-use crate::attributes::number_at;
-use words::rows;
-use words::tests::{both, is};
+use crate::attributes::{attribute, number_of};
+use crate::laid::Laid;
+use crate::raw::Admitted;
+use crate::warning::Warning;
 
-// How many pairs and warnings there are.
-#[derive(Clone, Copy)]
-pub struct Links {
-    pub pairs: usize,
-    pub warnings: usize,
-}
-
-// Writes a row, if there is room for it.
-pub fn put_if(out: &mut [u32], at: usize, row: &[u32])
-    requires { (at ≤ 1048576) × (length row.now ≤ 7) }
-    ensures { PutIf at row.now out.old out.new }
+// The two numbers of a raw lane link; none where it has not both.
+fn read_pair(text: &[u8], row: &[u32; 4]) -> Option<(u32, u32)>
+    ensures { pair_read result
+        ≡ pair_of (number_of text.now (name_in row.now 0)) (number_of text.now (name_in row.now 2)) }
 {
-    if at + row.len() <= out.len() {
-        rows::put(out, at, row);
-    }
+    let from = number_of(text, attribute(row, 0))?;
+    let to = number_of(text, attribute(row, 2))?;
+    Some((from, to))
 }
 
-// Puts a warning row, if there is something to warn of, after w rows. Returns how many there are.
-pub fn warn_if(warned: bool, row: &[u32], wo: &mut [u32], w: usize) -> usize
-    requires { (length row.now ≡ 4) × (w ≤ 32768) }
-    ensures { Run 4 (cond warned row.now []) (bit warned) (output wo.old w)
-        (output wo.new result) }
-{
-    if warned {
-        put_if(wo, w * 4, row);
-        return w + 1;
-    }
-    w
-}
-
-// Reads lane link l of connection c of junction j, after p pairs and w warnings.
+// Reads lane link l of connection c of junction j, two rows that its warning alone needs.
 fn read_link(
-    text: &[u8],
-    links: &[u32],
+    tables: &Admitted,
     j: u32,
     c: u32,
     l: usize,
-    po: &mut [u32],
-    p: usize,
-    wo: &mut [u32],
-    w: usize,
-) -> Links
-    requires l_in_bounds { (l < length links.now / 4) × (l < 16384) × (p ≤ 16384) × (w ≤ 32768) }
-    ensures { let old : LinkOuts = link_outs po.old p wo.old w in
-        LinksRead (pairs_at text.now links.now l)
-        (drops_at text.now links.now j c l) old
-        (link_outs po.new result.pairs wo.new result.warnings)
-        × (result.pairs ≤ p + 1) × (result.warnings ≤ w + 1) }
+    pairs: &mut Laid<2>,
+    warnings: &mut Laid<4>,
+)
+    requires { (l < length tables.now.raw.lane_links.now / 4) × (pairs.old.rows ≤ 16384)
+        × (warnings.old.rows ≤ 32768) }
+    ensures read { LinksRead (pairs_at tables.now.raw.text.now tables.now.raw.lane_links.now l)
+        (drops_at tables.now.raw.text.now tables.now.raw.lane_links.now j c l) (links_laid pairs.old warnings.old)
+        (links_laid pairs.new warnings.new) }
+    ensures few { (pairs.new.rows ≤ pairs.old.rows + 1) × (warnings.new.rows ≤ warnings.old.rows + 1) }
 {
-    let from = number_at(text, links, l * 4);
-    let to = number_at(text, links, l * 4 + 2);
-    if both(is(from.flag, 1), is(to.flag, 1)) {
-        put_if(po, p * 2, &[from.number, to.number]);
-        return Links {
-            pairs: p + 1,
-            warnings: w,
-        };
-    }
-    put_if(wo, w * 4, &[2, j, c, l as u32]);
-    Links {
-        pairs: p,
-        warnings: w + 1,
+    match read_pair(tables.raw.text, tables.lane_link(l)) {
+        Some((from, to)) => pairs.put(&[from, to]),
+        None => warnings.put(&Warning::LaneLinkDropped {
+            junction: j,
+            connection: c,
+            lane_link: l as u32,
+        }
+        .row()),
     }
 }
 
 // Reads `count` lane links from row `first` on.
 pub fn read_links(
-    text: &[u8],
-    links: &[u32],
+    tables: &Admitted,
     j: u32,
     c: u32,
     first: usize,
     count: usize,
-    po: &mut [u32],
-    p: usize,
-    wo: &mut [u32],
-    w: usize,
-) -> Links
-    requires count_in_bounds { (first + count ≤ length links.now / 4) × (first + count ≤ 16384) × (p + count ≤ 16384)
-        × (w + count ≤ 32768) }
-    ensures { let old : LinkOuts = link_outs po.old p wo.old w in
-        LinksRead (gather (pairs_at text.now links.now) (part_rows first count))
-        (gather (drops_at text.now links.now j c) (part_rows first count)) old
-        (link_outs po.new result.pairs wo.new result.warnings)
-        × (result.pairs ≤ p + count) × (result.warnings ≤ w + count) }
+    pairs: &mut Laid<2>,
+    warnings: &mut Laid<4>,
+)
+    requires { (first + count ≤ length tables.now.raw.lane_links.now / 4) × (pairs.old.rows + count ≤ 16384)
+        × (warnings.old.rows + count ≤ 32768) }
+    ensures read { LinksRead
+        (gather (pairs_at tables.now.raw.text.now tables.now.raw.lane_links.now) (part_rows first count))
+        (gather (drops_at tables.now.raw.text.now tables.now.raw.lane_links.now j c) (part_rows first count))
+        (links_laid pairs.old warnings.old) (links_laid pairs.new warnings.new) }
+    ensures few { (pairs.new.rows ≤ pairs.old.rows + count)
+        × (warnings.new.rows ≤ warnings.old.rows + count) }
 {
-    let mut at = p;
-    let mut warned = w;
-    let mut k = 0;
-    while k < count {
-        let q = read_link(text, links, j, c, first + k, po, at, wo, warned);
-        at = q.pairs;
-        warned = q.warnings;
-        k += 1;
-    }
-    Links {
-        pairs: at,
-        warnings: warned,
+    for k in 0..count {
+        read_link(tables, j, c, first + k, pairs, warnings);
     }
 }

@@ -1,13 +1,11 @@
 -- The junctions in row order: one junction more.
 use mathlib.Core.Path.{◌≡◌, refl, sym, ap, ap₂, ◌∙◌}
-use mathlib.Core.Bool.{Bool, cond}
+use mathlib.Core.Bool.{Bool}
 use mathlib.Core.List.{List, [], ◌∷◌, ◌++◌, append-nil, append_assoc}
-use Prim.Native.Nat.{ℕ, zero, suc, ◌+◌, ◌*◌, ◌/◌, ◌≤◌, ◌<◌}
+use Prim.Native.Nat.{ℕ, suc, ◌+◌, ◌*◌, ◌/◌, ◌≤◌}
 use native.Mathlib.Nat.{add-zero}
 use native.Mathlib.Omega.{arith}
-use lib.ListN.{length, get_or}
-use lib.Dec.{eqb}
-use borrow.Author.Tests.{ne_eqb}
+use lib.ListN.{length, get_or, take}
 use Rattle.model.specs.Calls.{warning_row}
 use Rattle.model.specs.Lists.{gather}
 use Rattle.model.specs.Records.{Span, Connection, Junction, Road}
@@ -15,105 +13,108 @@ use Rattle.model.specs.Repair.{Warning, connections_after, junctions_over, missi
 use Rattle.model.specs.Repair.{repair_roads, reversed, roads_after, roads_over, warn_after, warn_all, warn_over}
 use Rattle.model.specs.Rows.{rows_from}
 use Rattle.model.specs.Rules.{same}
-use Rattle.model.specs.Tables.{Tables, junction_row, kind_of, kind_word}
+use Rattle.model.specs.Tables.{Tables, junction_row, kind_word}
 use Rattle.laws.proofs.WordsReversed.{gather_append}
+use Rattle.words.specs.Fields.{junction_kind}
+use Rattle.words.specs.Map.{map_read}
 use Rattle.words.specs.Rows.{tab}
 use Rattle.words.proofs.Laws.{tab_length, tab_more, total_le}
 use Rattle.rules.specs.Parts.{counts}
-use Rattle.rules.proofs.Fits.{fit_in, fit_next}
+use Rattle.rules.proofs.Fits.{fit_next}
 use Rattle.repair.specs.Now.{run, junction_at, junction_name, roads_with, row_connection, row_junction}
-use Rattle.repair.specs.Laying.{Joined, Over, RoomForAll, Small, State, Stepped, Twice, connections_before}
-use Rattle.repair.specs.Laying.{pairs_before, pile, state}
-use Rattle.repair.proofs.Piles.{laid_none, laid_on, laid_same, rows_append}
+use Rattle.repair.specs.Laying.{Blank, Over, RoomForAll, Stepped, Twice}
+use Rattle.repair.specs.Ready.{Joined, Small, connections_before, pairs_before}
+use Rattle.repair.specs.declared.junction.Junction.{Junction as Read}
+use Rattle.words.specs.declared.kinds.JunctionKind.{JunctionKind}
+use Rattle.words.specs.declared.kinds.JunctionKind.TheVariants.{Common, Direct, Virtual}
+use Rattle.repair.specs.declared.junctions.State.{State}
+use Rattle.repair.specs.declared.laying.Pile.{Pile}
+use Rattle.repair.proofs.Piles.{laid_none, laid_on, laid_same}
+use Rattle.repair.proofs.TargetWords.{name_first}
+use Rattle.laws.proofs.RowTests.{rows_from_append}
 
--- ---- a junction by its kind's word
-module _ (same : Span → Span → Bool) (j : Span) (g : ℕ → Connection) (f m : ℕ) (rs : List Road) where
-  pub after_connections : (w : ℕ)
-      → run g f m ++ reversed same rs j (run g f (cond (eqb w 1) m 0))
-      ≡ connections_after same (kind_of w) j (run g f m) rs
-  unfolding reversed tab
-  after_connections zero = append-nil (run g f m)
-  after_connections (suc zero) = refl
-  after_connections (suc (suc w)) =
-      ap (λ b. run g f m ++ reversed same rs j (run g f (cond b m 0)))
-      (ne_eqb (suc (suc w)) 1 (λ e. omega arith))
-      ∙ append-nil (run g f m)
+-- ---- a junction as it is read: what its kind makes of connections, roads and warnings
+module _ (rs : List Road) (j : Read) where
+  abbrev t : Tables
+  t = map_read j.reads.map
 
-  pub after_roads : (w : ℕ)
-      → missing_links same j (run g f (cond (eqb w 0) m 0)) rs ≡ roads_after same (kind_of w) j (run g f m) rs
-  unfolding tab
-  after_roads zero = refl
-  after_roads (suc zero) = refl
-  after_roads (suc (suc w)) =
-      ap (λ b. missing_links same j (run g f (cond b m 0)) rs) (ne_eqb (suc (suc w)) 0 (λ e. omega arith))
+  abbrev own : List Connection
+  own = run (row_connection t) j.first j.count
 
-  pub after_warned : (k w : ℕ)
-      → warn_all same k j (run g f (cond (eqb w 0) m 0)) rs ≡ warn_after same k (kind_of w) j (run g f m) rs
-  unfolding tab
-  after_warned k zero = refl
-  after_warned k (suc zero) = refl
-  after_warned k (suc (suc w)) =
-      ap (λ b. warn_all same k j (run g f (cond b m 0)) rs) (ne_eqb (suc (suc w)) 0 (λ e. omega arith))
+  abbrev name : Span
+  name = junction_name t j.row
 
-kind_forth : (w : ℕ) → w ≤ 2 → w ≡ kind_word (kind_of w)
-kind_forth zero h = refl
-kind_forth (suc zero) h = refl
-kind_forth (suc (suc zero)) h = refl
-kind_forth (suc (suc (suc w))) h = absurd (omega arith)
-
--- ---- junction row k, as its words are read
-pub record Read (junctions : List ℕ) (k kind first m : ℕ) : Type 0 where
-  pub kind_is : kind ≡ get_or junctions (k * 5 + 2) 0
-  pub first_is : first ≡ get_or junctions (k * 5 + 3) 0
-  pub count_is : m ≡ get_or junctions (k * 5 + 4) 0
-
--- its connections, its roads and its warnings; d is the count, for the kind that the step is about, or else 0
-module _ (t : Tables) (rs : List Road) {k kind first m d : ℕ} (read : Read t.junctions k kind first m) where
-  pub junction_connections : d ≡ cond (eqb kind 1) m 0
-      → run (row_connection t) first m ++ reversed (same t) rs (junction_name t k) (run (row_connection t) first d)
-      ≡ (repair_junction (same t) rs (row_junction t k)).connections
+  connections_are : connections_after (same t) (junction_kind j.kind) name own rs
+      ≡ (repair_junction (same t) rs (row_junction t j.row)).connections
   unfolding repair_junction junction_at
-  junction_connections only =
-      ap (λ (d : ℕ).
-      run (row_connection t) first m ++ reversed (same t) rs (junction_name t k) (run (row_connection t) first d))
-      only
-      ∙ after_connections (same t) (junction_name t k) (row_connection t) first m rs kind
-      ∙ (λ i.
-      connections_after (same t) (kind_of (read.kind_is i)) (junction_name t k)
-      (run (row_connection t) (read.first_is i) (read.count_is i)) rs)
+  connections_are =
+      λ i. connections_after (same t) (j.kind_is i) name (run (row_connection t) (j.first_is i) (j.count_is i)) rs
 
-  pub junction_roads : d ≡ cond (eqb kind 0) m 0
-      → missing_links (same t) (junction_name t k) (run (row_connection t) first d) rs
-      ≡ repair_roads (same t) (row_junction t k) rs
+  roads_are : roads_after (same t) (junction_kind j.kind) name own rs ≡ repair_roads (same t) (row_junction t j.row) rs
   unfolding repair_roads junction_at
-  junction_roads only =
-      ap (λ (d : ℕ). missing_links (same t) (junction_name t k) (run (row_connection t) first d) rs) only
-      ∙ after_roads (same t) (junction_name t k) (row_connection t) first m rs kind
-      ∙ (λ i.
-      roads_after (same t) (kind_of (read.kind_is i)) (junction_name t k)
-      (run (row_connection t) (read.first_is i) (read.count_is i)) rs)
+  roads_are = λ i. roads_after (same t) (j.kind_is i) name (run (row_connection t) (j.first_is i) (j.count_is i)) rs
 
-  pub junction_warned : d ≡ cond (eqb kind 0) m 0
-      → warn_all (same t) k (junction_name t k) (run (row_connection t) first d) rs
-      ≡ warn_after (same t) k (row_junction t k).kind (row_junction t k).name (row_junction t k).connections rs
+  warned_are : warn_after (same t) j.row (junction_kind j.kind) name own rs
+      ≡ warn_after (same t) j.row (row_junction t j.row).kind (row_junction t j.row).name
+      (row_junction t j.row).connections rs
   unfolding junction_at
-  junction_warned only =
-      ap (λ (d : ℕ). warn_all (same t) k (junction_name t k) (run (row_connection t) first d) rs) only
-      ∙ after_warned (same t) (junction_name t k) (row_connection t) first m rs k kind
-      ∙ (λ i.
-      warn_after (same t) k (kind_of (read.kind_is i)) (junction_name t k)
-      (run (row_connection t) (read.first_is i) (read.count_is i)) rs)
+  warned_are =
+      λ i. warn_after (same t) j.row (j.kind_is i) name (run (row_connection t) (j.first_is i) (j.count_is i)) rs
 
--- its row
-pub junction_row_lem : (t : Tables) (rs : List Road) (k n : ℕ) {count : ℕ} → get_or t.junctions (k * 5 + 2) 0 ≤ 2
-    → count ≡ length (repair_junction (same t) rs (row_junction t k)).connections
-    → get_or t.junctions (k * 5 + 0) 0 ∷ get_or t.junctions (k * 5 + 0 + 1) 0 ∷ get_or t.junctions (k * 5 + 2) 0
-    ∷ n ∷ count ∷ [] ≡ junction_row n (repair_junction (same t) rs (row_junction t k))
-unfolding junction_row repair_junction junction_at
-junction_row_lem t rs k n kind counted =
-    ap₂
-    (λ (a b : ℕ). get_or t.junctions (k * 5 + 0) 0 ∷ get_or t.junctions (k * 5 + 0 + 1) 0 ∷ a ∷ n ∷ b ∷ [])
-    (kind_forth (get_or t.junctions (k * 5 + 2) 0) kind) counted
+  pub direct_connections : j.kind ≡ Direct
+      → own ++ reversed (same t) rs name own ≡ (repair_junction (same t) rs (row_junction t j.row)).connections
+  direct_connections is =
+      sym (ap (λ x. connections_after (same t) (junction_kind x) name own rs) is) ∙ connections_are
+
+  pub other_connections : (j.kind ≡ Direct → ⊥)
+      → own ≡ (repair_junction (same t) rs (row_junction t j.row)).connections
+  other_connections other = go j.kind refl ∙ connections_are
+    where
+      go : (x : JunctionKind) → j.kind ≡ x → own ≡ connections_after (same t) (junction_kind x) name own rs
+      go Common is = refl
+      go Direct is = absurd (other is)
+      go Virtual is = refl
+
+  module _ (is : j.kind ≡ Common) where
+    pub common_roads : missing_links (same t) name own rs ≡ repair_roads (same t) (row_junction t j.row) rs
+    common_roads = sym (ap (λ x. roads_after (same t) (junction_kind x) name own rs) is) ∙ roads_are
+
+    pub common_warned : warn_all (same t) j.row name own rs
+        ≡ warn_after (same t) j.row (row_junction t j.row).kind (row_junction t j.row).name
+        (row_junction t j.row).connections rs
+    common_warned = sym (ap (λ x. warn_after (same t) j.row (junction_kind x) name own rs) is) ∙ warned_are
+
+  module _ (other : j.kind ≡ Common → ⊥) where
+    pub other_roads : rs ≡ repair_roads (same t) (row_junction t j.row) rs
+    other_roads = go j.kind refl ∙ roads_are
+      where
+        go : (x : JunctionKind) → j.kind ≡ x → rs ≡ roads_after (same t) (junction_kind x) name own rs
+        go Common is = absurd (other is)
+        go Direct is = refl
+        go Virtual is = refl
+
+    pub other_warned : []
+        ≡ warn_after (same t) j.row (row_junction t j.row).kind (row_junction t j.row).name
+        (row_junction t j.row).connections rs
+    other_warned = go j.kind refl ∙ warned_are
+      where
+        go : (x : JunctionKind) → j.kind ≡ x → [] ≡ warn_after (same t) j.row (junction_kind x) name own rs
+        go Common is = absurd (other is)
+        go Direct is = refl
+        go Virtual is = refl
+
+  -- its row
+  pub junction_row_lem : (n : ℕ) {count : ℕ}
+      → count ≡ length (repair_junction (same t) rs (row_junction t j.row)).connections
+      → get_or t.junctions (j.row * 5) 0 ∷ get_or t.junctions (j.row * 5 + 1) 0 ∷ kind_word (junction_kind j.kind)
+      ∷ n ∷ count ∷ [] ≡ junction_row n (repair_junction (same t) rs (row_junction t j.row))
+  unfolding junction_row repair_junction junction_at
+  junction_row_lem n {count} counted =
+      ap (λ (s : Span). s.start ∷ s.size ∷ kind_word (junction_kind j.kind) ∷ n ∷ count ∷ [])
+      (name_first 5 t.junctions j.row)
+      ∙ (λ i.
+      get_or t.junctions (j.row * 5 + 0) 0 ∷ get_or t.junctions (j.row * 5 + 0 + 1) 0 ∷ kind_word (j.kind_is i) ∷ n
+      ∷ counted i ∷ [])
 
 -- ---- its part of the connections, and their pairs
 pub record Part (junctions connections pairs : List ℕ) (k first m : ℕ) : Type 0 where
@@ -126,30 +127,33 @@ pub record Part (junctions connections pairs : List ℕ) (k first m : ℕ) : Typ
   pub pairs_rise : pairs_before connections first ≤ pairs_before connections (first + m)
   pub pairs_few : pairs_before connections (first + m) ≤ length pairs / 2
 
-pub part_of : {junctions connections pairs : List ℕ} {k kind first m : ℕ} → Small pairs connections
-    → Joined junctions connections → k < length junctions / 5 → Read junctions k kind first m
-    → Part junctions connections pairs k first m
-part_of {junctions} {connections} {pairs} {k} {kind} {first} {m} small joined inside read =
-    let fits = fit_in 5 3 4 junctions (length connections / 7) joined.fit k inside in
-    let next = fit_next 5 4 junctions k in
-    let begins : first ≡ connections_before junctions k = read.first_is ∙ joined.fit.begins k inside in
-    let within : first + m ≤ length connections / 7 = omega (arith, fits, read.first_is, read.count_is) in
-    let finish : first + m ≡ connections_before junctions (k + 1) = omega (arith, next, begins, read.count_is) in
+pub part_of : (j : Read)
+    → Part j.reads.map.junctions.now j.reads.map.connections.now j.reads.map.pairs.now j.row j.first j.count
+part_of j =
+    let junctions = j.reads.map.junctions.now in
+    let connections = j.reads.map.connections.now in
+    let small : Small j.reads.map.pairs.now connections = j.reads.ready.small in
+    let joined : Joined junctions connections = j.reads.ready.joined in
+    let next = fit_next 5 4 junctions j.row in
+    let begins : j.first ≡ connections_before junctions j.row = j.first_is ∙ joined.fit.begins j.row j.inside in
+    let finish : j.first + j.count ≡ connections_before junctions (j.row + 1) =
+    omega (arith, next, begins, j.count_is) in
     record {
       begins = begins;
-      inside = within;
+      inside = j.within;
       finish = finish;
       pairs_begin = ap (pairs_before connections) begins;
       pairs_finish = ap (pairs_before connections) finish;
-      pairs_rise = total_le first (first + m) (counts 7 6 connections) (omega arith);
-      pairs_few = let all = total_le (first + m) (length connections / 7) (counts 7 6 connections) within in
+      pairs_rise = total_le j.first (j.first + j.count) (counts 7 6 connections) (omega arith);
+      pairs_few =
+          let all = total_le (j.first + j.count) (length connections / 7) (counts 7 6 connections) j.within in
           omega (arith, all, small.fit.whole);
     }
 
--- room for its own connections, and for those the other way, d of them
-module _ {junctions connections pairs : List ℕ} {k first m n p : ℕ} (small : Small pairs connections)
-    (part : Part junctions connections pairs k first m) (twice : Twice junctions connections k n p) where
-  pub room_own : RoomForAll connections first m n p
+-- room for its own connections, and for those the other way
+module _ (t : Tables) {k first m : ℕ} {before : Pile} (small : Small t.pairs t.connections)
+    (part : Part t.junctions t.connections t.pairs k first m) (twice : Twice t k before) where
+  pub room_own : RoomForAll t.connections first m before.connections.rows before.pairs.rows
   room_own = record {
     inside = part.inside;
     rows = omega (arith, part.begins, part.inside, small.few, twice.rows);
@@ -157,15 +161,13 @@ module _ {junctions connections pairs : List ℕ} {k first m n p : ℕ} (small :
         omega (arith, part.pairs_begin, part.pairs_rise, part.pairs_few, small.few_pairs, twice.pair_rows);
   }
 
-  module _ (d own : ℕ) (some : d ≤ m)
-      (laid : own + pairs_before connections first ≡ p + pairs_before connections (first + m)) where
-    fewer : pairs_before connections (first + d) ≤ pairs_before connections (first + m)
-    fewer = total_le (first + d) (first + m) (counts 7 6 connections) (omega arith)
-
-    pub room_back : RoomForAll connections first d (n + m) own
+  module _ (own : Pile) (rows : own.connections.rows ≡ before.connections.rows + m)
+      (laid : own.pairs.rows + pairs_before t.connections first
+      ≡ before.pairs.rows + pairs_before t.connections (first + m)) where
+    pub room_back : RoomForAll t.connections first m own.connections.rows own.pairs.rows
     room_back = record {
-      inside = omega (arith, part.inside, some);
-      rows = omega (arith, part.begins, part.inside, small.few, twice.rows, some);
+      inside = part.inside;
+      rows = omega (arith, part.begins, part.inside, small.few, twice.rows);
       pair_rows = omega (
         arith,
         part.pairs_begin,
@@ -174,21 +176,32 @@ module _ {junctions connections pairs : List ℕ} {k first m n p : ℕ} (small :
         small.few_pairs,
         twice.pair_rows,
         laid,
-        fewer,
       );
     }
 
-    -- after both there are at most twice as many as up to the next junction
-    pub twice_more : {x y : ℕ} → x ≤ n + m + d
-        → y + pairs_before connections first ≤ own + pairs_before connections (first + d)
-        → Twice junctions connections (k + 1) x y
-    twice_more rows pair_rows = record {
-      rows = omega (arith, rows, some, twice.rows, part.begins, part.finish);
+    -- there are at most twice as many as up to the next junction: with its own alone, and with both
+    pub twice_own : Twice t (k + 1) own
+    twice_own = record {
+      rows = omega (arith, twice.rows, part.begins, part.finish);
       pair_rows = omega (
         arith,
-        pair_rows,
         laid,
-        fewer,
+        twice.pair_rows,
+        part.pairs_begin,
+        part.pairs_finish,
+        part.pairs_rise,
+      );
+    }
+
+    pub twice_more : {after : Pile} → after.connections.rows ≤ own.connections.rows + m
+        → after.pairs.rows + pairs_before t.connections first
+        ≤ own.pairs.rows + pairs_before t.connections (first + m) → Twice t (k + 1) after
+    twice_more back pairs_back = record {
+      rows = omega (arith, back, twice.rows, part.begins, part.finish);
+      pair_rows = omega (
+        arith,
+        pairs_back,
+        laid,
         twice.pair_rows,
         part.pairs_begin,
         part.pairs_finish,
@@ -233,13 +246,19 @@ module _ (same : Span → Span → Bool) where
 abbrev connections_of : Junction → List Connection
 connections_of j = j.connections
 
-pub over_none : (t : Tables) (ends js cs ps warn : List ℕ) → Over t 0 ends cs ps (state ends js (pile 0 0 cs ps) 0 warn)
+pub over_none : (t : Tables) (x : State) → Blank x → Over t 0 x x
 unfolding tab
-over_none t ends js cs ps warn = record { roads = refl; rows = refl; laid = laid_none (pile 0 0 cs ps); warned = refl }
+over_none t x blank = record {
+  roads = refl;
+  count = blank.junctions;
+  rows = ap (λ (n : ℕ). take (n * 5) x.junctions.words) blank.junctions;
+  laid = laid_none x.pile;
+  warned = ap (λ (n : ℕ). take (n * 4) x.warnings.words) blank.warnings;
+}
 
-module _ (t : Tables) (i : ℕ) (ends cs ps : List ℕ) where
+module _ (t : Tables) (i : ℕ) (initial : State) (blank : Blank initial) where
   abbrev start : List Road
-  start = roads_with t ends
+  start = roads_with t initial.ends.words
 
   abbrev junctions : List Junction
   junctions = tab i (row_junction t)
@@ -258,22 +277,23 @@ module _ (t : Tables) (i : ℕ) (ends cs ps : List ℕ) where
   index : i ≡ 0 + length junctions
   index = let count = tab_length i (row_junction t) in omega arith
 
-  pub over_more : {before after : State} → Over t i ends cs ps before → Stepped t i before after
-      → Over t (i + 1) ends cs ps after
+  pub over_more : {before after : State} → Over t i initial before → Stepped t i before after
+      → Over t (i + 1) initial after
   over_more over step = record {
     roads = step.roads
         ∙ ap (repair_roads (same t) (row_junction t i)) over.roads
         ∙ sym
         (ap (λ (l : List Junction). roads_over (same t) l start) (tab_more i (row_junction t))
         ∙ roads_snoc (same t) junctions (row_junction t i) start);
+    count = step.count ∙ ap (λ (n : ℕ). n + 1) over.count;
     rows =
         step.row
         ∙ ap₂ (λ (a b : List ℕ). a ++ b) over.rows
         (ap₂ (λ (n : ℕ) (r : List Road). junction_row n (repair_junction (same t) r (row_junction t i)))
-        over.laid.rows over.roads
+        (over.laid.rows ∙ ap (λ (n : ℕ). n + length (gather connections_of done)) blank.connections) over.roads
         ∙ sym (append-nil (junction_row (0 + length (gather connections_of done)) last)))
         ∙ sym (ap (rows_from junction_row connections_of 0) list
-        ∙ rows_append junction_row connections_of 0 done (last ∷ []));
+        ∙ rows_from_append junction_row connections_of 0 done (last ∷ []));
     laid =
         laid_same
         (sym (ap (gather connections_of) list

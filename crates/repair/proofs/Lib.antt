@@ -7,4 +7,3 @@ pub mod JunctionSteps
 pub mod Virtual
 pub mod RoadWords
 pub mod CallLaws
-pub mod Walks

@@ -1,39 +1,47 @@
 -- One connection of a common junction: the link that it shows to be missing, and its warning.
 use mathlib.Core.Path.{◌≡◌, refl, sym, ap, ap₂, ◌∙◌}
-use mathlib.Core.Bool.{Bool, true, false, cond}
+use mathlib.Core.Bool.{Bool, false, cond}
 use mathlib.Core.Option.{Option, none, some}
 use mathlib.Core.List.{List, [], ◌∷◌, ◌++◌, append-nil, append_assoc}
-use Prim.Native.Nat.{ℕ, suc, ◌+◌, ◌*◌, ◌/◌, ◌≤◌, ◌<◌}
-use native.Mathlib.Omega.{arith}
-use lib.ListN.{length, set, take}
-use lib.Dec.{eqb}
+use Prim.Native.Nat.{ℕ, suc, ◌+◌, ◌*◌, ◌/◌, ◌<◌}
+use lib.ListN.{length, get_or, set}
+use Rattle.std.specs.Prelude as code
 use Rattle.model.specs.Calls.{row_named, warning_row}
 use Rattle.model.specs.Lists.{amend, bind_o, gather, list_o}
 use Rattle.model.specs.Records.{Span, Target, Road, Connection, target_at}
 use Rattle.model.specs.Repair.{Warning, back_end, linked, link_at_end, meets, missing_end, missing_link}
 use Rattle.model.specs.Repair.{missing_links, put_target, road_of, vacant_end, warn_one, warn_all}
 use Rattle.model.specs.Rules.{same}
-use Rattle.model.specs.Tables.{Tables, bit, road_in, roads_of}
+use Rattle.model.specs.Tables.{Tables, bit, flag, road_in, roads_of}
 use Rattle.laws.proofs.WordsReversed.{gather_append}
+use Rattle.words.specs.Fields.{target_read}
+use Rattle.words.specs.declared.target.Target.{Target as Here}
 use Rattle.words.specs.Keys.{name_before}
-use Rattle.words.specs.Rows.{any, from, name_at, spliced, tab}
+use Rattle.words.specs.Rows.{any, from, name_at, name_from, tab}
 use Rattle.words.proofs.Laws.{tab_more}
 use Rattle.rules.specs.ByRow.{road_row_of}
 use Rattle.rules.proofs.Forms.{name_at_lem, roads_tab}
-use Rattle.repair.specs.Now.{junction_name, road_with, roads_now, roads_with, row_connection}
-use Rattle.repair.specs.Laying.{Linked, shown_end}
-use Rattle.repair.proofs.Piles.{put_on}
-use Rattle.repair.proofs.TargetWords.{incoming_is, end_bit}
+use Rattle.repair.specs.Now.{junction_name, road_with, roads_now, roads_with, row_connection, target_now}
+use Rattle.repair.specs.Laying.{Linked, laid_words, shown_at, shown_end}
+use Rattle.repair.specs.declared.laid.LaidRows.{LaidRows}
+use Rattle.repair.proofs.TargetWords.{at_end_lem, connecting_is, contact_is, incoming_is, name_first}
 use Rattle.repair.proofs.RoadRows.{found_road, road_found, amend_row, row_found_lem, now_name, other_roads, this_road}
+
+-- a road found by the name that connection row c begins with, and by its second name
+pub by_incoming : (text roads cs : List ℕ) (c : ℕ) {n : Span} {f : ℕ} → f ≡ road_row_of text roads n
+    → n ≡ name_from cs (c * 7) → f ≡ road_row_of text roads (name_at 7 0 cs c)
+by_incoming text roads cs c found name =
+    found ∙ ap (road_row_of text roads) (name ∙ name_first 7 cs c)
+
+pub by_connecting : (text roads cs : List ℕ) (c : ℕ) {n : Span} {f : ℕ} → f ≡ road_row_of text roads n
+    → n ≡ name_from cs (c * 7 + 2) → f ≡ road_row_of text roads (name_at 7 2 cs c)
+by_connecting text roads cs c found name = found ∙ ap (road_row_of text roads) name
 
 -- ---- the end that a connection shows, step by step
 module _ (same : Span → Span → Bool) (rs : List Road) (j : Span) (c : Connection) (R : Road) where
   abbrev shown_by : Bool → Option Road → Option Bool
   shown_by met o = cond met none
       (bind_o (bind_o (bind_o o (target_at c.contact)) (back_end same c.incoming)) (vacant_end R))
-
-  pub met_already : meets same j R ≡ true → none ≡ shown_end same rs j c R
-  met_already met = sym (ap (λ b. shown_by b (road_of same rs c.connecting)) met)
 
   pub no_connecting : meets same j R ≡ false → road_of same rs c.connecting ≡ none → none ≡ shown_end same rs j c R
   no_connecting apart unknown = sym (ap₂ shown_by apart unknown)
@@ -50,12 +58,43 @@ module _ (same : Span → Span → Bool) (rs : List Road) (j : Span) (c : Connec
 module _ (t : Tables) (ends : List ℕ)
     (once : any (length t.roads / 20) (name_before t.text 20 0 t.roads) ≡ false) where
   -- a road by its name's row plus 1
-  pub road_is : (n : Span) (f : ℕ) → f ≡ road_row_of t.text t.roads n
+  road_is : (n : Span) (f : ℕ) → f ≡ road_row_of t.text t.roads n
       → road_of (same t) (roads_with t ends) n ≡ found_road (road_with t ends) f
   unfolding roads_now road_row_of
   road_is n f e =
       road_found t.text t.roads n once (road_with t ends)
       (now_name t.sections t.roads t.junctions ends) f e
+
+  -- those of connection row c
+  pub incoming_road : (c : ℕ) {f : ℕ} → f ≡ road_row_of t.text t.roads (name_at 7 0 t.connections c)
+      → road_of (same t) (roads_with t ends) (row_connection t c).incoming ≡ found_road (road_with t ends) f
+  incoming_road c {f} found =
+      ap (road_of (same t) (roads_with t ends)) (incoming_is t.pairs t.connections c)
+      ∙ road_is (name_at 7 0 t.connections c) f found
+
+  pub connecting_road : (c : ℕ) {f : ℕ} → f ≡ road_row_of t.text t.roads (name_at 7 2 t.connections c)
+      → road_of (same t) (roads_with t ends) (row_connection t c).connecting ≡ found_road (road_with t ends) f
+  connecting_road c {f} found =
+      ap (road_of (same t) (roads_with t ends)) (connecting_is t.pairs t.connections c)
+      ∙ road_is (name_at 7 2 t.connections c) f found
+
+  -- the end that connection row c shows of road row r, by the target of its connecting road, row `row`, at its contact
+  pub shown_by_target : (k c r row : ℕ) {contact : Bool} (target : code.Option Here) (B : Option Bool) {q : Option Bool}
+      → meets (same t) (junction_name t k) (road_with t ends r) ≡ false
+      → suc row ≡ road_row_of t.text t.roads (name_at 7 2 t.connections c)
+      → contact ≡ flag (get_or t.connections (c * 7 + 4) 0)
+      → target_read target ≡ target_now t.roads t.junctions ends row contact
+      → B ≡ bind_o (target_read target) (back_end (same t) (name_at 7 0 t.connections c))
+      → q ≡ bind_o B (vacant_end (road_with t ends r)) → q ≡ shown_at t ends k c r
+  shown_by_target k c r row target B apart known contact read back vacant =
+      ends_back (same t) (roads_with t ends) (junction_name t k) (row_connection t c) (road_with t ends r)
+      (road_with t ends row) (target_read target) B apart (connecting_road c known)
+      (at_end_lem t.sections t.roads t.junctions ends row (row_connection t c).contact
+      ∙ ap (target_now t.roads t.junctions ends row) (contact_is t.pairs t.connections c ∙ sym contact)
+      ∙ sym read)
+      (back ∙ ap (λ (n : Span). bind_o (target_read target) (back_end (same t) n))
+      (sym (incoming_is t.pairs t.connections c)))
+      vacant
 
   module _ (k c : ℕ) where
     abbrev connection : Connection
@@ -67,21 +106,15 @@ module _ (t : Tables) (ends : List ℕ)
     abbrev shows : Option Bool
     shows = missing_end (same t) (roads_with t ends) (junction_name t k) connection
 
-    incoming_road : (f : ℕ) → f ≡ road_row_of t.text t.roads incoming
-        → road_of (same t) (roads_with t ends) connection.incoming ≡ found_road (road_with t ends) f
-    incoming_road f found =
-        ap (road_of (same t) (roads_with t ends)) (incoming_is t.pairs t.connections c)
-        ∙ road_is incoming f found
-
     -- the end at which the junction is missing
     pub end_unknown : 0 ≡ road_row_of t.text t.roads incoming → shows ≡ none
     unfolding missing_end
-    end_unknown found = let unknown = incoming_road 0 found in rw unknown
+    end_unknown found = let unknown = incoming_road c found in rw unknown
 
     pub end_known : (r : ℕ) {q : Option Bool} → suc r ≡ road_row_of t.text t.roads incoming
         → q ≡ shown_end (same t) (roads_with t ends) (junction_name t k) connection (road_with t ends r) → shows ≡ q
     unfolding missing_end
-    end_known r found shown = let known = incoming_road (suc r) found in rw known (sym shown)
+    end_known r found shown = let known = incoming_road c found in rw known (sym shown)
 
     abbrev warning_at : Option Bool → List Warning
     warning_at o = list_o o (λ e. record { junction_row = k; road = connection.incoming; at_end = e } ∷ [])
@@ -92,31 +125,32 @@ module _ (t : Tables) (ends : List ℕ)
     one_warned shown = append-nil _ ∙ ap warning_at shown
 
     -- nothing is missing
-    pub linked_none : (w : ℕ) (warn : List ℕ) → shows ≡ none → Linked t k (connection ∷ []) ends ends w w warn warn
+    pub linked_none : (warnings : LaidRows 4 32768) → shows ≡ none
+        → Linked t k (connection ∷ []) ends ends warnings warnings
     unfolding missing_link
-    linked_none w warn shown = record {
+    linked_none warnings shown = record {
       roads = sym (ap (link_at_end (same t) (roads_with t ends) (junction_name t k) connection) shown);
-      warned = sym (ap (λ (ws : List Warning). take (w * 4) warn ++ gather (warning_row t) ws) (one_warned shown)
-          ∙ append-nil (take (w * 4) warn));
+      warned = sym (ap (λ (ws : List Warning).
+          laid_words warnings ++ gather (warning_row t) ws) (one_warned shown)
+          ∙ append-nil (laid_words warnings));
     }
 
     -- road r is given the junction at end e
-    module _ (r e : ℕ) (small : e ≤ 1) (long : length ends ≡ 32768) (few : r < 16384)
-        (found : suc r ≡ road_row_of t.text t.roads incoming) (shown : shows ≡ some (eqb e 1)) where
-      linked_roads : roads_with t (set ends (r * 2 + e) (k + 2))
+    module _ (r : ℕ) (e : Bool) (long : length ends ≡ 32768) (few : r < 16384)
+        (found : suc r ≡ road_row_of t.text t.roads incoming) (shown : shows ≡ some e) where
+      linked_roads : roads_with t (set ends (r * 2 + bit e) (k + 2))
           ≡ missing_link (same t) (junction_name t k) connection (roads_with t ends)
       unfolding missing_link roads_now road_row_of
       linked_roads =
-          let link = put_target (eqb e 1) (linked (junction_name t k) (eqb e 1)) in
+          let link = put_target e (linked (junction_name t k) e) in
           sym (ap (link_at_end (same t) (roads_with t ends) (junction_name t k) connection) shown
           ∙ ap (λ (n : Span). amend (λ r. same t r.name n) link (roads_with t ends))
           (incoming_is t.pairs t.connections c)
           ∙ amend_row t.text t.roads incoming once (road_with t ends)
           (now_name t.sections t.roads t.junctions ends) r found link
-          (road_with t (set ends (r * 2 + bit (eqb e 1)) (k + 2)))
-          (this_road t.sections t.roads t.junctions ends r k (eqb e 1) long few)
-          (other_roads t.sections t.roads t.junctions ends r k (eqb e 1) long few)
-          ∙ ap (λ (b : ℕ). roads_with t (set ends (r * 2 + b) (k + 2))) (end_bit e small))
+          (road_with t (set ends (r * 2 + bit e) (k + 2)))
+          (this_road t.sections t.roads t.junctions ends r k e long few)
+          (other_roads t.sections t.roads t.junctions ends r k e long few))
 
       row_is : row_named (same t) (roads_of t) connection.incoming ≡ r
       unfolding road_in road_row_of
@@ -126,23 +160,22 @@ module _ (t : Tables) (ends : List ℕ)
           (name_at_lem 20 0 t.roads) r found
 
       warning_is : gather (warning_row t)
-          (warn_all (same t) k (junction_name t k) (connection ∷ []) (roads_with t ends)) ≡ 3 ∷ k ∷ r ∷ e ∷ []
+          (warn_all (same t) k (junction_name t k) (connection ∷ []) (roads_with t ends)) ≡ 3 ∷ k ∷ r ∷ bit e ∷ []
       unfolding warning_row
       warning_is =
           ap (gather (warning_row t)) (one_warned shown)
-          ∙ ap₂ (λ (a b : ℕ). 3 ∷ k ∷ a ∷ b ∷ []) row_is (end_bit e small)
+          ∙ ap (λ (row : ℕ). 3 ∷ k ∷ row ∷ bit e ∷ []) row_is
 
-      pub linked_one : (w : ℕ) (warn : List ℕ) {warn' : List ℕ} → w * 4 + 4 ≤ length warn
-          → warn' ≡ spliced (w * 4) (3 ∷ k ∷ r ∷ e ∷ []) warn
-          → Linked t k (connection ∷ []) ends (set ends (r * 2 + e) (k + 2)) w (w + 1) warn warn'
-      linked_one w warn room put =
-          let row-end : (w + 1) * 4 ≡ w * 4 + 4 = omega arith in
-          let before : w * 4 ≤ length warn = omega arith in
-          record {
-            roads = linked_roads;
-            warned = put_on (3 ∷ k ∷ r ∷ e ∷ []) warn put before row-end
-                ∙ ap (λ (l : List ℕ). take (w * 4) warn ++ l) (sym warning_is);
-          }
+      pub linked_one : (warnings : LaidRows 4 32768) {after : LaidRows 4 32768} {ends' : List ℕ} {word : ℕ}
+          → ends' ≡ set ends (r * 2 + bit e) (k + 2) → word ≡ bit e
+          → laid_words after ≡ laid_words warnings ++ (3 ∷ k ∷ r ∷ word ∷ [])
+          → Linked t k (connection ∷ []) ends ends' warnings after
+      linked_one warnings given end_word put = record {
+        roads = ap (roads_with t) given ∙ linked_roads;
+        warned = put
+            ∙ ap (λ (w : ℕ). laid_words warnings ++ (3 ∷ k ∷ r ∷ w ∷ [])) end_word
+            ∙ ap (λ (l : List ℕ). laid_words warnings ++ l) (sym warning_is);
+      }
 
 -- ---- one connection more
 module _ (same : Span → Span → Bool) (j : Span) where
@@ -160,14 +193,13 @@ module _ (same : Span → Span → Bool) (j : Span) where
       ∙ sym (append_assoc (warn_one same k j y rs) (warn_all same k j xs (missing_link same j y rs))
       (warn_all same k j (x ∷ []) (missing_links same j xs (missing_link same j y rs))))
 
-pub linked_start : (t : Tables) (k : ℕ) (ends : List ℕ) (w : ℕ) (warn : List ℕ) → Linked t k [] ends ends w w warn warn
-linked_start t k ends w warn = record { roads = refl; warned = sym (append-nil (take (w * 4) warn)) }
+pub linked_start : (t : Tables) (k : ℕ) (ends : List ℕ) (x : LaidRows 4 32768) → Linked t k [] ends ends x x
+linked_start t k ends x = record { roads = refl; warned = sym (append-nil (laid_words x)) }
 
-pub linked_more : (t : Tables) (k : ℕ) (f : ℕ → Connection) (i : ℕ) {ends ends₁ ends₂ : List ℕ} {w w₁ w₂ : ℕ}
-    {warn warn₁ warn₂ : List ℕ} → Linked t k (tab i f) ends ends₁ w w₁ warn warn₁
-    → Linked t k (f i ∷ []) ends₁ ends₂ w₁ w₂ warn₁ warn₂
-    → Linked t k (tab (i + 1) f) ends ends₂ w w₂ warn warn₂
-linked_more t k f i {ends} {w = w} {warn = warn} before one = record {
+pub linked_more : (t : Tables) (k : ℕ) (f : ℕ → Connection) (i : ℕ) {ends ends₁ ends₂ : List ℕ}
+    {x x₁ x₂ : LaidRows 4 32768} → Linked t k (tab i f) ends ends₁ x x₁ → Linked t k (f i ∷ []) ends₁ ends₂ x₁ x₂
+    → Linked t k (tab (i + 1) f) ends ends₂ x x₂
+linked_more t k f i {ends} {x = x} before one = record {
   roads =
       one.roads
       ∙ ap (missing_link (same t) j (f i)) before.roads
@@ -177,9 +209,9 @@ linked_more t k f i {ends} {w = w} {warn = warn} before one = record {
       one.warned
       ∙ ap₂ (λ (a : List ℕ) (l : List Road). a ++ gather W (warn_all (same t) k j (f i ∷ []) l)) before.warned
       before.roads
-      ∙ append_assoc (take (w * 4) warn) (gather W (warn_all (same t) k j (tab i f) rs))
+      ∙ append_assoc (laid_words x) (gather W (warn_all (same t) k j (tab i f) rs))
       (gather W (warn_all (same t) k j (f i ∷ []) (missing_links (same t) j (tab i f) rs)))
-      ∙ ap (λ (l : List ℕ). take (w * 4) warn ++ l)
+      ∙ ap (λ (l : List ℕ). laid_words x ++ l)
       (sym (ap (λ (l : List Connection). gather W (warn_all (same t) k j l rs)) (tab_more i f)
       ∙ ap (gather W) (warn_snoc (same t) j k (tab i f) (f i) rs)
       ∙ gather_append W (warn_all (same t) k j (tab i f) rs)

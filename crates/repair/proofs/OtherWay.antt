@@ -3,8 +3,8 @@ use mathlib.Core.Path.{◌≡◌, refl, sym, ap, ap₂, ◌∙◌}
 use mathlib.Core.Bool.{Bool, true, false, not, ◌&&◌, ◌||◌, cond}
 use mathlib.Core.Option.{Option, none, some}
 use mathlib.Core.List.{List, [], ◌∷◌, ◌++◌}
-use Prim.Native.Nat.{ℕ, zero, suc, ◌+◌, ◌/◌, ◌-◌, ◌≤◌, ◌<◌}
-use native.Mathlib.Nat.{le_refl, le_step}
+use Prim.Native.Nat.{ℕ, zero, suc, ◌+◌, ◌*◌, ◌/◌, ◌-◌, ◌≤◌, ◌<◌}
+use native.Mathlib.Nat.{add-zero, le_refl, le_step}
 use native.Mathlib.Omega.{arith}
 use lib.ListN.{length}
 use lib.Dec.{leb, ltb}
@@ -14,24 +14,34 @@ use Rattle.model.specs.Records.{Span, Connection, Road}
 use Rattle.model.specs.Repair.{back_at, back_of, meeting_end, reversed, road_of, runs_back}
 use Rattle.model.specs.Text.{same_in}
 use Rattle.laws.proofs.Basics.{bool_ext}
-use Rattle.words.specs.Keys.{hash_name, name_hash}
-use Rattle.words.specs.Rows.{any, name_at}
-use Rattle.words.proofs.KeyLaws.{same_hash}
+use Rattle.laws.proofs.ListTests.{and_swap}
+use Rattle.words.specs.Keys.{bears}
+use Rattle.words.specs.Rows.{any, name_at, name_from}
 use Rattle.words.proofs.Laws.{any_hit, any_same}
 use Rattle.words.proofs.Scans.{and_step, left_on, right_on, some_tab}
 use Rattle.repair.specs.Now.{run, connection_at}
 use Rattle.repair.specs.Laying.{turned_at}
 use Rattle.repair.proofs.TargetWords.{incoming_is, connecting_is}
 
--- a connection that runs the other way lies in the bucket of the connecting road's name
-pub only_turned : (text connections : List ℕ) (first last c q : ℕ)
-    → turned_at text connections first last c q ≡ true
-    → name_hash text 7 0 connections q ≡ hash_name text (name_at 7 2 connections c)
-unfolding turned_at name_hash
-only_turned text connections first last c q e =
-    same_hash text (name_at 7 0 connections q) (name_at 7 2 connections c)
-    (right_on (leb first q && ltb q last) _
-    (left_on _ (same_in text (name_at 7 2 connections q) (name_at 7 0 connections c)) e))
+-- the connections that run the other way of c, by its names
+pub by_names : (text cs : List ℕ) (first last c : ℕ) {incoming connecting : Span} → incoming ≡ name_from cs (c * 7)
+    → connecting ≡ name_from cs (c * 7 + 2)
+    → any (length cs / 7)
+    (λ q.
+    ((leb first q && ltb q last) && same_in text (name_from cs (q * 7 + 2)) incoming) && bears text 7 0 cs connecting q)
+    ≡ any (length cs / 7) (turned_at text cs first last c)
+unfolding bears turned_at
+by_names text cs first last c {incoming} {connecting} from_c to_c =
+    any_same (length cs / 7)
+    (λ q.
+    ((leb first q && ltb q last) && same_in text (name_from cs (q * 7 + 2)) incoming) && bears text 7 0 cs connecting q)
+    (turned_at text cs first last c)
+    (λ q l.
+    ap₂ (λ (a b : Span).
+    ((leb first q && ltb q last) && same_in text (name_at 7 2 cs q) a) && same_in text (name_at 7 0 cs q) b)
+    (from_c ∙ ap (name_from cs) (sym (add-zero (c * 7)))) to_c
+    ∙ and_swap (leb first q && ltb q last) (same_in text (name_at 7 2 cs q) (name_at 7 0 cs c))
+    (same_in text (name_at 7 0 cs q) (name_at 7 2 cs c)))
 
 -- ---- among m from first on, or among all
 any_use : (n : ℕ) (p : ℕ → Bool) {C : Type 0} → any n p ≡ true → ((i : ℕ) → i < n → p i ≡ true → C) → C

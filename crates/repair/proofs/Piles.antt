@@ -1,17 +1,18 @@
 -- Connections laid one after the other, and the parts that they come from.
-use mathlib.Core.Path.{◌≡◌, refl, sym, ap, ap₂, ◌∙◌, subst}
+use mathlib.Core.Path.{◌≡◌, sym, ap, ap₂, ◌∙◌, subst}
+use mathlib.Core.Bool.{Bool}
 use mathlib.Core.List.{List, [], ◌∷◌, ◌++◌, map, append-nil, append_assoc}
-use Prim.Native.Nat.{ℕ, zero, suc, ◌+◌, ◌*◌, ◌/◌, ◌-◌, ◌≤◌, ◌<◌}
-use native.Mathlib.Nat.{add-zero, add_assoc}
+use Prim.Native.Nat.{ℕ, ◌+◌, ◌*◌, ◌/◌, ◌≤◌, ◌<◌}
+use native.Mathlib.Nat.{add-zero}
 use native.Mathlib.Omega.{arith}
 use lib.ListN.{length, get_or, take, drop, length-append, length-drop}
 use lib.Seq.{length-take-le, get_or-take, get_or-drop, ext_get_or, take_at}
-use lib.Dec.{eqb}
+use Rattle.std.specs.Prelude.{Option, Some, None}
 use Rattle.model.specs.Lists.{gather}
 use Rattle.model.specs.Records.{Pair, Connection}
 use Rattle.model.specs.Repair.{back_at, swapped}
 use Rattle.model.specs.Rows.{part, rows_from}
-use Rattle.model.specs.Tables.{bit, connection_in, connection_row, pair_in, pair_row, pairs_in}
+use Rattle.model.specs.Tables.{bit, flag, connection_in, connection_row, pair_in, pair_row, pairs_in}
 use Rattle.laws.proofs.WordsReversed.{gather_append}
 use Rattle.words.specs.Rows.{spliced, tab}
 use Rattle.words.proofs.Laws.{map_tab, tab_at, tab_length, tab_more, total_le}
@@ -20,9 +21,11 @@ use Rattle.rules.specs.Parts.{counts}
 use Rattle.rules.proofs.Fits.{fit_in, fit_next}
 use Rattle.rules.proofs.Locals.{short}
 use Rattle.repair.specs.Now.{run, connection_at}
-use Rattle.repair.proofs.TargetWords.{end_bit}
-use Rattle.repair.specs.Laying.{Laid, Pile, RoomFor, RoomForAll, Small, back_list, pair_at, pair_count}
-use Rattle.repair.specs.Laying.{pairs_before, pile, row_words, turned_connection, turned_pair, turned_pairs}
+use Rattle.repair.specs.Laying.{Laid, RoomFor, RoomForAll, laid_words, pair_at, row_words, turned_connection}
+use Rattle.repair.specs.Laying.{turned_pair, turned_pairs}
+use Rattle.repair.specs.Ready.{Small, pair_count, pairs_before}
+use Rattle.repair.specs.declared.laying.Pile.{Pile}
+use Rattle.laws.proofs.RowTests.{rows_from_append}
 
 -- ---- rows one after the other
 -- a row put after what is there
@@ -67,39 +70,31 @@ part_tab n g f m h = ext_get_or (g f) (part f m (tab n g)) (run g f m) (len ∙ 
         ∙ tab_at n g (f + i) (g f) (omega arith)
         ∙ sym (tab_at m (λ j. g (f + j)) i (g f) lt)
 
--- ---- pairs
-pub pair_plain : (pairs : List ℕ) (q b : ℕ) → b ≡ 0
-    → get_or pairs (q * 2) 0 ∷ get_or pairs (q * 2 + 1) 0 ∷ [] ≡ pair_row (turned_pair b (pair_at pairs q))
-unfolding pair_row pair_at pair_in
-pair_plain pairs q b e =
-    ap₂ (λ (x y : ℕ). x ∷ y ∷ [])
-    (ap (λ (k : ℕ). get_or pairs k 0) (sym (add-zero (q * 2))) ∙ sym (get_or-drop (q * 2) pairs 0 0))
-    (sym (get_or-drop (q * 2) pairs 1 0))
-    ∙ ap (λ (k : ℕ). pair_row (turned_pair k (pair_at pairs q))) (sym e)
+-- the first word of what begins at word a
+pub first_of : (ws : List ℕ) (a : ℕ) → get_or (drop a ws) 0 0 ≡ get_or ws a 0
+first_of ws a = get_or-drop a ws 0 0 ∙ ap (λ (k : ℕ). get_or ws k 0) (add-zero a)
 
-pub pair_turned : (pairs : List ℕ) (q b : ℕ) → (b ≡ 0 → ⊥)
-    → get_or pairs (q * 2 + 1) 0 ∷ get_or pairs (q * 2) 0 ∷ [] ≡ pair_row (turned_pair b (pair_at pairs q))
+-- ---- pairs
+pub pair_plain : (pairs : List ℕ) (q : ℕ)
+    → get_or pairs (q * 2) 0 ∷ get_or pairs (q * 2 + 1) 0 ∷ [] ≡ pair_row (pair_at pairs q)
+unfolding pair_row pair_at pair_in
+pair_plain pairs q =
+    ap₂ (λ (x y : ℕ). x ∷ y ∷ [])
+    (sym (first_of pairs (q * 2)))
+    (sym (get_or-drop (q * 2) pairs 1 0))
+
+pub pair_turned : (pairs : List ℕ) (q : ℕ)
+    → get_or pairs (q * 2 + 1) 0 ∷ get_or pairs (q * 2) 0 ∷ [] ≡ pair_row (swapped (pair_at pairs q))
 unfolding pair_row pair_at pair_in swapped
-pair_turned pairs q zero n = absurd (n refl)
-pair_turned pairs q (suc e) n =
+pair_turned pairs q =
     ap₂ (λ (x y : ℕ). x ∷ y ∷ []) (sym (get_or-drop (q * 2) pairs 1 0))
-    (ap (λ (k : ℕ). get_or pairs k 0) (sym (add-zero (q * 2))) ∙ sym (get_or-drop (q * 2) pairs 0 0))
+    (sym (first_of pairs (q * 2)))
 
 pairs_tab : (pairs : List ℕ) → pairs_in pairs ≡ tab (length pairs / 2) (pair_at pairs)
 unfolding pairs_in pair_at pair_in
 pairs_tab pairs = map_rows 2 pairs pair_in (λ l. simp (short 2 l))
 
 -- ---- a connection's row and its pairs
-pub row_turned : (e : ℕ) (ws : List ℕ) (c p b : ℕ) → (b ≡ 0 → ⊥) → e ≡ b - 1
-    → get_or ws (c * 7 + 2) 0 ∷ get_or ws (c * 7 + 3) 0 ∷ get_or ws (c * 7) 0 ∷ get_or ws (c * 7 + 1) 0 ∷ e ∷ p
-    ∷ get_or ws (c * 7 + 6) 0 ∷ [] ≡ row_words b ws c p
-row_turned e ws c p zero n h = absurd (n refl)
-row_turned e ws c p (suc b) n h =
-    let z : e ≡ b = omega arith in
-    ap (λ (k : ℕ).
-    get_or ws (c * 7 + 2) 0 ∷ get_or ws (c * 7 + 3) 0 ∷ get_or ws (c * 7) 0 ∷ get_or ws (c * 7 + 1) 0 ∷ k ∷ p
-    ∷ get_or ws (c * 7 + 6) 0 ∷ []) z
-
 module _ (pairs ws : List ℕ) (s : Small pairs ws) (c : ℕ) (h : c < length ws / 7) where
   own_pairs : (connection_at pairs ws c).pairs ≡ run (pair_at pairs) (get_or ws (c * 7 + 5) 0) (get_or ws (c * 7 + 6) 0)
   unfolding connection_at connection_in
@@ -109,78 +104,65 @@ module _ (pairs ws : List ℕ) (s : Small pairs ws) (c : ℕ) (h : c < length ws
       ∙ part_tab (length pairs / 2) (pair_at pairs) (get_or ws (c * 7 + 5) 0) (get_or ws (c * 7 + 6) 0)
       (fit_in 7 5 6 ws (length pairs / 2) s.fit c h)
 
-  turned_pairs_lem : (b : ℕ)
+  turned_pairs_lem : (b : Option Bool)
       → (turned_connection b (connection_at pairs ws c)).pairs
       ≡ run (λ q. turned_pair b (pair_at pairs q)) (get_or ws (c * 7 + 5) 0) (get_or ws (c * 7 + 6) 0)
   unfolding back_at
-  turned_pairs_lem zero = own_pairs
-  turned_pairs_lem (suc e) =
+  turned_pairs_lem None = own_pairs
+  turned_pairs_lem (Some e) =
       ap (map swapped) own_pairs
       ∙ map_tab swapped (get_or ws (c * 7 + 6) 0) (λ j. pair_at pairs (get_or ws (c * 7 + 5) 0 + j))
 
-  turned_count : (b : ℕ) → length (turned_connection b (connection_at pairs ws c)).pairs ≡ get_or ws (c * 7 + 6) 0
+  turned_count : (b : Option Bool)
+      → length (turned_connection b (connection_at pairs ws c)).pairs ≡ get_or ws (c * 7 + 6) 0
   turned_count b =
       ap length (turned_pairs_lem b)
       ∙ tab_length (get_or ws (c * 7 + 6) 0) (λ j. turned_pair b (pair_at pairs (get_or ws (c * 7 + 5) 0 + j)))
 
-  first_word : get_or (drop (c * 7) ws) 0 0 ≡ get_or ws (c * 7) 0
-  first_word = get_or-drop (c * 7) ws 0 0 ∙ ap (λ (k : ℕ). get_or ws k 0) (add-zero (c * 7))
-
-  turned_row : (b p : ℕ) → b ≤ 2
+  turned_row : (b : Option Bool) (p : ℕ)
       → connection_row p (turned_connection b (connection_at pairs ws c)) ≡ row_words b ws c p
   unfolding connection_row connection_at connection_in back_at
-  turned_row zero p l =
+  turned_row None p =
       λ i.
-      first_word i ∷ get_or-drop (c * 7) ws 1 0 i ∷ get_or-drop (c * 7) ws 2 0 i ∷ get_or-drop (c * 7) ws 3 0 i
-      ∷ bit (eqb (get_or-drop (c * 7) ws 4 0 i) 1) ∷ p ∷ turned_count 0 i ∷ []
-  turned_row (suc e) p l =
+      first_of ws (c * 7) i ∷ get_or-drop (c * 7) ws 1 0 i ∷ get_or-drop (c * 7) ws 2 0 i ∷ get_or-drop (c * 7) ws 3 0 i
+      ∷ bit (flag (get_or-drop (c * 7) ws 4 0 i)) ∷ p ∷ turned_count None i ∷ []
+  turned_row (Some e) p =
       λ i.
-      get_or-drop (c * 7) ws 2 0 i ∷ get_or-drop (c * 7) ws 3 0 i ∷ first_word i ∷ get_or-drop (c * 7) ws 1 0 i
-      ∷ end_bit e (omega arith) i ∷ p ∷ turned_count (suc e) i ∷ []
+      get_or-drop (c * 7) ws 2 0 i ∷ get_or-drop (c * 7) ws 3 0 i ∷ first_of ws (c * 7) i ∷ get_or-drop (c * 7) ws 1 0 i
+      ∷ bit e ∷ p ∷ turned_count (Some e) i ∷ []
 
   -- one connection laid
-  pub lay_one : (b n p f m : ℕ) (cs ps : List ℕ) {cs' ps' : List ℕ} → b ≤ 2 → f ≡ get_or ws (c * 7 + 5) 0
-      → m ≡ get_or ws (c * 7 + 6) 0 → take ((n + 1) * 7) cs' ≡ take (n * 7) cs ++ row_words b ws c p
-      → take ((p + m) * 2) ps' ≡ take (p * 2) ps ++ gather pair_row (turned_pairs b pairs f m)
-      → Laid (turned_connection b (connection_at pairs ws c) ∷ []) (pile n p cs ps) (pile (n + 1) (p + m) cs' ps')
-  lay_one b n p f m cs ps contact first count row row_laid = record {
-    rows = omega arith;
-    pair_rows = ap (λ (k : ℕ). p + k)
+  pub lay_one : (b : Option Bool) (f m : ℕ) {before after : Pile} → f ≡ get_or ws (c * 7 + 5) 0
+      → m ≡ get_or ws (c * 7 + 6) 0 → after.connections.rows ≡ before.connections.rows + 1
+      → laid_words after.connections ≡ laid_words before.connections ++ row_words b ws c before.pairs.rows
+      → after.pairs.rows ≡ before.pairs.rows + m
+      → laid_words after.pairs ≡ laid_words before.pairs ++ gather pair_row (turned_pairs b pairs f m)
+      → Laid (turned_connection b (connection_at pairs ws c) ∷ []) before after
+  lay_one b f m {before} first count rows row pair_rows row_laid = record {
+    rows = rows;
+    pair_rows = pair_rows ∙ ap (λ (k : ℕ). before.pairs.rows + k)
         (count ∙ sym (ap length (append-nil (turned_connection b (connection_at pairs ws c)).pairs) ∙ turned_count b));
     words = row
-        ∙ ap (λ (x : List ℕ). take (n * 7) cs ++ x)
-        (sym (append-nil (connection_row p (turned_connection b (connection_at pairs ws c))) ∙ turned_row b p contact));
+        ∙ ap (λ (x : List ℕ). laid_words before.connections ++ x)
+        (sym (append-nil (connection_row before.pairs.rows (turned_connection b (connection_at pairs ws c)))
+        ∙ turned_row b before.pairs.rows));
     words_of_pairs = row_laid
-        ∙ ap (λ (x : List Pair). take (p * 2) ps ++ gather pair_row x)
+        ∙ ap (λ (x : List Pair). laid_words before.pairs ++ gather pair_row x)
         (ap₂ (turned_pairs b pairs) first count
         ∙ sym (append-nil (turned_connection b (connection_at pairs ws c)).pairs ∙ turned_pairs_lem b));
   }
 
-pub row_width : (b : ℕ) (ws : List ℕ) (c p : ℕ) → length (row_words b ws c p) ≡ 7
-row_width zero ws c p = refl
-row_width (suc e) ws c p = refl
-
 -- ---- connections one after the other
 abbrev pairs_of : Connection → List Pair
 pairs_of c = c.pairs
-
-pub rows_append : {X A : Type 0} (row : ℕ → X → List ℕ) (f : X → List A) (i : ℕ) (xs ys : List X)
-    → rows_from row f i (xs ++ ys) ≡ rows_from row f i xs ++ rows_from row f (i + length (gather f xs)) ys
-rows_append row f i [] ys = ap (λ (k : ℕ). rows_from row f k ys) (sym (add-zero i))
-rows_append row f i (x ∷ xs) ys = ap (λ (l : List ℕ). row i x ++ l) (rows_append row f (i + length (f x)) xs ys)
-    ∙ sym (append_assoc (row i x) (rows_from row f (i + length (f x)) xs)
-    (rows_from row f (i + length (f x) + length (gather f xs)) ys))
-    ∙ ap (λ (k : ℕ). (row i x ++ rows_from row f (i + length (f x)) xs) ++ rows_from row f k ys)
-    (add_assoc i (length (f x)) (length (gather f xs))
-    ∙ ap (λ (k : ℕ). i + k) (sym (length-append (f x) (gather f xs))))
 
 pub laid_none : (x : Pile) → Laid [] x x
 laid_none x =
     record {
       rows = omega arith;
       pair_rows = omega arith;
-      words = sym (append-nil (take (x.rows * 7) x.words));
-      words_of_pairs = sym (append-nil (take (x.pair_rows * 2) x.words_of_pairs));
+      words = sym (append-nil (laid_words x.connections));
+      words_of_pairs = sym (append-nil (laid_words x.pairs));
     }
 
 pub laid_on : (xs ys : List Connection) {a b c : Pile} → Laid xs a b → Laid ys b c → Laid (xs ++ ys) a c
@@ -192,26 +174,22 @@ laid_on xs ys {a} first second = record {
   words =
       second.words
       ∙ ap₂ (λ (x : List ℕ) (k : ℕ). x ++ rows_from connection_row pairs_of k ys) first.words first.pair_rows
-      ∙ append_assoc (take (a.rows * 7) a.words) (rows_from connection_row pairs_of a.pair_rows xs)
-      (rows_from connection_row pairs_of (a.pair_rows + length (gather pairs_of xs)) ys)
-      ∙ ap (λ (x : List ℕ). take (a.rows * 7) a.words ++ x)
-      (sym (rows_append connection_row pairs_of a.pair_rows xs ys));
+      ∙ append_assoc (laid_words a.connections) (rows_from connection_row pairs_of a.pairs.rows xs)
+      (rows_from connection_row pairs_of (a.pairs.rows + length (gather pairs_of xs)) ys)
+      ∙ ap (λ (x : List ℕ). laid_words a.connections ++ x)
+      (sym (rows_from_append connection_row pairs_of a.pairs.rows xs ys));
   words_of_pairs =
       second.words_of_pairs
       ∙ ap (λ (x : List ℕ). x ++ gather pair_row (gather pairs_of ys)) first.words_of_pairs
-      ∙ append_assoc (take (a.pair_rows * 2) a.words_of_pairs) (gather pair_row (gather pairs_of xs))
+      ∙ append_assoc (laid_words a.pairs) (gather pair_row (gather pairs_of xs))
       (gather pair_row (gather pairs_of ys))
-      ∙ ap (λ (x : List ℕ). take (a.pair_rows * 2) a.words_of_pairs ++ x)
+      ∙ ap (λ (x : List ℕ). laid_words a.pairs ++ x)
       (sym (ap (gather pair_row) (gather_append pairs_of xs ys)
       ∙ gather_append pair_row (gather pairs_of xs) (gather pairs_of ys)));
 }
 
 pub laid_same : {xs ys : List Connection} {a b : Pile} → xs ≡ ys → Laid xs a b → Laid ys a b
 laid_same {a = a} {b = b} e laid = subst (λ (l : List Connection). Laid l a b) e laid
-
-pub laid_rows : {xs : List Connection} {a : Pile} {n n' p : ℕ} {cs ps : List ℕ} → n ≡ n'
-    → Laid xs a (pile n p cs ps) → Laid xs a (pile n' p cs ps)
-laid_rows {xs} {a} {p = p} {cs = cs} {ps = ps} e laid = subst (λ (n : ℕ). Laid xs a (pile n p cs ps)) e laid
 
 -- a connection more, as read
 pub laid_own : (f : ℕ → Connection) (i : ℕ) {a b c : Pile} → Laid (tab i f) a b → Laid (f i ∷ []) b c
@@ -225,12 +203,6 @@ pub laid_more : (F : Connection → List Connection) (f : ℕ → Connection) (i
 laid_more F f i before one given =
     laid_same (sym (gather_tab F f i)) (laid_on (gather F (tab i f)) (F (f i)) before (laid_same given one))
 
--- a connection the other way, by its contact plus 1
-pub back_list_lem : (b : ℕ) (c : Connection) → (b ≡ 0 → ⊥)
-    → turned_connection b c ∷ [] ≡ back_list b c
-back_list_lem zero c n = absurd (n refl)
-back_list_lem (suc e) c n = refl
-
 -- ---- the i-th of m connections from first on
 pub pairs_next : (connections : List ℕ) (first i : ℕ)
     → pairs_before connections (first + (i + 1))
@@ -240,15 +212,14 @@ pairs_next connections first i =
     ap (pairs_before connections) on ∙ fit_next 7 6 connections (first + i)
 
 -- it has room where all have
-pub room_at : {connections : List ℕ} {first m n p : ℕ} → RoomForAll connections first m n p → (i x y b : ℕ) → i < m
-    → x ≤ n + i → y + pairs_before connections first ≤ p + pairs_before connections (first + i) → b ≤ 2
-    → RoomFor connections (first + i) b x y
-room_at {connections} {first} {m} {n} {p} room i x y b turn rows pair_rows contact =
+pub room_at : {connections : List ℕ} {first m n p : ℕ} → RoomForAll connections first m n p → (i x y : ℕ) → i < m
+    → x ≤ n + i → y + pairs_before connections first ≤ p + pairs_before connections (first + i)
+    → RoomFor connections (first + i) x y
+room_at {connections} {first} {m} {n} {p} room i x y turn rows pair_rows =
     let next = pairs_next connections first i in
     let rest = total_le (first + (i + 1)) (first + m) (counts 7 6 connections) (omega arith) in
     record {
       inside = omega (arith, turn, room.inside);
-      contact = contact;
       rows = omega (arith, turn, rows, room.rows);
       pair_rows = omega (arith, next, rest, pair_rows, room.pair_rows);
     }

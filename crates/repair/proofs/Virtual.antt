@@ -3,38 +3,39 @@ use mathlib.Core.Path.{◌≡◌, refl, sym, ap, ap₂, ◌∙◌}
 use mathlib.Core.Bool.{Bool, true, false, not, ◌&&◌, ◌||◌, cond}
 use mathlib.Core.Option.{Option, none, some}
 use mathlib.Core.List.{List, [], ◌∷◌, map}
-use Prim.Native.Nat.{ℕ, zero, suc, ◌+◌, ◌*◌, ◌/◌, ◌≤◌, ◌<◌}
+use Prim.Native.Nat.{ℕ, ◌+◌, ◌*◌, ◌/◌, ◌≤◌, ◌<◌}
 use native.Mathlib.Omega.{arith}
 use lib.ListN.{length, get_or, set, length-set}
 use lib.Seq.{get_or-drop, get_or-set_same, get_or-set_other}
-use lib.Dec.{eqb, leb}
-use borrow.Author.Tests.{eqb-true, eqb-false, le-leb}
+use lib.Dec.{eqb}
+use borrow.Author.Tests.{eqb-true, eqb-false}
 use Rattle.model.specs.Lists.{pick, is_some, first, some?, bind_o}
-use Rattle.model.specs.Records.{Span, Target}
+use Rattle.model.specs.Records.{JunctionKind, Span, Target, common, direct, virtual}
 use Rattle.model.specs.Repair.{drop_along, in_virtual, is_virtual, linked, without_along}
 use Rattle.model.specs.Rows.{part, word}
-use Rattle.model.specs.Tables.{bit, is_absent, kind_of, map_tables, name_in, road_in, span_in, target_in, target_of}
+use Rattle.model.specs.Tables.{bit, is_absent, map_tables, name_in, road_in, span_in, target_in, target_of}
 use Rattle.model.specs.Text.{same_in}
-use Rattle.words.specs.Keys.{hash_name, name_hash}
-use Rattle.words.specs.Rows.{any, from, name_at, span, tab}
-use Rattle.words.proofs.KeyLaws.{same_hash}
+use Rattle.words.specs.Keys.{is_kind, is_kind_of}
+use Rattle.words.specs.Rows.{any, from, name_at, name_from, span, tab}
 use Rattle.words.proofs.Laws.{any_same, map_tab, tab_same}
-use Rattle.words.proofs.Scans.{right_on, some_tab}
+use Rattle.words.proofs.Scans.{some_tab}
 use Rattle.rules.proofs.Forms.{roads_tab}
 use Rattle.repair.specs.Now.{end_now, junction_at, road_now, roads_now, target_now}
-use Rattle.repair.specs.Along.{Marked, along_word, is_virtual_of, roads_begun, virtual_row}
+use Rattle.repair.specs.Along.{Marked, along_word, roads_begun, virtual_row}
 
-pub only_virtual : (text junctions : List ℕ) (n : Span) (q : ℕ) → is_virtual_of text junctions n q ≡ true
-    → name_hash text 5 0 junctions q ≡ hash_name text n
-unfolding is_virtual_of name_hash
-only_virtual text junctions n q e =
-    same_hash text (name_at 5 0 junctions q) n
-    (right_on (leb 2 (get_or junctions (q * 5 + 2) 0)) (same_in text (name_at 5 0 junctions q) n) e)
-
-virtual_kind : (w : ℕ) → is_virtual (kind_of w) ≡ leb 2 w
-virtual_kind zero = refl
-virtual_kind (suc zero) = refl
-virtual_kind (suc (suc w)) = sym (le-leb 2 (suc (suc w)) (omega arith))
+-- whether a road is in a virtual junction, by its junction's name
+pub virtual_by : (text roads junctions : List ℕ) (r : ℕ) {start size : ℕ} {absent met : Bool}
+    → span start size ≡ name_from roads (r * 20 + 2) → absent ≡ is_absent start size
+    → met ≡ any (length junctions / 5) (is_kind_of virtual text junctions (span start size))
+    → not absent && met ≡ virtual_row text roads junctions r
+unfolding virtual_row
+virtual_by text roads junctions r named absent met =
+    let size-at : r * 20 + 2 + 1 ≡ r * 20 + 3 = omega arith in
+    let inside : Span → Bool = λ n.
+    not (is_absent n.start n.size) && any (length junctions / 5) (is_kind_of virtual text junctions n) in
+    (λ i. not (absent i) && met i)
+    ∙ ap inside named
+    ∙ ap (λ (k : ℕ). inside (span (get_or roads (r * 20 + 2) 0) (get_or roads k 0))) size-at
 
 first_some : {A : Type 0} (p : A → Bool) (xs : List A) → is_some (first p xs) ≡ some? p xs
 first_some p [] = refl
@@ -49,10 +50,15 @@ found_if : {A : Type 0} (b : Bool) (n : Span) (K : Span → Option A)
 found_if true n K = refl
 found_if false n K = refl
 
+virtual_is : (k : JunctionKind) → is_virtual k ≡ is_kind virtual k
+virtual_is common = refl
+virtual_is direct = refl
+virtual_is virtual = refl
+
 module _ (text roads junctions ss ps cs : List ℕ) (r : ℕ) where
   in_virtual_is : in_virtual (same_in text) (tab (length junctions / 5) (junction_at ps cs junctions))
       (road_in ss (from 20 roads r)) ≡ virtual_row text roads junctions r
-  unfolding in_virtual road_in virtual_row is_virtual_of junction_at
+  unfolding in_virtual road_in virtual_row is_kind_of junction_at
   in_virtual_is =
       ap₂ (λ (a b : ℕ).
       is_some (bind_o (cond (is_absent a b) none (some (span a b)))
@@ -71,18 +77,17 @@ module _ (text roads junctions ss ps cs : List ℕ) (r : ℕ) where
       any_of : (n : Span)
           → is_some (first (λ j. is_virtual j.kind && same_in text j.name n)
           (tab (length junctions / 5) (junction_at ps cs junctions)))
-          ≡ any (length junctions / 5) (is_virtual_of text junctions n)
+          ≡ any (length junctions / 5) (is_kind_of virtual text junctions n)
       any_of n =
           first_some (λ j. is_virtual j.kind && same_in text j.name n)
           (tab (length junctions / 5) (junction_at ps cs junctions))
           ∙ some_tab (λ j. is_virtual j.kind && same_in text j.name n) (length junctions / 5)
           (junction_at ps cs junctions)
           ∙ any_same (length junctions / 5)
-          (λ q.
-          is_virtual (junction_at ps cs junctions q).kind && same_in text (junction_at ps cs junctions q).name n)
-          (is_virtual_of text junctions n)
-          (λ q l.
-          ap (λ b. b && same_in text (name_at 5 0 junctions q) n) (virtual_kind (get_or junctions (q * 5 + 2) 0)))
+          (λ q. is_virtual (junction_at ps cs junctions q).kind && same_in text (name_at 5 0 junctions q) n)
+          (is_kind_of virtual text junctions n)
+          (λ q lt.
+          ap (λ b. b && same_in text (name_at 5 0 junctions q) n) (virtual_is (junction_at ps cs junctions q).kind))
 
 -- an end by its along flag
 drop_is : (p k s n c g a : ℕ) → cond (eqb a 1) none (target_of p k s n c g a) ≡ drop_along (target_of p k s n c g a)

@@ -1,34 +1,38 @@
 -- The call's answer, with document 01's number and values for each of its cases, and its outputs. Definitions only.
-use Rattle.std.specs.Prelude.{◌≡◌, List, [], ◌∷◌, ℕ, ◌*◌, ◌/◌, length, take}
+use Rattle.std.specs.Prelude.{◌≡◌, Result, Ok, Err, List, [], ◌∷◌, ℕ}
 use Rattle.model.specs.Calls.{Answer, RepairOutputs, refused, wrote}
-use Rattle.model.specs.Repair.{start_roads}
-use Rattle.model.specs.Rules.{refusal_word, same}
-use Rattle.model.specs.Tables.{Tables, map_of}
-use Rattle.rules.specs.Parts.{Fit}
-use Rattle.tables.specs.Verdicts.{refusal_of}
+use Rattle.model.specs.Tables.{Tables}
+use Rattle.tables.specs.Refusals.{number_of}
+use Rattle.tables.specs.declared.refusal.Refusal.{Refusal}
 use Rattle.repair.specs.Along.{roads_now_words}
-use Rattle.repair.specs.Now.{roads_with}
-use Rattle.repair.specs.declared.call.Repaired.{Repaired}
-use Rattle.repair.specs.declared.call.Repaired.TheVariants.{Written, Refused}
+use Rattle.repair.specs.Laying.{laid_words}
+use Rattle.repair.specs.declared.call.RepairOutputs.{RepairOutputs as Lent}
+use Rattle.repair.specs.declared.call.Rows.{Rows}
+use Rattle.repair.specs.declared.junctions.State.{State}
 
 -- the rows written to each output, or the refusal's number
-abbrev pub answer_of : Repaired → Answer
-answer_of (Written n) = wrote (n.roads ∷ n.junctions ∷ n.connections ∷ n.pairs ∷ n.warnings ∷ [])
-answer_of (Refused v) = refused (refusal_word (refusal_of v))
+abbrev pub answer_of : Result Rows Refusal → Answer
+answer_of (Ok n) = wrote (n.roads ∷ n.junctions ∷ n.connections ∷ n.pairs ∷ n.warnings ∷ [])
+answer_of (Err r) = refused (number_of r)
 
--- the five outputs
+-- five outputs
 abbrev pub outputs : (roads junctions connections pairs warnings : List ℕ) → RepairOutputs
 outputs roads junctions connections pairs warnings =
     record { roads = roads; junctions = junctions; connections = connections; pairs = pairs; warnings = warnings }
 
--- what is at hand to be written: the roads as their ends say, and of the other arrays' rows all junctions, n
--- connections, p pairs and w warnings
-abbrev pub content_now : (roads junctions ends js cs ps warn : List ℕ) → (n p w : ℕ) → RepairOutputs
-content_now roads junctions ends js cs ps warn n p w =
-    outputs (roads_now_words roads junctions ends) (take (length junctions / 5 * 5) js) (take (n * 7) cs)
-    (take (p * 2) ps) (take (w * 4) warn)
+-- those that are lent, as they are now
+abbrev pub outputs_of : Lent → RepairOutputs
+outputs_of o = outputs o.roads.now o.junctions.now o.connections.now o.pairs.now o.warnings.now
 
--- where repair begins: the parts of the sections fit, and the ends are those before the first junction
-pub record Begun (t : Tables) (ends : List ℕ) : Type 0 where
-  pub fit : Fit 20 18 19 t.roads (length t.sections)
-  pub roads : roads_with t ends ≡ start_roads (same t) (map_of t)
+-- each is the slice that was lent
+abbrev pub SameOutputs : Lent → Lent → Type 0
+SameOutputs a b =
+    (b.roads.ghost_name ≡ a.roads.ghost_name) × (b.junctions.ghost_name ≡ a.junctions.ghost_name)
+    × (b.connections.ghost_name ≡ a.connections.ghost_name) × (b.pairs.ghost_name ≡ a.pairs.ghost_name)
+    × (b.warnings.ghost_name ≡ a.warnings.ghost_name)
+
+-- what is at hand to be written: the roads as their ends say, and of the other arrays the rows that there are
+abbrev pub content_now : Tables → State → RepairOutputs
+content_now t s =
+    outputs (roads_now_words t.roads t.junctions s.ends.words) (laid_words s.junctions) (laid_words s.pile.connections)
+    (laid_words s.pile.pairs) (laid_words s.warnings)

@@ -1,3 +1,4 @@
+pub mod Ready
 pub mod Now
 pub mod Laying
 pub mod Along

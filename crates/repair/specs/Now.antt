@@ -1,51 +1,41 @@
 -- The roads as repaired so far, and the rows of connections and junctions, by row numbers. Definitions only.
 -- `ends` has a word for each end of a road, at twice its row, plus 1 for its end: 0 as read, 1 made absent, k +
 -- 2 given junction row k.
-use Rattle.std.specs.Prelude.{◌≡◌, Bool, true, false, List, [], ◌∷◌, ℕ, zero, suc, ◌+◌, ◌*◌, ◌/◌, ◌≤◌, length, get_or}
-use Rattle.std.specs.Prelude.{eqb}
-use Rattle.std.proofs.Math.Option.{Option, none, some}
+use Rattle.std.proofs.Math.Option as maths
+use Rattle.std.specs.Prelude.{Bool, true, false, List, Option, Some, None, ℕ, zero, suc, ◌+◌, ◌*◌, ◌/◌, length, get_or}
 use Rattle.model.specs.Lists.{pick}
 use Rattle.model.specs.Records.{Span, Target, Road, Connection, Junction}
 use Rattle.model.specs.Repair.{linked}
 use Rattle.model.specs.Rows.{part, word}
 use Rattle.model.specs.Tables.{Tables, bit, span_in, name_in, target_in, pairs_in, connection_in, kind_of}
-use Rattle.words.specs.Rows.{any, tab, name_at, from}
-use Rattle.words.specs.Keys.{name_hash, name_before}
-use Rattle.words.specs.Chain.{Chained}
+use Rattle.tables.specs.declared.lookup.RoadId.{RoadId}
+use Rattle.words.specs.Rows.{tab, name_at, from}
 
 -- f i, f (i + 1), .. m of them
 abbrev pub run : {A : Type 0} → (ℕ → A) → ℕ → ℕ → List A
 run f i m = tab m (λ j. f (i + j))
 
--- an end as a word: 0 none, 1 start, 2 end
-abbrev pub end_opt : ℕ → Option Bool
-end_opt zero = none
-end_opt (suc e) = some (eqb e 1)
+-- a road that there may be, by its row plus 1
+abbrev pub road_stored : Option RoadId → ℕ
+road_stored None = 0
+road_stored (Some r) = suc r.0
+
+-- an end that there may be: its start, or its end
+abbrev pub end_read : Option Bool → maths.Option Bool
+end_read None = maths.none
+end_read (Some e) = maths.some e
 
 -- a target by its end's word: as read, absent, or junction row k
-abbrev pub end_now : ℕ → Option Target → (ℕ → Target) → Option Target
+abbrev pub end_now : ℕ → maths.Option Target → (ℕ → Target) → maths.Option Target
 end_now zero t l = t
-end_now (suc zero) t l = none
-end_now (suc (suc k)) t l = some (l k)
+end_now (suc zero) t l = maths.none
+end_now (suc (suc k)) t l = maths.some (l k)
 
 -- road r's target at an end
-unfoldable pub target_now : (roads junctions ends : List ℕ) → ℕ → Bool → Option Target
+unfoldable pub target_now : (roads junctions ends : List ℕ) → ℕ → Bool → maths.Option Target
 target_now roads junctions ends r e =
     end_now (get_or ends (r * 2 + bit e) 0) (target_in (from 20 roads r) (pick e 4 11))
     (λ k. linked (name_at 5 0 junctions k) e)
-
--- its seven words; the target as read begins at word a
-abbrev pub now_words : ℕ → (roads junctions : List ℕ) → ℕ → ℕ → List ℕ
-now_words zero roads junctions a e =
-    get_or roads a 0 ∷ get_or roads (a + 1) 0 ∷ get_or roads (a + 2) 0 ∷ get_or roads (a + 3) 0 ∷ get_or roads (a + 4) 0
-    ∷ get_or roads (a + 5) 0 ∷ get_or roads (a + 6) 0 ∷ []
-now_words (suc zero) roads junctions a e = 0 ∷ 0 ∷ 0 ∷ 0 ∷ 0 ∷ 0 ∷ 0 ∷ []
-now_words (suc (suc k)) roads junctions a e =
-    1 ∷ 1 ∷ get_or junctions (k * 5) 0 ∷ get_or junctions (k * 5 + 1) 0 ∷ e ∷ 1 ∷ 0 ∷ []
-
-abbrev pub words_now : (roads junctions ends : List ℕ) → ℕ → ℕ → List ℕ
-words_now roads junctions ends r e =
-    now_words (get_or ends (r * 2 + e) 0) roads junctions (r * 20 + 4 + e * 7) e
 
 -- road r, and all roads
 unfoldable pub road_now : (sections roads junctions ends : List ℕ) → ℕ → Road
@@ -88,11 +78,3 @@ row_junction t k = junction_at t.pairs t.connections t.junctions k
 
 abbrev pub junction_name : Tables → ℕ → Span
 junction_name t k = name_at 5 0 t.junctions k
-
--- what the code knows of the roads: their names are linked, and single
-pub record Known (text roads heads next : List ℕ) : Type 0 where
-  pub few : length roads / 20 ≤ 16384
-  pub heads_long : length heads ≡ 16384
-  pub next_long : length next ≡ 16384
-  pub chained : Chained (name_hash text 20 0 roads) (length roads / 20) heads next
-  pub once : any (length roads / 20) (name_before text 20 0 roads) ≡ false

@@ -1,136 +1,59 @@
-// The ends with the along flag of roads in virtual junctions.
-ghost use Rattle.std.specs.Prelude.{◌≡◌, Bool, true, false, List, ℕ, ◌+◌, ◌*◌, ◌/◌, ◌≤◌, ◌<◌, length, set};
-ghost use Rattle.model.specs.Tables.{Tables, bit, map_tables};
-ghost use Rattle.words.specs.Rows.{any, span};
+// The ends with the along flag of roads in virtual junctions. Roads and junctions are two parameters: a struct of them
+// would have one use, and be unpacked at each.
+ghost use Rattle.std.specs.Prelude.{◌≡◌, Bool, true, false, ℕ, ◌+◌, ◌*◌, ◌/◌, ◌≤◌, ◌<◌, length, set};
+ghost use Rattle.words.specs.Chain.{Empty};
+ghost use Rattle.words.specs.Map.{map_read};
 ghost use Rattle.repair.specs.Now.{roads_with};
-ghost use Rattle.repair.specs.Along.{is_virtual_of, virtual_row, along_word, roads_begun, Marked, Named};
+ghost use Rattle.repair.specs.Along.{virtual_row, along_word, roads_begun, Marked};
 
-use crate::targets::{at, index_at};
+use crate::targets::Ends;
 use tables::lookup::RoadId;
-use words::tests::{bit, both, is};
-use words::{index, names, rows};
-
-// Whether junction q is virtual and bears the name.
-fn is_virtual(text: &[u8], junctions: &[u32], q: usize, start: usize, size: usize) -> bool
-    requires { (q < 16384) × (q * 5 + 5 ≤ length junctions.now) × (start < 4294967296) × (size < 4294967296) }
-    ensures { result ≡ is_virtual_of text.now junctions.now (span start size) q }
-{
-    let kind = index_at(junctions, q * 5 + 2);
-    both(
-        2 <= kind,
-        names::named(text, junctions, q * 5 + 0, start, size),
-    )
-}
-
-// Whether any is.
-fn any_virtual(
-    text: &[u8],
-    junctions: &[u32],
-    heads: &[u32],
-    next: &[u32],
-    start: usize,
-    size: usize,
-) -> bool
-    requires { (start < 4294967296) × (size < 4294967296) × Named text.now junctions.now heads.now next.now }
-    ensures { result ≡ any (length junctions.now / 5)
-        (is_virtual_of text.now junctions.now (span start size)) }
-{
-    let mut a = rows::word(heads, names::bucket(text, start, size));
-    while a != 0 {
-        let r = a - 1;
-        if is_virtual(text, junctions, r, start, size) {
-            return true;
-        }
-        a = rows::word(next, r);
-    }
-    false
-}
+use words::by_key::ByName;
+use words::chain::Chain;
+use words::kinds::JunctionKind;
+use words::map::MapTables;
+use words::name::Name;
+use words::{by_key, rows};
 
 // Whether a road's junction name is that of a virtual junction.
-fn in_virtual(
-    text: &[u8],
-    roads: &[u32],
-    junctions: &[u32],
-    heads: &[u32],
-    next: &[u32],
-    road: RoadId,
-) -> bool
-    requires { (road.0 < 16384) × Named text.now junctions.now heads.now next.now }
-    ensures { result ≡ virtual_row text.now roads.now junctions.now road.0 }
+fn in_virtual(roads: &[u32], junctions: &ByName<5>, road: RoadId) -> bool
+    requires { road.0 < length roads.now / 20 }
+    ensures { result ≡ virtual_row junctions.now.text.now roads.now junctions.now.rows.now road.0 }
 {
     let r = road.0 as usize;
-    let s = index_at(roads, r * 20 + 2);
-    let l = index_at(roads, r * 20 + 3);
-    let absent = both(s == 4294967295, l == 0);
-    both(!absent, any_virtual(text, junctions, heads, next, s, l))
+    let name = Name::at(roads, r * 20 + 2);
+    !name.is_absent() && junctions.has_kind(name, JunctionKind::Virtual)
 }
 
 // Marks a road's ends.
-fn mark_road(
-    text: &[u8],
-    roads: &[u32],
-    junctions: &[u32],
-    heads: &[u32],
-    next: &[u32],
-    ends: &mut [u32],
-    road: RoadId,
-)
-    requires road_bound { (road.0 < 16384) × (length ends.old ≡ 32768)
-        × Named text.now junctions.now heads.now next.now }
-    ensures { let word : Bool → ℕ = along_word text.now roads.now junctions.now road.0 in
-        ends.new
-        ≡ set (set ends.old (road.0 * 2 + 0) (word false)) (road.0 * 2 + 1) (word true) }
+fn mark_road(roads: &[u32], junctions: &ByName<5>, ends: &mut Ends, road: RoadId)
+    requires { (road.0 < length roads.now / 20) × (road.0 < 16384) }
+    ensures { let word : Bool → ℕ = along_word junctions.now.text.now roads.now junctions.now.rows.now road.0 in
+        ends.new.words ≡ set (set ends.old.words (road.0 * 2 + 0) (word false)) (road.0 * 2 + 1) (word true) }
 {
-    let id = road.0;
-    let r = id as usize;
-    let v = in_virtual(text, roads, junctions, heads, next, RoadId(id));
-    let a = both(v, is(at(roads, r * 20 + 10), 1));
-    let b = both(v, is(at(roads, r * 20 + 17), 1));
-    ends[r * 2 + 0] = bit(a);
-    ends[r * 2 + 1] = bit(b);
+    let r = road.0 as usize;
+    let inside = in_virtual(roads, junctions, road);
+    ends.mark(road, false, inside && rows::flag(roads, r * 20 + 10));
+    ends.mark(road, true, inside && rows::flag(roads, r * 20 + 17));
 }
 
 // Marks the ends of all roads.
-fn mark_roads(
-    text: &[u8],
-    roads: &[u32],
-    junctions: &[u32],
-    heads: &[u32],
-    next: &[u32],
-    ends: &mut [u32],
-)
-    requires { (length roads.now / 20 ≤ 16384) × (length ends.old ≡ 32768)
-        × Named text.now junctions.now heads.now next.now }
-    ensures { Marked text.now roads.now junctions.now
-        (length roads.now / 20) ends.new }
+fn mark_roads(roads: &[u32], junctions: &ByName<5>, ends: &mut Ends)
+    requires { length roads.now / 20 ≤ 16384 }
+    ensures { Marked junctions.now.text.now roads.now junctions.now.rows.now (length roads.now / 20) ends.new.words }
 {
-    let mut r = 0;
-    while r < roads.len() / 20 {
-        let id = r as u32;
-        mark_road(text, roads, junctions, heads, next, ends, RoadId(id));
-        r += 1;
+    for road in 0..roads.len() / 20 {
+        mark_road(roads, junctions, ends, RoadId(road as u32));
     }
 }
 
-// The roads before the first junction.
-pub fn without_along(text: &[u8], roads: &[u32], junctions: &[u32], ends: &mut [u32])
-    requires roads_len_bound { (length roads.now / 20 ≤ 16384) × (length junctions.now / 5 ≤ 16384)
-        × (length ends.old ≡ 32768) }
-    ensures { let t : List ℕ → List ℕ → List ℕ → Tables =
-        (λ sections connections pairs. map_tables text.now roads.now sections junctions.now connections pairs) in
-        (sections connections pairs : List ℕ) →
-        roads_with (t sections connections pairs) ends.new ≡ roads_begun (t sections connections pairs) }
+// The roads before the first junction. The chain is lent for the junctions by name.
+pub fn without_along(map: &MapTables, chain: &mut Chain, ends: &mut Ends)
+    requires few { (length map.now.roads.now / 20 ≤ 16384) × (length map.now.junctions.now / 5 ≤ 16384) }
+    requires empty { Empty chain.old.heads chain.old.next }
+    ensures { roads_with (map_read map.now) ends.new.words ≡ roads_begun (map_read map.now) }
 {
-    let mut heads = [0u32; 16384];
-    let mut next = [0u32; 16384];
-    index::link_names(
-        text,
-        junctions,
-        5,
-        0,
-        junctions.len() / 5,
-        &mut heads,
-        &mut next,
-    );
-    mark_roads(text, roads, junctions, &heads, &next, ends);
+    by_key::link_names::<5>(chain, map.text, map.junctions);
+    let junctions = ByName::<5>::over(map.text, map.junctions, chain);
+    mark_roads(map.roads, &junctions, ends);
 }

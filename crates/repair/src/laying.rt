@@ -1,143 +1,121 @@
 // Connections and their pairs, as read or the other way, laid one after the other.
-ghost use Rattle.std.specs.Prelude.{◌≡◌, [], ◌∷◌, ◌++◌, ◌+◌, ◌*◌, ◌≤◌, ◌<◌, length, take};
+ghost use Rattle.std.specs.Prelude.{◌≡◌, List, ℕ, [], ◌∷◌, ◌++◌, ◌+◌, ◌*◌, ◌/◌, ◌≤◌, ◌<◌, length, take};
 ghost use Rattle.model.specs.Lists.{gather};
-ghost use Rattle.model.specs.Tables.{pair_row};
-ghost use Rattle.repair.specs.Now.{run, connection_at};
+ghost use Rattle.model.specs.Tables.{Tables, pair_row};
+ghost use Rattle.words.specs.Map.{map_read};
+ghost use Rattle.repair.specs.Now.{run, row_connection};
 ghost use Rattle.repair.specs.Laying.{turned_pair, turned_pairs, pair_at, row_words, turned_connection, back_list};
-ghost use Rattle.repair.specs.Laying.{Pile, pile, Laid, Long, Small, RoomFor, RoomForAll, pair_count, pairs_before};
+ghost use Rattle.repair.specs.Laying.{Laid, RoomFor, RoomForAll, laid_words};
+ghost use Rattle.repair.specs.Ready.{pair_count, pairs_before};
 
-use crate::targets::{at, index_at, one};
+use crate::junction::Junction;
+use crate::laid::LaidRows;
+use crate::reads::Reads;
+use words::name::Name;
 use words::rows;
 
-// How many connections and pairs are laid.
-#[derive(Clone, Copy)]
-pub struct Reach {
-    pub connections: usize,
-    pub pairs: usize,
+// The connections and pairs laid so far.
+#[derive(Drop)]
+pub struct Pile {
+    pub connections: LaidRows<7, 114688>,
+    pub pairs: LaidRows<2, 32768>,
 }
 
-// Pair q's words: as read where b is 0, or else the other way.
-fn pair_row(pairs: &[u32], q: usize, b: usize) -> [u32; 2]
-    requires { q < 16384 }
-    ensures { result ≡ pair_row (turned_pair b (pair_at pairs.now q)) }
+// Pair q's words: as read, or the other way where there is a contact.
+fn pair_row(pairs: &[u32], q: usize, back: Option<bool>) -> [u32; 2]
+    requires { q < length pairs.now / 2 }
+    ensures { result ≡ pair_row (turned_pair back (pair_at pairs.now q)) }
 {
-    let x = at(pairs, q * 2);
-    let y = at(pairs, q * 2 + 1);
-    if b == 0 {
-        return [x, y];
-    }
-    [y, x]
-}
-
-// Lays m pairs from row first on, after p of them.
-fn put_pairs(pairs: &[u32], first: usize, m: usize, b: usize, p: usize, ps: &mut [u32])
-    requires { (first + m ≤ 16384) × (p + m ≤ 16384) × (length ps.old ≡ 32768) }
-    ensures { take ((p + m) * 2) ps.new
-        ≡ take (p * 2) ps.old ++ gather pair_row (turned_pairs b pairs.now first m) }
-{
-    let mut i = 0;
-    while i < m {
-        let row = pair_row(pairs, first + i, b);
-        rows::put(ps, (p + i) * 2, &row);
-        i += 1;
+    let x = pairs[q * 2];
+    let y = pairs[q * 2 + 1];
+    match back {
+        None => [x, y],
+        Some(_) => [y, x],
     }
 }
 
-// Connection c's words with its pairs from row p on: as read where b is 0, or else the other way with contact b - 1.
-fn connection_row(connections: &[u32], c: usize, b: usize, p: usize) -> [u32; 7]
-    requires { (c < 16384) × (b ≤ 2) × (p ≤ 16384) }
-    ensures { result ≡ row_words b connections.now c p }
-{
-    let a = c * 7;
-    let w0 = at(connections, a);
-    let w1 = at(connections, a + 1);
-    let w2 = at(connections, a + 2);
-    let w3 = at(connections, a + 3);
-    let w4 = one(at(connections, a + 4));
-    let w6 = at(connections, a + 6);
-    if b == 0 {
-        return [w0, w1, w2, w3, w4 as u32, p as u32, w6];
-    }
-    [w2, w3, w0, w1, (b - 1) as u32, p as u32, w6]
-}
-
-// Lays connection c after n connections and p pairs. Returns how many pairs there are.
-fn put_connection(
-    connections: &[u32],
-    pairs: &[u32],
-    c: usize,
-    b: usize,
-    n: usize,
-    p: usize,
-    cs: &mut [u32],
-    ps: &mut [u32],
-) -> usize
-    requires small { Small pairs.now connections.now × RoomFor connections.now c b n p × Long cs.old ps.old }
-    ensures value { result ≡ p + pair_count connections.now c }
-    ensures laid { let before : Pile = pile n p cs.old ps.old in
-        Laid (turned_connection b (connection_at pairs.now connections.now c) ∷ [])
-        before (pile (n + 1) result cs.new ps.new) }
-{
-    let row = connection_row(connections, c, b, p);
-    rows::put(cs, n * 7, &row);
-    let first = index_at(connections, c * 7 + 5);
-    let m = index_at(connections, c * 7 + 6);
-    put_pairs(pairs, first, m, b, p, ps);
-    p + m
-}
-
-// Lays the connections from first on, m of them, as read. Returns how many pairs there are.
-pub fn put_own(
-    connections: &[u32],
+// Lays m pairs from row first on.
+fn put_pairs(
     pairs: &[u32],
     first: usize,
     m: usize,
-    n: usize,
-    p: usize,
-    cs: &mut [u32],
-    ps: &mut [u32],
-) -> usize
-    requires small { Small pairs.now connections.now × RoomForAll connections.now first m n p × Long cs.old ps.old }
-    ensures first_value { result + pairs_before connections.now first ≡ p + pairs_before connections.now (first + m) }
-    ensures laid { let before : Pile = pile n p cs.old ps.old in
-        Laid (run (connection_at pairs.now connections.now) first m)
-        before (pile (n + m) result cs.new ps.new) }
+    back: Option<bool>,
+    out: &mut LaidRows<2, 32768>,
+)
+    requires { (first + m ≤ length pairs.now / 2) × (out.old.rows + m ≤ 16384) }
+    ensures rows { out.new.rows ≡ out.old.rows + m }
+    ensures words { laid_words out.new ≡ laid_words out.old ++ gather pair_row (turned_pairs back pairs.now first m) }
 {
-    let mut at = p;
-    let mut i = 0;
-    while i < m {
-        at = put_connection(connections, pairs, first + i, 0, n + i, at, cs, ps);
-        i += 1;
+    for i in 0..m {
+        let row = pair_row(pairs, first + i, back);
+        out.put(&row);
     }
-    at
 }
 
-// Lays connection c the other way with contact b - 1, or nothing where b is 0.
-pub fn put_back(
-    connections: &[u32],
-    pairs: &[u32],
-    c: usize,
-    b: usize,
-    n: usize,
-    p: usize,
-    cs: &mut [u32],
-    ps: &mut [u32],
-) -> Reach
-    requires small { Small pairs.now connections.now × RoomFor connections.now c b n p × Long cs.old ps.old }
-    ensures connections_bound { (result.connections ≤ n + 1) × (result.pairs ≤ p + pair_count connections.now c) }
-    ensures laid { let before : Pile = pile n p cs.old ps.old in
-        Laid (back_list b (connection_at pairs.now connections.now c))
-        before (pile result.connections result.pairs cs.new ps.new) }
+// Connection c's words with its pairs from row p on: as read, or the other way with a contact.
+fn connection_row(connections: &[u32], c: usize, back: Option<bool>, p: usize) -> [u32; 7]
+    requires { (c < length connections.now / 7) × (p ≤ 16384) }
+    ensures { result ≡ row_words back connections.now c p }
 {
-    if b == 0 {
-        return Reach {
-            connections: n,
-            pairs: p,
-        };
+    let incoming = Name::at(connections, c * 7);
+    let connecting = Name::at(connections, c * 7 + 2);
+    let (from, to, contact) = match back {
+        None => (incoming, connecting, rows::flag(connections, c * 7 + 4)),
+        Some(at_end) => (connecting, incoming, at_end),
+    };
+    [
+        from.start,
+        from.size,
+        to.start,
+        to.size,
+        u32::from(contact),
+        p as u32,
+        connections[c * 7 + 6],
+    ]
+}
+
+impl Pile {
+    // Lays connection c: as read, or the other way with a contact.
+    fn put_connection(&mut self, reads: &Reads, c: usize, back: Option<bool>)
+        requires { RoomFor reads.now.map.connections.now c self.old.connections.rows self.old.pairs.rows }
+        ensures pair_rows { self.new.pairs.rows ≡ self.old.pairs.rows + pair_count reads.now.map.connections.now c }
+        ensures laid { let t : Tables = map_read reads.now.map in
+            Laid (turned_connection back (row_connection t c) ∷ []) self.old self.new }
+    {
+        let connections = reads.map.connections;
+        let row = connection_row(connections, c, back, self.pairs.rows);
+        self.connections.put(&row);
+        let first = rows::word(connections, c * 7 + 5);
+        let count = rows::word(connections, c * 7 + 6);
+        put_pairs(reads.map.pairs, first, count, back, &mut self.pairs);
     }
-    let q = put_connection(connections, pairs, c, b, n, p, cs, ps);
-    Reach {
-        connections: n + 1,
-        pairs: q,
+
+    // Lays a junction's connections as read.
+    pub fn put_own(&mut self, junction: &Junction)
+        requires { RoomForAll junction.now.reads.map.connections.now junction.now.first junction.now.count
+            self.old.connections.rows self.old.pairs.rows }
+        ensures rows { self.new.connections.rows ≡ self.old.connections.rows + junction.now.count }
+        ensures pair_rows { let connections : List ℕ = junction.now.reads.map.connections.now in
+            self.new.pairs.rows + pairs_before connections junction.now.first
+            ≡ self.old.pairs.rows + pairs_before connections (junction.now.first + junction.now.count) }
+        ensures laid { let t : Tables = map_read junction.now.reads.map in
+            Laid (run (row_connection t) junction.now.first junction.now.count) self.old self.new }
+    {
+        for i in 0..junction.count {
+            self.put_connection(&junction.reads, junction.first + i, None);
+        }
+    }
+
+    // Lays connection c the other way, where there is a contact.
+    pub fn put_back(&mut self, reads: &Reads, c: usize, back: Option<bool>)
+        requires { RoomFor reads.now.map.connections.now c self.old.connections.rows self.old.pairs.rows }
+        ensures at_most { (self.new.connections.rows ≤ self.old.connections.rows + 1)
+            × (self.new.pairs.rows ≤ self.old.pairs.rows + pair_count reads.now.map.connections.now c) }
+        ensures laid { let t : Tables = map_read reads.now.map in
+            Laid (back_list back (row_connection t c)) self.old self.new }
+    {
+        if back.is_some() {
+            self.put_connection(reads, c, back);
+        }
     }
 }

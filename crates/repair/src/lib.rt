@@ -1,11 +1,14 @@
 // Repair: the links to a junction that its incoming roads leave out, and a direct junction's connections the other way.
 #![tactic(auto)]
 
-pub mod along;
+mod along;
 pub mod call;
-pub mod junctions;
-pub mod laying;
-pub mod links;
-pub mod reversed;
-pub mod roads;
-pub mod targets;
+mod junction;
+mod junctions;
+mod laid;
+mod laying;
+mod links;
+mod reads;
+mod reversed;
+mod roads;
+mod targets;

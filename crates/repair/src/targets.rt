@@ -1,158 +1,104 @@
-// A road's targets as repaired so far, and the road of a name.
-ghost use Rattle.std.specs.Prelude.{◌≡◌, List, ℕ, ◌/◌, ◌≤◌, ◌<◌, length, get_or, eqb};
-ghost use Rattle.model.specs.Records.{Road};
+// A road's targets as repaired so far.
+ghost use Rattle.std.specs.Prelude.{◌≡◌, Bool, ◌+◌, ◌*◌, ◌/◌, ◌<◌, length, set};
 ghost use Rattle.model.specs.Repair.{names_junction, meets, meeting_end};
-ghost use Rattle.model.specs.Tables.{bit, target_in};
-ghost use Rattle.model.specs.Text.{same_in};
-ghost use Rattle.words.specs.Rows.{span, name_at, name_from};
-ghost use Rattle.rules.specs.ByRow.{road_row_of};
-ghost use Rattle.repair.specs.Now.{Known, end_opt, words_now, target_now, road_now};
+ghost use Rattle.model.specs.Rules.{same};
+ghost use Rattle.model.specs.Tables.{Tables, bit};
+ghost use Rattle.words.specs.Fields.{target_read};
+ghost use Rattle.words.specs.Map.{map_read};
+ghost use Rattle.repair.specs.Now.{end_read, target_now, junction_name, road_with};
 
+use crate::junction::Junction;
+use crate::reads::Reads;
 use tables::lookup::RoadId;
-use words::tests::{both, either, is};
-use words::{index, names};
+use words::name::Name;
+use words::target::Target;
 
-// A word of a table, 0 past its end.
-pub fn at(ws: &[u32], k: usize) -> u32
-    ensures { result ≡ get_or ws.now k 0 }
+// What became of the roads' ends: a word for each, at twice the road's row, plus 1 for its end: 0 as read, 1 made
+// absent, k + 2 given junction row k (words of an array, since a call takes no heap).
+#[derive(Drop)]
+pub struct Ends {
+    pub words: [u32; 32768],
+}
+
+// Whether a target names the junction.
+pub fn names_junction(junction: &Junction, target: Option<Target>) -> bool
+    ensures { let t : Tables = map_read junction.now.reads.map in
+        result ≡ names_junction (same t) (junction_name t junction.now.row) (target_read target) }
 {
-    if k < ws.len() {
-        return ws[k];
+    let map = &junction.reads.map;
+    let name = Name::at(map.junctions, junction.row * 5);
+    target.is_some_and(|target| target.is_junction && target.name.same(name, map.text))
+}
+
+impl Ends {
+    // Makes a road's end absent, or leaves it as read.
+    pub fn mark(&mut self, road: RoadId, at_end: bool, absent: bool)
+        requires { road.0 < 16384 }
+        ensures { self.new.words ≡ set self.old.words (road.0 * 2 + bit at_end) (bit absent) }
+    {
+        self.words[road.0 as usize * 2 + usize::from(at_end)] = u32::from(absent);
     }
-    0
-}
 
-// The same as an index.
-pub fn index_at(ws: &[u32], k: usize) -> usize
-    ensures { (result ≡ get_or ws.now k 0) × (result < 4294967296) }
-{
-    at(ws, k) as usize
-}
-
-// A flag as an index.
-pub fn one(x: u32) -> usize
-    ensures { (result ≡ bit (eqb x 1)) × (result ≤ 1) }
-{
-    if x == 1 {
-        return 1;
+    // Gives a road's end junction k.
+    pub fn give(&mut self, road: RoadId, at_end: bool, k: usize)
+        requires { (road.0 < 16384) × (k < 16384) }
+        ensures { self.new.words ≡ set self.old.words (road.0 * 2 + bit at_end) (k + 2) }
+    {
+        self.words[road.0 as usize * 2 + usize::from(at_end)] = k as u32 + 2;
     }
-    0
-}
 
-// Whether two names are equal.
-pub fn alike(text: &[u8], s: u32, l: u32, start: u32, size: u32) -> bool
-    ensures { result ≡ same_in text.now (span s l) (span start size) }
-{
-    names::same_bytes(
-        names::name(text, s as usize, l as usize),
-        names::name(text, start as usize, size as usize),
-    )
-}
-
-// The row plus 1 of the road named at words k and k + 1 of a table, 0 where there is none.
-pub fn road_of(
-    text: &[u8],
-    roads: &[u32],
-    heads: &[u32],
-    next: &[u32],
-    ws: &[u32],
-    k: usize,
-) -> usize
-    requires { (k < 16777216) × Known text.now roads.now heads.now next.now }
-    ensures value { result ≡ road_row_of text.now roads.now (name_from ws.now k) }
-    ensures upper_bound { result ≤ length roads.now / 20 }
-{
-    let s = index_at(ws, k);
-    let l = index_at(ws, k + 1);
-    index::find_name(text, roads, 20, 0, heads, next, roads.len() / 20, s, l)
-}
-
-// The words of a road's target at end e.
-pub fn target(roads: &[u32], junctions: &[u32], ends: &[u32], road: RoadId, e: usize) -> [u32; 7]
-    requires { (road.0 < 16384) × (e ≤ 1) }
-    ensures value { result ≡ words_now roads.now junctions.now ends.now road.0 e }
-    ensures result_value { target_in result 0
-        ≡ target_now roads.now junctions.now ends.now road.0 (eqb e 1) }
-{
-    let r = road.0 as usize;
-    let w = index_at(ends, r * 2 + e);
-    if w == 0 {
-        let a = r * 20 + 4 + e * 7;
-        let w0 = at(roads, a);
-        let w1 = at(roads, a + 1);
-        let w2 = at(roads, a + 2);
-        let w3 = at(roads, a + 3);
-        let w4 = at(roads, a + 4);
-        let w5 = at(roads, a + 5);
-        let w6 = at(roads, a + 6);
-        return [w0, w1, w2, w3, w4, w5, w6];
+    // A road's target at its start or its end.
+    pub fn target(&self, reads: &Reads, road: RoadId, at_end: bool) -> Option<Target>
+        requires { road.0 < length reads.now.map.roads.now / 20 }
+        ensures { target_read result
+            ≡ target_now reads.now.map.roads.now reads.now.map.junctions.now self.now.words road.0 at_end }
+    {
+        let r = road.0 as usize;
+        let end = usize::from(at_end);
+        match self.words[r * 2 + end] {
+            0 => Target::at(reads.map.roads, r * 20 + 4 + end * 7),
+            1 => None,
+            word => {
+                let name = (word as usize - 2) * 5;
+                Some(Target {
+                    is_junction: true,
+                    name: Name {
+                        start: reads.map.junctions.get(name).copied().unwrap_or(0),
+                        size: reads.map.junctions.get(name + 1).copied().unwrap_or(0),
+                    },
+                    contact: at_end,
+                    given: true,
+                    along: false,
+                })
+            }
+        }
     }
-    if w == 1 {
-        return [0, 0, 0, 0, 0, 0, 0];
-    }
-    let j = (w - 2) * 5;
-    let s = at(junctions, j);
-    let l = at(junctions, j + 1);
-    [1, 1, s, l, e as u32, 1, 0]
-}
 
-// Whether a target names junction k.
-pub fn names_junction(text: &[u8], words: [u32; 7], junctions: &[u32], k: usize) -> bool
-    requires { k < 16384 }
-    ensures { result ≡ names_junction (same_in text.now) (name_at 5 0 junctions.now k) (target_in words 0) }
-{
-    let s = at(junctions, k * 5 + 0);
-    let l = at(junctions, k * 5 + 0 + 1);
-    let a = both(is(words[0], 1), is(words[1], 1));
-    both(a, alike(text, words[2], words[3], s, l))
-}
-
-// Whether a road names junction k at either end.
-pub fn meets(
-    text: &[u8],
-    roads: &[u32],
-    junctions: &[u32],
-    ends: &[u32],
-    road: RoadId,
-    k: usize,
-) -> bool
-    requires in_bounds { (road.0 < 16384) × (k < 16384) }
-    ensures { let row : List ℕ → Road = (λ sections. road_now sections roads.now junctions.now ends.now road.0) in
-        ((sections : List ℕ) →
-        result ≡ meets (same_in text.now) (name_at 5 0 junctions.now k) (row sections)) }
-{
-    let r = road.0;
-    let a = target(roads, junctions, ends, RoadId(r), 0);
-    let b = target(roads, junctions, ends, RoadId(r), 1);
-    either(
-        names_junction(text, a, junctions, k),
-        names_junction(text, b, junctions, k),
-    )
-}
-
-// The end at which a road names junction k, plus 1: the successor end where both do, 0 where neither does.
-pub fn meeting_end(
-    text: &[u8],
-    roads: &[u32],
-    junctions: &[u32],
-    ends: &[u32],
-    road: RoadId,
-    k: usize,
-) -> usize
-    requires in_bounds { (road.0 < 16384) × (k < 16384) }
-    ensures at_most { result ≤ 2 }
-    ensures end { let row : List ℕ → Road = (λ sections. road_now sections roads.now junctions.now ends.now road.0) in
-        ((sections : List ℕ) →
-        end_opt result ≡ meeting_end (same_in text.now) (name_at 5 0 junctions.now k) (row sections)) }
-{
-    let r = road.0;
-    let b = target(roads, junctions, ends, RoadId(r), 1);
-    if names_junction(text, b, junctions, k) {
-        return 2;
+    // Whether a road names the junction at either end.
+    #[tactic(auto, unfolding(model::specs::Repair::meets, crate::specs::Now::road_now))]
+    pub fn meets(&self, junction: &Junction, road: RoadId) -> bool
+        requires { road.0 < length junction.now.reads.map.roads.now / 20 }
+        ensures { let t : Tables = map_read junction.now.reads.map in
+            result ≡ meets (same t) (junction_name t junction.now.row) (road_with t self.now.words road.0) }
+    {
+        names_junction(junction, self.target(&junction.reads, road, false))
+            || names_junction(junction, self.target(&junction.reads, road, true))
     }
-    let a = target(roads, junctions, ends, RoadId(r), 0);
-    if names_junction(text, a, junctions, k) {
-        return 1;
+
+    // The end at which a road names the junction: the successor end where both do.
+    #[tactic(auto, unfolding(model::specs::Repair::meeting_end, crate::specs::Now::road_now))]
+    pub fn meeting_end(&self, junction: &Junction, road: RoadId) -> Option<bool>
+        requires { road.0 < length junction.now.reads.map.roads.now / 20 }
+        ensures { let t : Tables = map_read junction.now.reads.map in
+            end_read result
+            ≡ meeting_end (same t) (junction_name t junction.now.row) (road_with t self.now.words road.0) }
+    {
+        if names_junction(junction, self.target(&junction.reads, road, true)) {
+            return Some(true);
+        }
+        if names_junction(junction, self.target(&junction.reads, road, false)) {
+            return Some(false);
+        }
+        None
     }
-    0
 }

@@ -1,166 +1,137 @@
-// Recorded calls on a map, run again. Its tables are eight lists: text, roads, sections, junctions, connections, pairs,
-// lanes, edges. A step has the answer, then what else the call takes, then the outputs.
-use crate::compare::{MARK, lent, same, same_floats, told};
-use crate::convert::float;
-use crate::stream::list;
-use gaps::call::{Gaps, link_gaps};
-use repair::call::{Repaired, repair};
-use reversal::call::{Reversed, reverse};
-use succession::answer::Succession;
-use succession::call::succession;
-use tables::check::number;
+// Recorded calls on a map, run again. Beside the answer a record has what else the call takes, then the outputs.
+use crate::compare::{Outputs, Record};
+use crate::convert::floats;
+use crate::stream::Lists;
+use gaps::call::link_gaps;
+use repair::call::{RepairOutputs, repair};
+use reversal::call::{ReversalOutputs, reverse};
+use std::alloc::AllocError;
+use succession::call::{ListOutputs, succession};
+use words::map::MapTables;
 
-fn repair_told(step: &[u32], answer: Repaired) -> bool {
-    match answer {
-        Repaired::Refused(v) => told(step, [number(v) as usize, 0, 0, 0, 0, 0, 0]),
-        Repaired::Written(n) => told(
-            step,
+// The tables of a map: eight lists. Of its edges the bits.
+#[derive(Clone, Copy)]
+pub struct Map<'a> {
+    tables: MapTables<'a>,
+    lanes: &'a [u32],
+    edges: &'a [u32],
+}
+
+// No call is inlined: a function with the frames of all of them would take half a megabyte more stack.
+impl<'a> Map<'a> {
+    // Of the text and the lists after it: roads, sections, junctions, connections, pairs, lanes, edges.
+    pub fn read(text: &'a [u8], mut lists: Lists<'a>) -> Self {
+        Map {
+            tables: MapTables {
+                text,
+                roads: lists.list(),
+                sections: lists.list(),
+                junctions: lists.list(),
+                connections: lists.list(),
+                pairs: lists.list(),
+            },
+            lanes: lists.list(),
+            edges: lists.list(),
+        }
+    }
+
+    // Repair again. Does it come out as recorded?
+    #[inline(never)]
+    pub fn repair(&self, mut record: Record) -> Result<bool, AllocError> {
+        let Outputs(mut roads, mut junctions, mut connections, mut pairs, mut warnings) =
+            record.outputs()?;
+        let mut out = RepairOutputs {
+            roads: roads.entries.as_mut_slice(),
+            junctions: junctions.entries.as_mut_slice(),
+            connections: connections.entries.as_mut_slice(),
+            pairs: pairs.entries.as_mut_slice(),
+            warnings: warnings.entries.as_mut_slice(),
+        };
+        let answer = repair(&self.tables, &mut out).map(|n| [
+            n.roads,
+            n.junctions,
+            n.connections,
+            n.pairs,
+            n.warnings,
+        ]);
+        Ok(record.tells(
+            answer,
+            Outputs(roads, junctions, connections, pairs, warnings),
+        ))
+    }
+
+    // The same of succession.
+    #[inline(never)]
+    pub fn succession(&self, mut record: Record) -> Result<bool, AllocError> {
+        let Outputs(mut onward, mut onward_ids, mut before, mut before_ids, others) =
+            record.outputs()?;
+        let mut out = ListOutputs {
+            successor_offsets: onward.entries.as_mut_slice(),
+            successor_ids: onward_ids.entries.as_mut_slice(),
+            predecessor_offsets: before.entries.as_mut_slice(),
+            predecessor_ids: before_ids.entries.as_mut_slice(),
+        };
+        let answer = succession(&self.tables, self.lanes, &mut out).map(|n| {
             [
-                0,
-                n.roads,
-                n.junctions,
-                n.connections,
-                n.pairs,
-                n.warnings,
-                0,
-            ],
-        ),
+                n.successor_offsets,
+                n.successor_ids,
+                n.predecessor_offsets,
+                n.predecessor_ids,
+            ]
+        });
+        Ok(record.tells(
+            answer,
+            Outputs(onward, onward_ids, before, before_ids, others),
+        ))
     }
-}
 
-pub fn repair_again(text: &[u8], map: &[u32], step: &[u32]) -> bool {
-    let mut roads = [MARK; 256];
-    let mut junctions = [MARK; 256];
-    let mut connections = [MARK; 256];
-    let mut pairs = [MARK; 256];
-    let mut warnings = [MARK; 256];
-    let answer = repair(
-        text,
-        list(map, 1),
-        list(map, 2),
-        list(map, 3),
-        list(map, 4),
-        list(map, 5),
-        &mut roads[0..lent(step, 1)],
-        &mut junctions[0..lent(step, 2)],
-        &mut connections[0..lent(step, 3)],
-        &mut pairs[0..lent(step, 4)],
-        &mut warnings[0..lent(step, 5)],
-    );
-    let a = repair_told(step, answer);
-    let b = same(a, step, 1, &roads);
-    let c = same(b, step, 2, &junctions);
-    let d = same(c, step, 3, &connections);
-    let e = same(d, step, 4, &pairs);
-    same(e, step, 5, &warnings)
-}
-
-fn succession_told(step: &[u32], answer: Succession) -> bool {
-    match answer {
-        Succession::Refused(v) => told(step, [number(v) as usize, 0, 0, 0, 0, 0, 0]),
-        Succession::Written(a, b, c, d) => told(step, [0, a, b, c, d, 0, 0]),
+    // The same of the gap check, which takes offsets and identities too.
+    #[inline(never)]
+    pub fn gaps(&self, mut record: Record) -> Result<bool, AllocError> {
+        let offsets = record.list();
+        let ids = record.list();
+        let edges = floats(record.alloc, self.edges)?;
+        let mut rows = record.output()?;
+        let answer = link_gaps(
+            &self.tables,
+            self.lanes,
+            edges.as_slice(),
+            offsets,
+            ids,
+            rows.entries.as_mut_slice(),
+        );
+        Ok(record.is_told(answer.map(|n| [n])) && rows.is_recorded())
     }
-}
 
-pub fn succession_again(text: &[u8], map: &[u32], step: &[u32]) -> bool {
-    let mut onward = [MARK; 256];
-    let mut onward_ids = [MARK; 256];
-    let mut back = [MARK; 256];
-    let mut back_ids = [MARK; 256];
-    let answer = succession(
-        text,
-        list(map, 1),
-        list(map, 2),
-        list(map, 3),
-        list(map, 4),
-        list(map, 5),
-        list(map, 6),
-        &mut onward[0..lent(step, 1)],
-        &mut onward_ids[0..lent(step, 2)],
-        &mut back[0..lent(step, 3)],
-        &mut back_ids[0..lent(step, 4)],
-    );
-    let a = succession_told(step, answer);
-    let b = same(a, step, 1, &onward);
-    let c = same(b, step, 2, &onward_ids);
-    let d = same(c, step, 3, &back);
-    same(d, step, 4, &back_ids)
-}
-
-fn gaps_told(step: &[u32], answer: Gaps) -> bool {
-    match answer {
-        Gaps::Refused(v) => told(step, [number(v) as usize, 0, 0, 0, 0, 0, 0]),
-        Gaps::Written(n) => told(step, [0, n, 0, 0, 0, 0, 0]),
-    }
-}
-
-// It takes offsets and identities too.
-pub fn gaps_again(text: &[u8], map: &[u32], edges: &[f32], step: &[u32]) -> bool {
-    let mut rows = [MARK; 256];
-    let answer = link_gaps(
-        text,
-        list(map, 1),
-        list(map, 2),
-        list(map, 3),
-        list(map, 4),
-        list(map, 5),
-        list(map, 6),
-        edges,
-        list(step, 1),
-        list(step, 2),
-        &mut rows[0..lent(step, 3)],
-    );
-    same(gaps_told(step, answer), step, 3, &rows)
-}
-
-fn reverse_told(step: &[u32], answer: Reversed) -> bool {
-    match answer {
-        Reversed::Refused(v) => told(step, [number(v) as usize, 0, 0, 0, 0, 0, 0]),
-        Reversed::Written(n) => told(
-            step,
+    // The same of reversal, which takes marks too.
+    #[inline(never)]
+    pub fn reverse(&self, mut record: Record) -> Result<bool, AllocError> {
+        let marks = record.list();
+        let lent = floats(record.alloc, self.edges)?;
+        let Outputs(mut roads, mut sections, mut connections, mut pairs, mut lanes) =
+            record.outputs()?;
+        let mut edges = record.output()?;
+        let mut out = ReversalOutputs {
+            roads: roads.entries.as_mut_slice(),
+            sections: sections.entries.as_mut_slice(),
+            connections: connections.entries.as_mut_slice(),
+            pairs: pairs.entries.as_mut_slice(),
+            lanes: lanes.entries.as_mut_slice(),
+            edges: edges.entries.as_mut_slice(),
+        };
+        let answer = reverse(&self.tables, self.lanes, lent.as_slice(), marks, &mut out).map(|n| {
             [
-                0,
                 n.roads,
                 n.sections,
                 n.connections,
                 n.pairs,
                 n.lanes,
                 n.edges,
-            ],
-        ),
+            ]
+        });
+        Ok(
+            record.tells(answer, Outputs(roads, sections, connections, pairs, lanes))
+                && edges.is_recorded(),
+        )
     }
-}
-
-// It takes marks too.
-pub fn reverse_again(text: &[u8], map: &[u32], edges: &[f32], step: &[u32]) -> bool {
-    let mut roads = [MARK; 256];
-    let mut sections = [MARK; 256];
-    let mut connections = [MARK; 256];
-    let mut pairs = [MARK; 256];
-    let mut lanes = [MARK; 256];
-    let mut turned = [float(MARK); 256];
-    let answer = reverse(
-        text,
-        list(map, 1),
-        list(map, 2),
-        list(map, 3),
-        list(map, 4),
-        list(map, 5),
-        list(map, 6),
-        edges,
-        list(step, 1),
-        &mut roads[0..lent(step, 2)],
-        &mut sections[0..lent(step, 3)],
-        &mut connections[0..lent(step, 4)],
-        &mut pairs[0..lent(step, 5)],
-        &mut lanes[0..lent(step, 6)],
-        &mut turned[0..lent(step, 7)],
-    );
-    let a = reverse_told(step, answer);
-    let b = same(a, step, 2, &roads);
-    let c = same(b, step, 3, &sections);
-    let d = same(c, step, 4, &connections);
-    let e = same(d, step, 5, &pairs);
-    let f = same(e, step, 6, &lanes);
-    same_floats(f, step, 7, &turned)
 }

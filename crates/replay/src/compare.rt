@@ -1,76 +1,125 @@
-// An answer and its outputs beside those that are recorded, which are lists of the step. The answer is list 0: the
-// refusal, 0 where there is none, and the rows written to each output. An output's list has how many words of it are
-// lent, and the words written to it.
-ghost use Rattle.std.specs.Prelude.{◌≤◌};
-
-use crate::stream::{list, number};
-use words::tests::both;
+// An answer and its outputs beside those that are recorded.
+use crate::convert::Entry;
+use crate::outcome::Outcome;
+use crate::stream::Lists;
+use std::alloc::{AllocError, Global};
+use tables::refusal::Refusal;
 
 // What every output word is before a call.
-pub const MARK: u32 = 0xdead_beef;
+const MARK: u32 = 0xdead_beef;
 
-// Is that the answer? It has a 0 for each output that the call does not have.
-pub fn told(step: &[u32], answer: [usize; 7]) -> bool {
-    let expected = list(step, 0);
-    let mut i = 0;
-    while i < 7 {
-        if answer[i] != number(expected, i) as usize {
-            return false;
+// What is recorded of a call: the answer, which is the refusal's number, 0 where there is none, and the rows written to
+// each output; then lists. And where its outputs are made.
+#[derive(Clone, Copy)]
+pub struct Record<'a> {
+    pub answer: &'a [u32],
+    lists: Lists<'a>,
+    pub alloc: Global,
+}
+
+impl<'a> Record<'a> {
+    // Of the lists of a step.
+    pub fn of(alloc: Global, mut lists: Lists<'a>) -> Self {
+        Record {
+            answer: lists.list(),
+            lists,
+            alloc,
         }
-        i += 1;
     }
-    true
-}
 
-// How many words of the output in list k are lent: at most 256.
-pub fn lent(step: &[u32], k: usize) -> usize
-    ensures { result ≤ 256 }
-{
-    let n = number(list(step, k), 0) as usize;
-    if n > 256 {
-        return 256;
+    // The next list.
+    pub fn list(&mut self) -> &'a [u32] {
+        self.lists.list()
     }
-    n
-}
 
-// Word i of an output after the call: as written, or as it was.
-fn recorded(output: &[u32], i: usize) -> u32 {
-    if i < output.len() {
-        return output[i];
+    // The next output: how many words of it are lent, and the words written to it.
+    pub fn output<T: Entry>(&mut self) -> Result<Output<'a, T>, AllocError> {
+        let (n, written) = match self.list().split_first() {
+            Some((n, written)) => (*n, written),
+            None => (0, [].as_slice()),
+        };
+        Ok(Output {
+            entries: (0..n).map(|_| T::of(MARK)).collect(self.alloc)?,
+            written,
+        })
     }
-    MARK
-}
 
-// Is all well so far, and are the words written those of list k, and all others as they were?
-pub fn same(well: bool, step: &[u32], k: usize, words: &[u32; 256]) -> bool {
-    let output = list(step, k);
-    let mut i = 0;
-    while i < 256 {
-        if words[i] != recorded(output, i + 1) {
-            return false;
+    // The next five outputs.
+    pub fn outputs(&mut self) -> Result<Outputs<'a>, AllocError> {
+        Ok(Outputs(
+            self.output()?,
+            self.output()?,
+            self.output()?,
+            self.output()?,
+            self.output()?,
+        ))
+    }
+
+    // Is that the answer?
+    pub fn is_told<const N: usize>(&self, answer: Result<[usize; N], Refusal>) -> bool {
+        let (number, rows) = match answer {
+            Ok(rows) => (0, rows),
+            Err(refusal) => (refusal.number(), [0; N]),
+        };
+        match self.answer.split_first() {
+            Some((first, others)) => {
+                *first == number && others.iter().map(|n| *n as usize).eq(rows.iter().copied())
+            }
+            None => false,
         }
-        i += 1;
     }
-    both(well, output.len() <= 257)
-}
 
-// A float's bits; of a NaN only that it is one.
-fn same_float(x: f32, bits: u32) -> bool {
-    if x != x {
-        return bits % 0x8000_0000 > 0x7f80_0000;
+    // Is that the answer, and are those the outputs?
+    pub fn tells<const N: usize>(
+        &self,
+        answer: Result<[usize; N], Refusal>,
+        outputs: Outputs,
+    ) -> bool {
+        self.is_told(answer)
+            && outputs.0.is_recorded()
+            && outputs.1.is_recorded()
+            && outputs.2.is_recorded()
+            && outputs.3.is_recorded()
+            && outputs.4.is_recorded()
     }
-    f32::to_bits(x) == bits
-}
 
-// The same for floats.
-pub fn same_floats(well: bool, step: &[u32], k: usize, floats: &[f32; 256]) -> bool {
-    let output = list(step, k);
-    let mut i = 0;
-    while i < 256 {
-        if !same_float(floats[i], recorded(output, i + 1)) {
-            return false;
+    // What came of a call that came out so: by the refusal's number.
+    pub fn outcome(&self) -> Outcome {
+        match self.answer {
+            [0, ..] => Outcome::Accepted,
+            _ => Outcome::Refused,
         }
-        i += 1;
     }
-    both(well, output.len() <= 257)
 }
+
+// An output that is lent to a call, and the words that are recorded as written to it.
+#[derive(Drop)]
+pub struct Output<'a, T> {
+    pub entries: Vec<T>,
+    written: &'a [u32],
+}
+
+impl<T: Entry> Output<'_, T> {
+    // Are the words written those recorded, and all others as they were?
+    pub fn is_recorded(&self) -> bool {
+        let entries = self.entries.as_slice();
+        let Some((front, others)) = entries.split_at_checked(self.written.len()) else {
+            return false;
+        };
+        front
+            .iter()
+            .zip(self.written)
+            .all(|(entry, word)| entry.word() == T::of(*word).word())
+            && others.iter().all(|entry| entry.word() == MARK)
+    }
+}
+
+// Five outputs; none of a word where the lists have ended.
+#[derive(Drop)]
+pub struct Outputs<'a>(
+    pub Output<'a, u32>,
+    pub Output<'a, u32>,
+    pub Output<'a, u32>,
+    pub Output<'a, u32>,
+    pub Output<'a, u32>,
+);

@@ -4,27 +4,19 @@
 mod calls;
 mod compare;
 mod convert;
-mod print;
+mod outcome;
 mod readings;
 mod stream;
 mod walk;
 
-use crate::print::report;
-use crate::stream::read;
+use crate::outcome::report;
+use crate::stream::words;
 use crate::walk::walk;
 use std::io;
-use std::io::Read;
-
-fn run(rt: &HostRuntime, words: &mut [u32], tally: &mut [usize]) -> io::Result<()> {
-    let mut text = Vec::new(rt.alloc());
-    rt.reader().take(1048576).read_to_end(&mut text)?;
-    let k = read(text.as_slice(), words);
-    walk(rt, &words[0..k], tally)?;
-    report(rt, tally)
-}
 
 fn main(rt: HostRuntime) -> io::Result<()> {
-    let mut words = vec![in rt.alloc(); 0u32; 262144]?;
-    let mut tally = [0usize; 30];
-    run(&rt, words.as_mut_slice(), &mut tally)
+    let text = io::read_to_string(rt.alloc(), rt.reader())?;
+    let words = words(rt.alloc(), text.as_str())?;
+    let outcomes = walk(&rt, words.as_slice())?;
+    report(&rt, outcomes.as_slice())
 }

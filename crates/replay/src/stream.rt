@@ -1,86 +1,90 @@
-// The recorded answers: a stream of words in decimal, one byte after each. A list is its length and then its words.
-ghost use Rattle.std.specs.Prelude.{◌≤◌, length};
+// The recorded answers: a stream of words in decimal, with white space between. A list is its length and then its
+// words. A step is its kind and a list, which holds the step's own lists.
+ghost use Rattle.std.specs.Prelude.{◌<◌, ◌≤◌, length, IfSome};
+ghost use Rattle.std.specs.Iterator.{at_most};
 
-use words::rows;
+use crate::outcome::{Kind, UnknownKind};
+use std::alloc::Global;
+use std::io;
 
-// A word with one byte more: a digit goes to its end, and after any byte below '0' the next word begins.
-fn longer(word: u32, b: u8) -> u32 {
-    if b < 48 {
-        return 0;
-    }
-    ((word as u64 * 10 + (b - 48) as u64) % 0x1_0000_0000) as u32
+// The words of a text.
+pub fn words(alloc: Global, text: &str) -> io::Result<Vec<u32>> {
+    text.split_whitespace()
+        .map(|word| -> io::Result<u32> {
+            word.parse::<u32>()
+                .map_err(|_| io::Error::from(io::ErrorKind::InvalidData))
+        })
+        .try_collect(alloc)
 }
 
-// How many words end with a byte.
-fn ends(b: u8) -> usize
-    ensures { result ≤ 1 }
+// The list that the words begin with, and the words after it.
+fn split_list(words: &[u32]) -> Option<(&[u32], &[u32])>
+    ensures { IfSome result (λ p. length p.1.now < length words.now) }
 {
-    if b < 48 {
-        return 1;
-    }
-    0
+    let (&n, rest) = words.split_first()?;
+    rest.split_at_checked(n as usize)
 }
 
-// Reads words, as far as there is room. Returns how many.
-pub fn read(text: &[u8], words: &mut [u32]) -> usize
-    ensures { result ≤ length words.new }
-{
-    let mut n = 0;
-    let mut word = 0;
-    let mut i = 0;
-    while i < text.len() {
-        if n == words.len() {
-            return n;
-        }
-        words[n] = word;
-        n += ends(text[i]);
-        word = longer(word, text[i]);
-        i += 1;
+// Lists, one after the other, as far as the words go.
+#[derive(Clone, Copy)]
+pub struct Lists<'a>(pub &'a [u32]);
+
+impl<'a> Lists<'a> {
+    // The next list; empty where there is none.
+    pub fn list(&mut self) -> &'a [u32] {
+        self.next().unwrap_or(&[])
     }
-    n
 }
 
-// The word at a place, and 0 past the end.
-pub fn number(words: &[u32], at: usize) -> u32 {
-    if at < words.len() {
-        return words[at];
+impl<'a> Iterator for Lists<'a> {
+    type Item = &'a [u32];
+
+    ghost remaining = { λ s. at_most (length s.0.now) };
+
+    fn next(&mut self) -> Option<&'a [u32]> {
+        let (list, rest) = split_list(self.0)?;
+        self.0 = rest;
+        Some(list)
     }
-    0
 }
 
-// The list at a place: empty where the words end before it does.
-pub fn list_at<'a>(words: &'a [u32], at: usize) -> &'a [u32] {
-    if at >= words.len() {
-        return &words[0..0];
-    }
-    let n = rows::word(words, at);
-    if n >= words.len() - at {
-        return &words[0..0];
-    }
-    &words[at + 1..at + 1 + n]
+// A step, and at which word it begins.
+#[derive(Clone, Copy)]
+pub struct Step<'a> {
+    pub at: usize,
+    pub kind: Result<Kind, UnknownKind>,
+    pub lists: Lists<'a>,
 }
 
-// The place after the list at a place.
-pub fn after(words: &[u32], at: usize) -> usize
-    ensures { at ≤ result }
-{
-    if at >= words.len() {
-        return at;
-    }
-    let n = rows::word(words, at);
-    if n >= words.len() - at {
-        return words.len();
-    }
-    at + 1 + n
+// The steps, one after the other; one whose list the words end before has no lists.
+#[derive(Clone, Copy)]
+pub struct Steps<'a> {
+    words: &'a [u32],
+    rest: &'a [u32],
+    ghost within: { length rest.now ≤ length words.now },
 }
 
-// List k of the words, which are lists one after the other.
-pub fn list<'a>(words: &'a [u32], k: usize) -> &'a [u32] {
-    let mut at = 0;
-    let mut i = 0;
-    while i < k {
-        at = after(words, at);
-        i += 1;
+impl<'a> Steps<'a> {
+    // Those of a stream, from its first word on.
+    pub fn over(words: &'a [u32]) -> Self {
+        Steps { words, rest: words }
     }
-    list_at(words, at)
+}
+
+impl<'a> Iterator for Steps<'a> {
+    type Item = Step<'a>;
+
+    ghost remaining = { λ s. at_most (length s.rest.now) };
+
+    fn next(&mut self) -> Option<Step<'a>> {
+        let at = self.words.len() - self.rest.len();
+        let (&number, after) = self.rest.split_first()?;
+        let (list, rest) = split_list(after).unwrap_or((&[], &[]));
+        self.rest = rest;
+        Some(Step {
+            at,
+            kind: Kind::try_from(number),
+            lists: Lists(list),
+        })
+    }
 }

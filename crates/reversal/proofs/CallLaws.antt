@@ -1,13 +1,12 @@
 -- The call's outcome, and what its admission says.
-use Prim.Native.Nat.{ℕ, zero, suc, ◌*◌, ◌/◌, ◌%◌, ◌<◌, ◌≤◌}
-use mathlib.Core.Bool.{Bool, true, false, ◌&&◌, false≢true}
+use Prim.Native.Nat.{ℕ, ◌*◌, ◌/◌, ◌%◌, ◌<◌, ◌≤◌}
+use mathlib.Core.Bool.{Bool, true, false, ◌&&◌}
 use mathlib.Core.List.{List, [], ◌∷◌, map}
 use mathlib.Core.Option.{none}
 use mathlib.Core.Path.{◌≡◌, refl, sym, ap, ◌∙◌, subst, fun_ext}
-use native.Mathlib.Omega.{arith}
 use lib.Dec.{leb}
 use lib.ListN.{length, get_or}
-use borrow.Author.Tests.{eqb-true, leb-true}
+use borrow.Author.Tests.{eqb-true, not-true}
 use Rattle.model.specs.Calls.{ReversalOutputs, mark_rules, marked_by, reversal_content, reversal_counts}
 use Rattle.model.specs.Calls.{reversal_lengths, reversal_rules, table_rules}
 use Rattle.model.specs.Lists.{ascends, every, gather}
@@ -32,10 +31,9 @@ use Rattle.words.proofs.Scans.{left_on, right_on}
 use Rattle.rules.specs.ByRow.{Linked, listed_at, numbers_at}
 use Rattle.rules.proofs.Counts.{few, sized_few}
 use Rattle.rules.proofs.Forms.{lanes_listed_lem, roads_once_lem, sections_ascend_lem}
-use Rattle.tables.proofs.Order.{marks_count, not_none}
-use Rattle.reversal.specs.Answers.{outputs}
-use Rattle.reversal.specs.Turned.{Kept, Room, Writable, mark_of}
-use Rattle.reversal.specs.Turned.{turned_tables}
+use Rattle.tables.proofs.Order.{marks_count}
+use Rattle.reversal.specs.Answers.{long_enough, outputs}
+use Rattle.reversal.specs.Turned.{Kept, mark_of, reversed_tables}
 use Rattle.reversal.proofs.EdgeWords.{edges_are}
 use Rattle.reversal.proofs.LaneWords.{kept_at, lane_mark, lanes_are}
 use Rattle.reversal.proofs.LinkWords.{all_turned, connections_are, pairs_are}
@@ -78,7 +76,6 @@ module _ (t : Tables) (marks : List ℕ) (clear : none ≡ first_broken (reversa
 -- ---- what an admission says of the tables
 pub record Facts (t : Tables) (marks : List ℕ) : Type 0 where
   pub few_roads : length t.roads / 20 ≤ 16384
-  pub few_connections : length t.connections / 7 ≤ 16384
   pub few_lanes : length t.lanes / 10 ≤ 16384
   pub even_marks : length marks ≡ length t.roads / 20
   pub even_edges : length t.edges ≡ 12 * (length t.lanes / 10)
@@ -87,10 +84,7 @@ pub record Facts (t : Tables) (marks : List ℕ) : Type 0 where
   pub up : all (length t.roads / 20) (λ i. ascends (numbers_at t.roads t.sections i)) ≡ true
   pub members : parts_fit 3 4 0 (length t.connections / 7) (table 5 t.junctions) ≡ true
   pub links : parts_fit 5 6 0 (length t.pairs / 2) (table 7 t.connections) ≡ true
-  pub road_words_lem : every (road_worded t.text) (table 20 t.roads) ≡ true
   pub words_of_junctions : every (junction_worded t.text) (table 5 t.junctions) ≡ true
-  pub connection_words_lem : every (connection_worded t.text) (table 7 t.connections) ≡ true
-  pub lane_words_lem : every (lane_worded t.text) (table 10 t.lanes) ≡ true
   pub listed : all (length t.lanes / 10) (listed_at t.text t.roads t.sections t.lanes) ≡ true
   pub whole : length t.junctions % 5 ≡ 0
 
@@ -116,57 +110,25 @@ facts t marks clear =
     let pairs_placed = parts_fit 5 6 0 (length t.pairs / 2) (table 7 t.connections) in
     record {
       few_roads = counts.few_roads;
-      few_connections = counts.few_connections;
       few_lanes = sized_few 10 16384 (length t.lanes) sizes.1;
       even_marks = sym (marks_count t.roads marks marks-right.0);
       even_edges = eqb-true (length t.edges) (12 * (length t.lanes / 10)) right.rest.edges;
-      once = not_none (any (length t.roads / 20) (name_before t.text 20 0 t.roads))
+      once = not-true (any (length t.roads / 20) (name_before t.text 20 0 t.roads))
           (sym (roads_once_lem t.text t.roads t.sections) ∙ right.rest.once);
       parts = left_on sections_placed sections-rise right.rest.sections;
       up = sym (sections_ascend_lem t.roads t.sections)
           ∙ right_on sections_placed sections-rise right.rest.sections;
       members = left_on connections_placed pairs_placed right.rest.connections;
       links = right_on connections_placed pairs_placed right.rest.connections;
-      road_words_lem = worded.0;
       words_of_junctions = worded.1;
-      connection_words_lem = worded.2;
-      lane_words_lem = right_on map-worded lanes-worded right.rest.worded;
       listed = sym (lanes_listed_lem t.text t.roads t.sections t.lanes) ∙ right.rest.listed;
       whole = (fine_whole t right).of_junctions_lem;
     }
 
 module _ (t : Tables) (marks : List ℕ) (f : Facts t marks) {heads next owner kheads knext : List ℕ}
     (linked : Linked t.text t.roads t.lanes heads next owner kheads knext) where
-  kept : (i : ℕ) → i < length t.lanes / 10 → Kept t.roads t.sections t.lanes owner i
+  pub kept : (i : ℕ) → i < length t.lanes / 10 → Kept t.roads t.sections t.lanes owner i
   kept = kept_at t.text t.roads t.sections t.lanes owner f.once f.up f.listed linked.owned
-
-  owner_low : (i : ℕ) → i < length t.edges / 12 → get_or owner i 0 ≤ length marks
-  owner_low i h =
-      let lane : i < length t.lanes / 10 = omega (arith, f.even_edges) in
-      omega (arith, f.even_marks, (kept i lane).below)
-
-  -- what the loops ask
-  pub writable : length heads ≡ 16384 → length next ≡ 16384 → length owner ≡ 16384
-      → Writable t.text t.roads t.sections t.connections t.pairs t.lanes t.edges marks
-      heads next owner
-  writable buckets links owners = record {
-    ready = record {
-      few = f.few_roads;
-      even = f.even_marks;
-      buckets = buckets;
-      links = links;
-      named = linked.named;
-    };
-    parts = f.parts;
-    up = f.up;
-    links = f.links;
-    few_connections = f.few_connections;
-    few_lanes = f.few_lanes;
-    few_edges = omega (arith, f.even_edges, f.few_lanes);
-    owners = owners;
-    kept = kept;
-    low = owner_low;
-  }
 
   -- the marks by name are those by row
   marked_is : marked_by t marks ≡ mark_of t.text t.roads marks
@@ -182,25 +144,21 @@ module _ (t : Tables) (marks : List ℕ) (f : Facts t marks) {heads next owner k
 
   -- WHAT THE LOOPS WRITE is what reversal has to write
   pub content_is : reversal_content t marks
-      ≡ turned_tables t.text t.roads t.sections t.connections t.pairs t.lanes t.edges marks owner
+      ≡ reversed_tables t.text t.roads t.sections t.connections t.pairs t.lanes t.edges marks owner
   unfolding reversal_content reverse_map map_of content_by connection_words pair_words all_pairs edged_lanes_of
-      turned_tables
+      reversed_tables
   content_is =
       let mk = mark_of t.text t.roads marks in
       let turned = all_turned t.text mk t.pairs t.connections t.junctions f.whole f.words_of_junctions
       f.members in
-      let roads = roads_are t.text t.roads t.sections marks f.once f.even_marks f.road_words_lem
-      f.parts in
-      let sections = sections_are t.text t.roads t.sections marks f.once f.even_marks f.road_words_lem
-      f.parts in
+      let roads = roads_are t.text t.roads t.sections marks f.once f.even_marks f.parts in
+      let sections = sections_are t.text t.roads t.sections marks f.once f.even_marks f.parts in
       let connections = ap (rows_from connection_row (λ c. c.pairs) 0) turned
-      ∙ connections_are t.text t.roads marks t.connections t.pairs f.connection_words_lem f.links in
+      ∙ connections_are t.text t.roads marks t.connections t.pairs f.links in
       let pairs = ap (λ cs. gather pair_row (gather (λ c. c.pairs) cs)) turned
-      ∙ pairs_are t.text t.roads marks t.connections t.pairs f.connection_words_lem f.links in
-      let lanes = lanes_are t.text t.roads t.sections marks t.lanes owner f.once f.road_words_lem
-      f.up f.lane_words_lem linked.owned kept in
-      let own = lane_mark t.text t.roads t.sections marks t.lanes owner f.once f.road_words_lem
-      f.up f.lane_words_lem linked.owned kept in
+      ∙ pairs_are t.text t.roads marks t.connections t.pairs f.links in
+      let lanes = lanes_are t.text t.roads t.sections marks t.lanes owner f.once f.up linked.owned kept in
+      let own = lane_mark t.text t.roads t.sections marks t.lanes owner f.once f.up linked.owned kept in
       let edges = edges_are (same_in t.text) mk (roads_of t) t.lanes owner marks t.edges f.even_edges own in
       ap content_by marked_is
       ∙ (λ i.
@@ -214,23 +172,20 @@ module _ (t : Tables) (marks : List ℕ) (f : Facts t marks) {heads next owner k
       })
 
 -- ---- room
-pub and_true : (b : Bool) → b ≡ (b && true)
-and_true true = refl
-and_true false = refl
+-- the outputs are tried one by one
+tried : (a b c d e f : Bool) → (a && b && c && d && e && f) ≡ (a && (b && (c && (d && (e && (f && true))))))
+tried false b c d e f = refl
+tried true false c d e f = refl
+tried true true false d e f = refl
+tried true true true false e f = refl
+tried true true true true false f = refl
+tried true true true true true false = refl
+tried true true true true true true = refl
 
--- content that fits does so output by output
-fits_at : (i : ℕ) (contents outs : List ℕ) → fits contents outs ≡ true → get_or contents i 0 ≤ get_or outs i 0
-fits_at zero [] outs fit = omega arith
-fits_at (suc i) [] outs fit = omega arith
-fits_at zero (k ∷ ks) [] fit = absurd (false≢true fit)
-fits_at (suc i) (k ∷ ks) [] fit = absurd (false≢true fit)
-fits_at zero (k ∷ ks) (n ∷ ns) fit = leb-true k n (left_on (leb k n) (fits ks ns) fit)
-fits_at (suc i) (k ∷ ks) (n ∷ ns) fit = fits_at i ks ns (right_on (leb k n) (fits ks ns) fit)
-
-pub room : (tables outs : ReversalOutputs) → fits (reversal_lengths tables) (reversal_lengths outs) ≡ true
-    → Room tables outs
+pub enough_is : (tables outs : ReversalOutputs)
+    → long_enough tables outs ≡ fits (reversal_lengths tables) (reversal_lengths outs)
 unfolding reversal_lengths
-room tables outs fit =
-    let each : (i : ℕ) → get_or (reversal_lengths tables) i 0 ≤ get_or (reversal_lengths outs) i 0 =
-    λ i. fits_at i (reversal_lengths tables) (reversal_lengths outs) fit in
-    record { roads = each 0; sections = each 1; connections = each 2; pairs = each 3; lanes = each 4; edges = each 5 }
+enough_is t o =
+    tried (leb (length t.roads) (length o.roads)) (leb (length t.sections) (length o.sections))
+    (leb (length t.connections) (length o.connections)) (leb (length t.pairs) (length o.pairs))
+    (leb (length t.lanes) (length o.lanes)) (leb (length t.edges) (length o.edges))

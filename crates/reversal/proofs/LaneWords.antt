@@ -1,83 +1,44 @@
 -- Lanes by row numbers are the model's.
 use Prim.Native.Nat.{ℕ, zero, suc, ◌+◌, ◌*◌, ◌-◌, ◌/◌, ◌<◌, ◌≤◌}
-use mathlib.Core.Bool.{Bool, true, false, not, ◌&&◌, ◌||◌, cond, true≢false}
-use mathlib.Core.List.{List, [], ◌∷◌, ◌++◌, map}
+use mathlib.Core.Bool.{Bool, true, false, not, ◌||◌, cond, true≢false}
+use mathlib.Core.List.{List, [], ◌∷◌, map}
 use mathlib.Core.Option.{Option, none, some}
-use mathlib.Core.Path.{◌≡◌, refl, sym, ap, ap₂, ◌∙◌}
-use native.Mathlib.Nat.{add-zero, add_assoc, le_of_suc-le-suc, not-suc-le-zero}
+use mathlib.Core.Path.{◌≡◌, refl, sym, ap, ap₂, ◌∙◌, subst}
+use native.Mathlib.Nat.{add_assoc, le_of_suc-le-suc, not-suc-le-zero}
 use native.Mathlib.Omega.{arith}
-use lib.Dec.{eqb, leb, ltb}
-use lib.ListN.{length, get_or, drop}
+use lib.Dec.{eqb, ltb}
+use lib.ListN.{length, get_or}
 use lib.Seq.{get_or-drop}
-use borrow.Author.Tests.{eqb-true, eq-eqb, ne_eqb, leb-true, le-leb, le-ltb, ltb-false}
-use Rattle.model.specs.Lists.{ascends, bind_o, every, final, first, gather, head_or, last_or, map_o, member, or_else}
+use borrow.Author.Tests.{eqb-true, eq-eqb, ne_eqb, le-ltb, ltb-false}
+use Rattle.std.proofs.lemmas.Bool.{cond-false, cond-true}
+use Rattle.model.specs.Lists.{ascends, bind_o, final, first, gather, head_or, last_or, map_o, member, or_else}
 use Rattle.model.specs.Lists.{pick}
 use Rattle.model.specs.Records.{Lane, Road, Span, target_at, link_at}
 use Rattle.model.specs.Repair.{road_of}
-use Rattle.model.specs.Reversal.{leads_by, leads_to, mirror, negated, reverse_direction, reverse_lane}
+use Rattle.model.specs.Reversal.{leads_by, leads_to, mirror, reverse_direction, reverse_lane}
 use Rattle.model.specs.Reversal.{reverse_link, road_named, roadward, signed}
-use Rattle.model.specs.Rows.{table, word}
-use Rattle.model.specs.Rules.{lane_worded, link_worded, road_worded, target_worded, target_worded_at}
 use Rattle.model.specs.Succession.{next_section, sections_from, sections_of}
-use Rattle.model.specs.Tables.{direction_of, direction_word, is_absent, lane_in, lane_row, lane_words, lanes_in}
-use Rattle.model.specs.Tables.{link_of, link_words, road_in, roads_in, span_in, target_of}
-use Rattle.model.specs.Text.{placed, same_in}
+use Rattle.model.specs.Tables.{lane_in, lane_row, lane_words, lanes_in, road_in, roads_in}
+use Rattle.model.specs.Text.{same_in}
 use Rattle.laws.proofs.Basics.{gather_map, no_some}
-use Rattle.laws.proofs.Decoded.{and4, and5}
 use Rattle.laws.proofs.RowTests.{final_nowhere, first_nowhere}
 use Rattle.words.specs.Keys.{bears, name_before}
-use Rattle.words.specs.Rows.{all, any, from, joined, last_of, name_at, span, tab}
+use Rattle.words.specs.Rows.{all, any, from, joined, last_of, name_at, tab}
 use Rattle.words.proofs.Chains.{last_le}
-use Rattle.words.proofs.Scans.{all_at, and_step, every_rows, left_on, right_on}
+use Rattle.words.proofs.Scans.{all_at}
 use Rattle.rules.specs.ByRow.{Owned, known_in, listed_at, numbers_at, road_row_of}
-use Rattle.rules.proofs.Forms.{known_none, known_some, lanes_tab, name_at_lem, numbers_at_lem}
-use Rattle.rules.proofs.Locals.{lane_local, road_local}
-use Rattle.reversal.specs.Turned.{Kept, Within, lane_on, lane_with, mark_at, mark_of, to_marked, turn_way, turned_lane}
+use Rattle.rules.proofs.Forms.{known_none, known_some, lane_in_local, lanes_tab, name_at_lem, numbers_at_lem}
+use Rattle.reversal.specs.Turned.{Kept, Within, mark_at, mark_of, names_marked, reversed_on, row, sign_at}
+use Rattle.reversal.specs.Turned.{target_marked}
+use Rattle.reversal.specs.Turned.{reversed_lane}
 use Rattle.words.proofs.Joins.{gather_tab, joined_same}
-use Rattle.reversal.proofs.Leaves.{if_off, if_on, last_is}
+use Rattle.reversal.proofs.Leaves.{last_is}
 use Rattle.reversal.proofs.MarkLaws.{road_some}
 use Rattle.reversal.proofs.Places.{between}
 
 -- is the road of that name, if there is one, marked?
 abbrev is_marked : (Span → Bool) → Option Span → Bool
 is_marked mk name = Rattle.model.specs.Reversal.marks mk name
-
--- ---- links and directions
-signed_zero : (b : Bool) → signed b 0 ≡ 0
-unfolding negated
-signed_zero false = refl
-signed_zero true = refl
-
-link_turned : (b : Bool) (f n : ℕ) → link_worded f n ≡ true
-    → link_words (map_o (signed b) (link_of f n)) ≡ f ∷ signed b n ∷ []
-unfolding link_worded
-link_turned b zero n h = let z = eqb-true n 0 h in λ i. 0 ∷ sym (ap (signed b) z ∙ signed_zero b) i ∷ []
-link_turned b (suc zero) n h = refl
-link_turned b (suc (suc f)) n h =
-    absurd (let z = leb-true (suc (suc f)) 1 (left_on (leb (suc (suc f)) 1) _ h) in omega arith)
-
-way_turned : (m : Bool) (d : ℕ) → leb d 2 ≡ true → direction_word (reverse_direction m (direction_of d)) ≡ turn_way m d
-way_turned false zero h = refl
-way_turned true zero h = refl
-way_turned false (suc zero) h = refl
-way_turned true (suc zero) h = refl
-way_turned false (suc (suc zero)) h = refl
-way_turned true (suc (suc zero)) h = refl
-way_turned m (suc (suc (suc d))) h = absurd (let z = leb-true (suc (suc (suc d))) 2 h in omega arith)
-
--- ---- the road that a target leads to
-target_leads : (mk : Span → Bool) (text : List ℕ) (p k s n c g a : ℕ) → target_worded text p k s n c g a ≡ true
-    → is_marked mk (bind_o (target_of p k s n c g a) road_named) ≡ (eqb p 1 && eqb k 0 && mk (span s n))
-unfolding target_worded
-target_leads mk text zero k s n c g a h = refl
-target_leads mk text (suc zero) zero s n c g a h = refl
-target_leads mk text (suc zero) (suc zero) s n c g a h = refl
-target_leads mk text (suc zero) (suc (suc k)) s n c g a h =
-    absurd (let z = leb-true (suc (suc k)) 1
-    (and5 (leb (suc (suc k)) 1) (placed text (span s n)) (leb c 1) (leb g 1) (leb a 1) h).0 in
-    omega arith)
-target_leads mk text (suc (suc p)) k s n c g a h =
-    absurd (let z = leb-true (suc (suc p)) 1 (left_on (leb (suc (suc p)) 1) _ h) in omega arith)
 
 -- ---- a further section
 first_none_at : (p : ℕ → Bool) (xs : List ℕ) → first p xs ≡ none → (k : ℕ) → k < length xs → p (get_or xs k 0) ≡ false
@@ -138,89 +99,24 @@ module _ (ss : List ℕ) (s : ℕ) (up : ascends ss ≡ true) (within : Within s
       go : (next : Option ℕ) → next_section ss s e ≡ next
           → is_marked mk (leads_by same rs l e next)
           ≡ cond (eqb s (edge e ss)) (is_marked mk (roadward same rs l.road e)) (mk l.road)
-      go none is = if_on _ _ _ (eq-eqb s (edge e ss) (only_edge e is)) refl
+      go none is = sym (cond-true _ _ _ (eq-eqb s (edge e ss) (only_edge e is)))
       go (some x) is =
-          if_off _ _ _ (ne_eqb s (edge e ss) (λ at_Edge. no_some x (sym (none_further e at_Edge) ∙ is))) refl
-
--- ---- a lane's row, from its ten words
-module _ (same : Span → Span → Bool) (mk : Span → Bool) (rs : List Road) (text x : List ℕ)
-    (worded : lane_worded text x ≡ true) where
-  lane_row_lem : (m P Q : Bool) (S : ℕ) → mk (span_in x 1) ≡ m
-      → cond (mk (span_in x 1)) (mirror (sections_of same rs (span_in x 1)) (word x 3)) (word x 3) ≡ S →
-      is_marked mk (leads_to same rs (lane_in x) true) ≡ P → is_marked mk (leads_to same rs (lane_in x) false) ≡ Q
-      → lane_row (reverse_lane same mk rs (lane_in x)) ≡ lane_with x 0 m S P Q
-  unfolding lane_row reverse_lane lane_in lane_worded reverse_link lane_with
-  lane_row_lem m P Q S e f g h =
-      let w =
-      and4 (placed text (span_in x 1)) (leb (word x 5) 2) (link_worded (word x 6) (word x 7))
-      (link_worded (word x 8) (word x 9)) worded in
-      let onward =
-      ap (λ (b : Bool). link_words (map_o (signed b) (link_of (word x 6) (word x 7)))) g
-      ∙ link_turned P (word x 6) (word x 7) w.2 in
-      let back =
-      ap (λ (b : Bool). link_words (map_o (signed b) (link_of (word x 8) (word x 9)))) h
-      ∙ link_turned Q (word x 8) (word x 9) w.3 in
-      ap₂ (λ (a : ℕ) (b : Bool). row a b) f e
-      ∙ go m onward back
-      ∙ ap (λ (d : ℕ). word x 0 ∷ word x 1 ∷ word x 2 ∷ S ∷ signed m (word x 4) ∷ d ∷ links m)
-      (way_turned m (word x 5) w.1)
-    where
-      link : Bool → List ℕ
-      link b = link_words (map_o (signed (is_marked mk (leads_to same rs (lane_in x) b))) (link_at b (lane_in x)))
-
-      row : ℕ → Bool → List ℕ
-      row a b =
-          word x 0 ∷ word x 1 ∷ word x 2 ∷ a ∷ signed b (word x 4)
-          ∷ direction_word (reverse_direction b (direction_of (word x 5))) ∷ (link (not b) ++ link b)
-
-      links : Bool → List ℕ
-      links b =
-          cond b (word x 8) (word x 6) ∷ cond b (signed Q (word x 9)) (signed P (word x 7))
-          ∷ cond b (word x 6) (word x 8) ∷ cond b (signed P (word x 7)) (signed Q (word x 9)) ∷ []
-
-      go : (b : Bool) → link true ≡ word x 6 ∷ signed P (word x 7) ∷ []
-          → link false ≡ word x 8 ∷ signed Q (word x 9) ∷ [] →
-          row S b
-          ≡ word x 0 ∷ word x 1 ∷ word x 2 ∷ S ∷ signed b (word x 4)
-          ∷ direction_word (reverse_direction b (direction_of (word x 5))) ∷ links b
-      go true o k =
-          λ i.
-          word x 0 ∷ word x 1 ∷ word x 2 ∷ S ∷ signed true (word x 4)
-          ∷ direction_word (reverse_direction true (direction_of (word x 5))) ∷ (k i ++ o i)
-      go false o k =
-          λ i.
-          word x 0 ∷ word x 1 ∷ word x 2 ∷ S ∷ signed false (word x 4)
-          ∷ direction_word (reverse_direction false (direction_of (word x 5))) ∷ (o i ++ k i)
-
-lane_moved : (lanes : List ℕ) (a : ℕ) (m : Bool) (S : ℕ) (P Q : Bool)
-    → lane_with (drop a lanes) 0 m S P Q ≡ lane_with lanes a m S P Q
-unfolding lane_with
-lane_moved lanes a m S P Q = simp (get_or-drop a lanes, add-zero)
+          sym (cond-false _ _ _ (ne_eqb s (edge e ss) (λ at_Edge. no_some x (sym (none_further e at_Edge) ∙ is))))
 
 -- ---- a section that is listed
-every_on : (p : ℕ → Bool) (xs : List ℕ) → ((k : ℕ) → k < length xs → p (get_or xs k 0) ≡ true) → every p xs ≡ true
-every_on p [] h = refl
-every_on p (x ∷ xs) h =
-    and_step (h 0 (let z : 0 < suc (length xs) = omega arith in z))
-    (every_on p xs (λ k l. h (suc k) (let z : suc k < suc (length xs) = omega arith in z)))
-
-every_member : (p : ℕ → Bool) (s : ℕ) (xs : List ℕ) → every p xs ≡ true → member s xs ≡ true → p s ≡ true
-every_member p s [] e h = absurd (true≢false (sym h))
-every_member p s (x ∷ xs) e h = go (eqb s x) refl h (every_member p s xs (right_on (p x) (every p xs) e))
+-- where it stands
+member_at : (s : ℕ) (xs : List ℕ) → member s xs ≡ true → (k : ℕ) × (k < length xs) × (get_or xs k 0 ≡ s)
+member_at s [] h = absurd (true≢false (sym h))
+member_at s (x ∷ xs) h = go (eqb s x) refl h (member_at s xs)
   where
-    go : (b : Bool) → eqb s x ≡ b → (b || member s xs) ≡ true → (member s xs ≡ true → p s ≡ true) → p s ≡ true
-    go true q z ih = ap p (eqb-true s x q) ∙ left_on (p x) (every p xs) e
-    go false q z ih = ih z
+    go : (b : Bool) → eqb s x ≡ b → (b || member s xs) ≡ true
+        → (member s xs ≡ true → (k : ℕ) × (k < length xs) × (get_or xs k 0 ≡ s))
+        → (k : ℕ) × (k < suc (length xs)) × (get_or (x ∷ xs) k 0 ≡ s)
+    go true q z rest = (0, omega arith, sym (eqb-true s x q))
+    go false q z rest = let at = rest z in (suc at.0, omega (arith, at.1), at.2)
 
 listed_within : (xs : List ℕ) (s : ℕ) → ascends xs ≡ true → member s xs ≡ true → Within xs s
-listed_within xs s up h = record {
-  low = leb-true (head_or 0 xs) s (every_member (λ i. leb (head_or 0 xs) i) s xs
-      (every_on (λ i. leb (head_or 0 xs) i) xs
-      (λ k l. le-leb (head_or 0 xs) (get_or xs k 0) (between xs k up l).low)) h);
-  high = leb-true s (last_or 0 xs) (every_member (λ i. leb i (last_or 0 xs)) s xs
-      (every_on (λ i. leb i (last_or 0 xs)) xs
-      (λ k l. le-leb (get_or xs k 0) (last_or 0 xs) (between xs k up l).high)) h);
-}
+listed_within xs s up h = let at = member_at s xs h in subst (Within xs) at.2 (between xs at.0 up at.1)
 
 above_zero : (n : ℕ) → (n ≡ 0 → ⊥) → 0 < n
 above_zero zero n = absurd (n refl)
@@ -251,39 +147,18 @@ module _ (text roads sections lanes owner : List ℕ)
       record { known = pos; below = below; within = b }
 
 -- ---- a road's targets
-module _ (text roads sections marks : List ℕ) (paved : every (road_worded text) (table 20 roads) ≡ true) (r : ℕ)
-    (on : r < length roads / 20) where
-  abbrev row : List ℕ
-  row = from 20 roads r
-
-  in_order : (e : Bool) → target_worded_at text row (pick e 4 11) ≡ true
-  unfolding road_worded
-  in_order e =
-      let worded = all_at (length roads / 20) r (λ i. road_worded text (from 20 roads i))
-      (sym (every_rows 20 roads (road_worded text) (road_local text)) ∙ paved) on in
-      let each = and4 (placed text (span_in row 0)) (is_absent (word row 2) (word row 3) || placed text (span_in row 2))
-      (target_worded_at text row 4) (target_worded_at text row 11) worded in go e each.2 each.3
-    where
-      go : (e : Bool) → target_worded_at text row 4 ≡ true → target_worded_at text row 11 ≡ true
-          → target_worded_at text row (pick e 4 11) ≡ true
-      go false before after = before
-      go true before after = after
-
+module _ (text roads sections marks : List ℕ) (r : ℕ) where
   -- the target at either end names a marked road
-  toward : (e : Bool) → is_marked (mark_of text roads marks) (bind_o (target_at e (road_in sections row)) road_named)
-      ≡ to_marked text roads marks (r * 20 + pick e 4 11)
-  unfolding road_in to_marked
-  toward false = target_leads (mark_of text roads marks) text _ _ _ _ _ _ _ (in_order false)
-      ∙ simp (get_or-drop (r * 20) roads, add_assoc)
-  toward true = target_leads (mark_of text roads marks) text _ _ _ _ _ _ _ (in_order true)
-      ∙ simp (get_or-drop (r * 20) roads, add_assoc)
+  toward : (e : Bool) → names_marked (mark_of text roads marks) (target_at e (road_in sections (from 20 roads r)))
+      ≡ target_marked text roads marks (r * 20 + pick e 4 11)
+  unfolding road_in target_marked
+  toward false = simp (get_or-drop (r * 20) roads, add_assoc)
+  toward true = simp (get_or-drop (r * 20) roads, add_assoc)
 
 -- ---- lane i
 module _ (text roads sections marks lanes owner : List ℕ)
     (once : any (length roads / 20) (name_before text 20 0 roads) ≡ false)
-    (paved : every (road_worded text) (table 20 roads) ≡ true)
     (up : all (length roads / 20) (λ i. ascends (numbers_at roads sections i)) ≡ true)
-    (worded : every (lane_worded text) (table 10 lanes) ≡ true)
     (owned : Owned text roads lanes (length lanes / 10) owner)
     (kept : (i : ℕ) → i < length lanes / 10 → Kept roads sections lanes owner i) where
   -- the mark of its road
@@ -298,51 +173,64 @@ module _ (text roads sections marks lanes owner : List ℕ)
   turned = reverse_lane (same_in text) (mark_of text roads marks) (roads_in sections roads)
 
   lane_at_lem : (i : ℕ) → i < length lanes / 10
-      → lane_row (turned (lane_in (from 10 lanes i))) ≡ turned_lane text roads sections marks lanes owner i
-  unfolding turned turned_lane lane_on lane_in leads_to roadward sections_of
+      → turned (lane_in (from 10 lanes i))
+      ≡ reversed_on text roads marks (lane_in (row 10 lanes i)) (get_or owner i 0 - 1)
+      (mark_at marks (get_or owner i 0))
+      (numbers_at roads sections (get_or owner i 0 - 1))
+  unfolding turned reversed_on lane_in leads_to roadward sections_of reverse_lane reverse_link
   lane_at_lem i h =
       let same = same_in text in
       let mk = mark_of text roads marks in
       let rs = roads_in sections roads in
       let x = from 10 lanes i in
+      let l = lane_in x in
       let o = get_or owner i 0 in
       let r = o - 1 in
       let ss = numbers_at roads sections r in
-      let s = get_or lanes (i * 10 + 3) 0 in
       let road = kept i h in
-      let row : o ≡ suc r = omega (arith, road.known) in
+      let plus : o ≡ suc r = omega (arith, road.known) in
       let on : r < length roads / 20 = omega (arith, road.known, road.below) in
-      let found : road_of same rs (span_in x 1) ≡ some (road_in sections (from 20 roads r)) =
-      road_some text roads sections once (span_in x 1) r
-      (ap (road_row_of text roads) (name_at_lem 10 1 lanes i) ∙ sym (owned.at i h) ∙ row) in
-      let numbers : sections_of same rs (span_in x 1) ≡ ss = ap sections_from found ∙ numbers_at_lem roads sections r in
-      let section : word x 3 ≡ s = get_or-drop (i * 10) lanes 3 0 in
-      let own : mk (span_in x 1) ≡ mark_at marks o = lane_mark i h in
+      let found : road_of same rs l.road ≡ some (road_in sections (from 20 roads r)) =
+      road_some text roads sections once l.road r
+      (ap (road_row_of text roads) (name_at_lem 10 1 lanes i) ∙ sym (owned.at i h) ∙ plus) in
+      let numbers : sections_of same rs l.road ≡ ss = ap sections_from found ∙ numbers_at_lem roads sections r in
+      let within : Within ss l.section = subst (Within ss) (sym (get_or-drop (i * 10) lanes 3 0)) road.within in
+      let own : mk l.road ≡ mark_at marks o = lane_mark i h in
       let ascend = all_at (length roads / 20) r (λ i. ascends (numbers_at roads sections i)) up on in
-      let in_order = all_at (length lanes / 10) i (λ i. lane_worded text (from 10 lanes i))
-      (sym (every_rows 10 lanes (lane_worded text) (lane_local text)) ∙ worded) h in
-      let target : (e : Bool) → is_marked mk (roadward same rs (span_in x 1) e)
-      ≡ to_marked text roads marks (r * 20 + pick e 4 11) =
+      let target : (e : Bool) → is_marked mk (roadward same rs l.road e)
+      ≡ target_marked text roads marks (r * 20 + pick e 4 11) =
       λ e.
       ap (λ q. is_marked mk (bind_o (bind_o q (target_at e)) road_named)) found
-      ∙ toward text roads sections marks paved r on e in
-      let link : (e : Bool) → is_marked mk (leads_to same rs (lane_in x) e)
-      ≡ cond (eqb s (edge e ss)) (to_marked text roads marks (r * 20 + pick e 4 11)) (mark_at marks o) =
+      ∙ toward text roads sections marks r e in
+      let sign : (e : Bool) → is_marked mk (leads_to same rs l e)
+      ≡ sign_at text roads marks l.section r (mark_at marks o) ss e =
       λ e.
-      ap₂ (λ (a : List ℕ) (b : ℕ). is_marked mk (leads_by same rs (lane_in x) e (next_section a b e))) numbers section
-      ∙ leads_by_lem ss s ascend road.within same mk rs (lane_in x) e
-      ∙ ap₂ (λ (a b : Bool). cond (eqb s (edge e ss)) a b) (target e) own in
-      lane_row_lem same mk rs text x in_order _ _ _ _ own
-      (λ j. cond (own j) (mirror (numbers j) (section j)) (section j)) (link true) (link false)
-      ∙ lane_moved lanes (i * 10) _ _ _ _
+      ap (λ (a : List ℕ). is_marked mk (leads_by same rs l e (next_section a l.section e))) numbers
+      ∙ leads_by_lem ss l.section ascend within same mk rs l e
+      ∙ ap₂ (λ (a b : Bool). cond (eqb l.section (edge e ss)) a b) (target e) own in
+      let signs : (f : Bool → Bool) → is_marked mk (leads_to same rs l (f (mk l.road)))
+      ≡ sign_at text roads marks l.section r (mark_at marks o) ss (f (mark_at marks o)) =
+      λ f. ap (λ e. is_marked mk (leads_to same rs l (f e))) own ∙ sign (f (mark_at marks o)) in
+      (λ j.
+      record {
+        identity = l.identity;
+        road = l.road;
+        section = cond (own j) (mirror (numbers j) l.section) l.section;
+        number = signed (own j) l.number;
+        direction = reverse_direction (own j) l.direction;
+        predecessor = map_o (signed (signs (λ e. e) j)) (link_at (own j) l);
+        successor = map_o (signed (signs not j)) (link_at (not (own j)) l);
+      })
+      ∙ ap (λ (l : Lane). reversed_on text roads marks l r (mark_at marks o) ss)
+      (sym (unfold lane_in in lane_in_local (from 10 lanes i)))
 
   pub lanes_are : lane_words
       (map (reverse_lane (same_in text) (mark_of text roads marks) (roads_in sections roads)) (lanes_in lanes))
-      ≡ joined (length lanes / 10) (turned_lane text roads sections marks lanes owner)
-  unfolding lane_words lanes_in turned
+      ≡ joined (length lanes / 10) (reversed_lane text roads sections marks lanes owner)
+  unfolding lane_words lanes_in turned reversed_lane
   lanes_are =
       ap (λ ls. gather lane_row (map turned ls)) (lanes_tab lanes)
       ∙ gather_map turned lane_row (tab (length lanes / 10) (λ i. lane_in (from 10 lanes i)))
       ∙ gather_tab (λ l. lane_row (turned l)) (length lanes / 10) (λ i. lane_in (from 10 lanes i))
       ∙ joined_same (length lanes / 10) (λ i. lane_row (turned (lane_in (from 10 lanes i))))
-      (turned_lane text roads sections marks lanes owner) lane_at_lem
+      (reversed_lane text roads sections marks lanes owner) (λ i h. ap lane_row (lane_at_lem i h))

@@ -1,9 +1,9 @@
 pub mod Leaves
+pub mod MarkLaws
 pub mod Places
 pub mod Writers
-pub mod MarkLaws
 pub mod RoadWords
 pub mod LinkWords
-pub mod EdgeWords
 pub mod LaneWords
+pub mod EdgeWords
 pub mod CallLaws

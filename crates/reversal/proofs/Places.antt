@@ -2,34 +2,46 @@
 use Prim.Native.Nat.{ℕ, zero, suc, ◌+◌, ◌*◌, ◌-◌, ◌/◌, ◌<◌, ◌≤◌}
 use mathlib.Core.Bool.{Bool, true, false, cond}
 use mathlib.Core.List.{List, [], ◌∷◌, ◌++◌, map, reverse, reverse-cons}
-use mathlib.Core.Logic.{⊎_elim}
 use mathlib.Core.Path.{◌≡◌, refl, sym, ap, ap₂, ◌∙◌, subst}
 use native.Mathlib.Nat.{le_of_suc-le-suc, not-suc-le-zero, eq-or-lt_of_le, add-zero, le_trans, add-mul}
 use native.Mathlib.Omega.{arith}
 use lib.Dec.{eqb, ltb}
 use lib.Ieee.{Float}
 use lib.ListN.{length, get_or, take, drop, length-append, length-map, length-reverse, length-drop}
-use lib.ListN.{get_or-append, take-append-drop}
-use lib.Seq.{get_or_at, length-take-le}
+use lib.ListN.{take-append-drop}
+use lib.Seq.{get_or-drop, length-take-le}
 use borrow.Author.Tests.{ltb-true}
+use Rattle.std.specs.List.{enumerate_from}
+use Rattle.std.proofs.lemmas.List.{get_or-reverse}
+use Rattle.std.proofs.lemmas.List.FromFn.{get_or-enumerate_from, length-enumerate_from}
 use Rattle.geometry.specs.Edges.{ends_at}
 use Rattle.geometry.specs.Gap.{swapped}
 use Rattle.geometry.specs.declared.segment.Point.{Point}
 use Rattle.model.specs.Lists.{ascends, every, last_or}
+use Rattle.model.specs.Records.{Lane, Span}
 use Rattle.model.specs.Reversal.{mirror, mirrored}
-use Rattle.model.specs.Rows.{parts_fit, table, word}
+use Rattle.model.specs.Rows.{part, parts_fit, table, word}
+use Rattle.model.specs.Tables.{lane_in, lane_row, span_in}
 use Rattle.laws.proofs.Lay.{fit_first, fit_rest, length_table}
 use Rattle.laws.proofs.RowTests.{word_at}
-use Rattle.words.specs.Rows.{joined, name_from, spliced}
+use Rattle.words.specs.Rows.{from, joined, spliced}
 use Rattle.words.proofs.KeyLaws.{rows_in}
 use Rattle.words.proofs.Laws.{map_at}
-use Rattle.words.proofs.Scans.{left_on, right_on}
+use Rattle.words.proofs.Scans.{left_on, right_on, take_word}
 use Rattle.rules.specs.ByRow.{numbers_at}
 use Rattle.rules.proofs.Fits.{part_in}
-use Rattle.reversal.specs.Turned.{mark_of, pairs_from, turned_pair, turned_pairs, turned_sections, Kept, Within}
-use Rattle.reversal.specs.Turned.{mark_at, lane_on, turned_lane, turned_edges, floats_of}
+use Rattle.reversal.specs.Turned.{Kept, Within, mark_of, pairs_turned, row, turned_pair, turned_pairs, turned_sections}
+use Rattle.reversal.specs.Turned.{mark_at, reversed_on, reversed_lane, turned_edges, floats_of}
 use Rattle.words.proofs.Joins.{joined_even, joined_none}
-use Rattle.reversal.proofs.Leaves.{if_off, if_on, pair_2}
+use Rattle.reversal.proofs.Leaves.{pair_2}
+
+-- ---- words of a row
+pub row_word : (w k : ℕ) (ws : List ℕ) (i : ℕ) → ltb k w ≡ true → word (row w ws i) k ≡ get_or ws (i * w + k) 0
+row_word w k ws i h = take_word w k (from w ws i) h ∙ get_or-drop (i * w) ws k 0
+
+pub read_word : (w k : ℕ) (ws : List ℕ) (i : ℕ) {r : List ℕ} → r ≡ row w ws i → ltb k w ≡ true
+    → word r k ≡ get_or ws (i * w + k) 0
+read_word w k ws i read h = ap (λ (r : List ℕ). word r k) read ∙ row_word w k ws i h
 
 -- ---- where a part begins
 fits_next : (kf kc i n : ℕ) (rs : List (List ℕ)) → parts_fit kf kc i n rs ≡ true → (r : ℕ) → suc r < length rs
@@ -72,11 +84,7 @@ module _ (w kf kc n : ℕ) (ws : List ℕ) (lf : kf < w) (lc : kc < w)
       ∙ sym (add-mul (get_or ws (i * w + kf) 0) (get_or ws (i * w + kc) 0) v)
       ∙ ap (λ (m : ℕ). m * v) (sym first)
 
--- ---- pairs
-pub pairs_length : (m n : Bool) (pairs : List ℕ) (a k : ℕ) → length (pairs_from m n pairs a k) ≡ k * 2
-unfolding pairs_from
-pairs_length m n pairs a k = joined_even 2 k (λ j. turned_pair m n pairs (a + j)) (λ j. pair_2 m n pairs (a + j))
-
+-- ---- what is put nowhere
 pub spliced_none : {A : Type 0} (at : ℕ) (f : ℕ → List A) (out : List A) → out ≡ spliced at (joined 0 f) out
 unfolding spliced
 spliced_none {A} at f out =
@@ -113,26 +121,6 @@ between (x ∷ xs) k e h = record { low = low k h; high = last_high x xs k e h }
         let less = ltb-true x (get_or xs k 0) (every_at (ltb x) xs k rises (le_of_suc-le-suc h)) in
         omega (arith, less)
 
-reverse_at : (l : List ℕ) (k : ℕ) → k < length l → get_or (reverse l) k 0 ≡ get_or l (length l - 1 - k) 0
-reverse_at [] k h = absurd (not-suc-le-zero h)
-reverse_at (x ∷ xs) k h =
-    ap (λ (l : List ℕ). get_or l k 0) (reverse-cons x xs)
-    ∙ go (eq-or-lt_of_le (le_of_suc-le-suc h)) (reverse_at xs k)
-  where
-    go : mathlib.Core.Logic.◌⊎◌ (k ≡ length xs) (k < length xs)
-        → (k < length xs → get_or (reverse xs) k 0 ≡ get_or xs (length xs - 1 - k) 0)
-        → get_or (reverse xs ++ (x ∷ [])) k 0 ≡ get_or (x ∷ xs) (suc (length xs) - 1 - k) 0
-    go s ih = ⊎_elim
-        (λ q.
-        get_or_at (reverse xs) x [] 0 k (length-reverse xs ∙ sym q)
-        ∙ ap (λ (m : ℕ). get_or (x ∷ xs) m 0) (let z : 0 ≡ suc (length xs) - 1 - k = omega arith in z))
-        (λ lt.
-        get_or-append (reverse xs) (x ∷ []) 0 k (subst (λ (m : ℕ). k < m) (sym (length-reverse xs)) lt)
-        ∙ ih lt
-        ∙ ap (λ (m : ℕ). get_or (x ∷ xs) m 0)
-        (let z : suc (length xs - 1 - k) ≡ suc (length xs) - 1 - k = omega arith in z))
-        s
-
 pub mirrored_length : (ss : List ℕ) → length (mirrored ss) ≡ length ss
 unfolding mirrored
 mirrored_length ss = length-reverse (map (mirror ss) ss) ∙ length-map ss (mirror ss)
@@ -142,9 +130,31 @@ pub mirrored_at : (ss : List ℕ) (k : ℕ) → k < length ss
 unfolding mirrored
 mirrored_at ss k h =
     let n = length-map ss (mirror ss) in
-    reverse_at (map (mirror ss) ss) k (subst (λ (m : ℕ). k < m) (sym n) h)
+    get_or-reverse (map (mirror ss) ss) k 0 (subst (λ (m : ℕ). k < m) (sym n) h)
     ∙ ap (λ (m : ℕ). get_or (map (mirror ss) ss) (m - 1 - k) 0) n
     ∙ map_at (mirror ss) ss (length ss - 1 - k) (omega arith)
+
+-- the numbers of a part from its last on, each with its place: number n of them
+any_default : (xs : List ℕ) (k d e : ℕ) → k < length xs → get_or xs k d ≡ get_or xs k e
+any_default [] k d e h = absurd (not-suc-le-zero h)
+any_default (x ∷ xs) zero d e h = refl
+any_default (x ∷ xs) (suc k) d e h = any_default xs k d e (le_of_suc-le-suc h)
+
+pub from_last : (ss : List ℕ) (n k x : ℕ) → n < length (enumerate_from 0 (reverse ss))
+    → (k, x) ≡ get_or (enumerate_from 0 (reverse ss)) n (k, x)
+    → (k ≡ n) × (n < length ss) × (x ≡ get_or ss (length ss - 1 - n) 0)
+from_last ss n k x turn is =
+    let size = length-enumerate_from 0 (reverse ss) in
+    let here : n < length (reverse ss) = omega (arith, turn, size) in
+    let there : n < length ss = omega (arith, here, length-reverse ss) in
+    let e = is ∙ get_or-enumerate_from 0 (reverse ss) n (k, x) here in
+    let place : k ≡ 0 + n = ap {A = ℕ × ℕ} (λ p. p.0) e in (
+      omega (arith, place),
+      there,
+      ap {A = ℕ × ℕ} (λ p. p.1) e
+          ∙ get_or-reverse ss n x there
+          ∙ any_default ss (length ss - 1 - n) x 0 (omega arith),
+    )
 
 -- ---- sections
 module _ (roads sections : List ℕ) (fit : parts_fit 18 19 0 (length sections) (table 20 roads) ≡ true) (i : ℕ)
@@ -177,42 +187,43 @@ module _ (roads sections : List ℕ) (fit : parts_fit 18 19 0 (length sections) 
       omega (arith, listed, numbers_length)
 
 -- a road's numbers in their place, the road marked or not
-module _ (roads sections marks : List ℕ) (i : ℕ) (out : List ℕ) {at : ℕ} {part new : List ℕ}
-    (place : at ≡ get_or roads (i * 20 + 18) 0) (numbers : part ≡ numbers_at roads sections i) where
-  pub numbers_marked : eqb (get_or marks i 0) 1 ≡ true → new ≡ spliced at (mirrored part) out
-      → new ≡ spliced (get_or roads (i * 20 + 18) 0) (turned_sections roads sections marks i) out
-  unfolding turned_sections
-  numbers_marked marked put =
-      put ∙ ap₂ (λ (a : ℕ) (p : List ℕ). spliced a p out) place
-      (if_on (eqb (get_or marks i 0) 1) (mirrored (numbers_at roads sections i)) (numbers_at roads sections i) marked
-      (ap mirrored numbers))
+pub numbers_put : (roads sections marks : List ℕ) (i : ℕ) (out : List ℕ) (m : Bool) {at : ℕ} {part new : List ℕ}
+    → at ≡ get_or roads (i * 20 + 18) 0 → part ≡ numbers_at roads sections i → eqb (get_or marks i 0) 1 ≡ m
+    → new ≡ spliced at (cond m (mirrored part) part) out
+    → new ≡ spliced (get_or roads (i * 20 + 18) 0) (turned_sections roads sections marks i) out
+unfolding turned_sections
+numbers_put roads sections marks i out m place numbers is put =
+    put ∙ (λ j. spliced (place j) (cond (sym is j) (mirrored (numbers j)) (numbers j)) out)
 
-  pub numbers_unmarked : eqb (get_or marks i 0) 1 ≡ false → new ≡ spliced at part out
-      → new ≡ spliced (get_or roads (i * 20 + 18) 0) (turned_sections roads sections marks i) out
-  unfolding turned_sections
-  numbers_unmarked unmarked put =
-      put ∙ ap₂ (λ (a : ℕ) (p : List ℕ). spliced a p out) place
-      (if_off (eqb (get_or marks i 0) 1) (mirrored (numbers_at roads sections i)) (numbers_at roads sections i) unmarked
-      numbers)
+-- the parts fit over the same roads
+pub fit_over : (sections : List ℕ) {roads other : List ℕ} → other ≡ roads
+    → parts_fit 18 19 0 (length sections) (table 20 other) ≡ true
+    → parts_fit 18 19 0 (length sections) (table 20 roads) ≡ true
+fit_over sections same fit =
+    ap (λ (ws : List ℕ). parts_fit 18 19 0 (length sections) (table 20 ws)) (sym same) ∙ fit
 
 -- ---- lanes
--- the part is that of the lane's road
-pub section_within : (roads sections lanes owner : List ℕ) (i : ℕ) → Kept roads sections lanes owner i
-    → {o : ℕ} {p : List ℕ} → o ≡ get_or owner i 0 → p ≡ numbers_at roads sections (o - 1)
-    → Within p (get_or lanes (i * 10 + 3) 0)
-section_within roads sections lanes owner i kept owned numbers =
-    rw (numbers ∙ ap (λ (m : ℕ). numbers_at roads sections (m - 1)) owned) kept.within
+pub lane_turned : (text roads sections marks lanes owner : List ℕ) (i r : ℕ) {words p : List ℕ} {m : Bool}
+    {read turned : Lane} → words ≡ lane_row turned → turned ≡ reversed_on text roads marks read r m p
+    → read ≡ lane_in (row 10 lanes i) → m ≡ mark_at marks (suc r) → p ≡ numbers_at roads sections r
+    → suc r ≡ get_or owner i 0 → words ≡ reversed_lane text roads sections marks lanes owner i
+unfolding reversed_lane
+lane_turned text roads sections marks lanes owner i r laid turned read marked numbers owned =
+    let back : r ≡ get_or owner i 0 - 1 = omega arith in
+    let mark = marked ∙ ap (mark_at marks) owned in
+    let part = numbers ∙ ap (numbers_at roads sections) back in
+    laid ∙ ap lane_row (turned ∙ (λ j. reversed_on text roads marks (read j) (back j) (mark j) (part j)))
 
-pub lane_turned : (text roads sections marks lanes owner : List ℕ) (i : ℕ) {row p : List ℕ} {o : ℕ} {m : Bool}
-    → row ≡ lane_on text roads marks lanes i (o - 1) m p → m ≡ mark_at marks o
-    → p ≡ numbers_at roads sections (o - 1) → o ≡ get_or owner i 0
-    → row ≡ turned_lane text roads sections marks lanes owner i
-unfolding turned_lane
-lane_turned text roads sections marks lanes owner i {o = o} laid marked numbers owned =
-    laid
-    ∙ ap₂ (λ (b : Bool) (l : List ℕ). lane_on text roads marks lanes i (o - 1) b l) marked numbers
-    ∙ ap (λ (k : ℕ). lane_on text roads marks lanes i (k - 1) (mark_at marks k) (numbers_at roads sections (k - 1)))
-    owned
+-- its section lies in its road's
+pub lane_within : (roads sections lanes owner : List ℕ) (i r : ℕ) {part : List ℕ} {read : Lane}
+    → Kept roads sections lanes owner i → read ≡ lane_in (row 10 lanes i) → part ≡ numbers_at roads sections r
+    → suc r ≡ get_or owner i 0 → Within part read.section
+unfolding lane_in
+lane_within roads sections lanes owner i r kept read numbers owned =
+    let back : r ≡ get_or owner i 0 - 1 = omega arith in
+    let part = numbers ∙ ap (numbers_at roads sections) back in
+    let section = ap (λ (l : Lane). l.section) read ∙ row_word 10 3 lanes i refl in
+    rw (part, section) kept.within
 
 pub edges_turned : (owner marks : List ℕ) (edges : List Float) (i : ℕ) {row : List Float}
     {ends : List (List Point)} {o : ℕ} {m : Bool} → row ≡ floats_of ends
@@ -223,22 +234,51 @@ edges_turned owner marks edges i laid turned marked owned =
     let mark = marked ∙ ap (mark_at marks) owned in
     laid ∙ ap floats_of (turned ∙ ap (λ (b : Bool). cond b (swapped (ends_at edges i)) (ends_at edges i)) mark)
 
-pub div_mul_le : (n : ℕ) → n / 2 * 2 ≤ n
-div_mul_le n = rows_in n 2
-
 -- the pairs of connection i
-module _ (text roads marks ws pairs : List ℕ) (i : ℕ) where
-  pub pairs_count : length (turned_pairs text roads marks ws pairs i) ≡ get_or ws (i * 7 + 6) 0 * 2
-  unfolding turned_pairs
-  pairs_count =
-      pairs_length (mark_of text roads marks (name_from ws (i * 7)))
-      (mark_of text roads marks (name_from ws (i * 7 + 2))) pairs (get_or ws (i * 7 + 5) 0) (get_or ws (i * 7 + 6) 0)
+module _ (ws pairs : List ℕ) (fit : parts_fit 5 6 0 (length pairs / 2) (table 7 ws) ≡ true) (i : ℕ)
+    (h : i < length ws / 7) where
+  -- the pairs that its row places
+  abbrev pub placed : List ℕ → List ℕ
+  placed r = part (word r 5 * 2) (word r 6 * 2) pairs
 
-  pub pairs_put : (out : List ℕ) {new : List ℕ} {m n : Bool} {a k : ℕ}
-      → m ≡ mark_of text roads marks (name_from ws (i * 7)) → n ≡ mark_of text roads marks (name_from ws (i * 7 + 2))
-      → a ≡ get_or ws (i * 7 + 5) 0 → k ≡ get_or ws (i * 7 + 6) 0
-      → new ≡ spliced (a * 2) (pairs_from m n pairs a k) out
-      → new ≡ spliced (get_or ws (i * 7 + 5) 0 * 2) (turned_pairs text roads marks ws pairs i) out
-  unfolding turned_pairs
-  pairs_put out incoming connecting first count put =
-      put ∙ (λ t. spliced (first t * 2) (pairs_from (incoming t) (connecting t) pairs (first t) (count t)) out)
+  pub pairs_listed : get_or ws (i * 7 + 5) 0 + get_or ws (i * 7 + 6) 0 ≤ length pairs / 2
+  pairs_listed = part_in 7 5 6 (length pairs / 2) ws (omega arith) (omega arith) fit i h
+
+  pub placed_within : {r : List ℕ} → r ≡ row 7 ws i → word r 5 + word r 6 ≤ length pairs / 2
+  placed_within read = omega (arith, pairs_listed, read_word 7 5 ws i read refl, read_word 7 6 ws i read refl)
+
+  placed_length : {r p : List ℕ} → r ≡ row 7 ws i → p ≡ placed r → length p ≡ word r 6 * 2
+  placed_length {r} read is =
+      let left = length-drop (word r 5 * 2) pairs in
+      ap length is
+      ∙ length-take-le (word r 6 * 2) (drop (word r 5 * 2) pairs)
+      (omega (arith, left, placed_within read, rows_in (length pairs) 2))
+
+  pub placed_room : {r p : List ℕ} {a : ℕ} (out : ℕ) → r ≡ row 7 ws i → p ≡ placed r → a ≡ word r 5
+      → length pairs ≤ out → a * 2 + length p ≤ out
+  placed_room out read is first room =
+      omega (arith, placed_within read, placed_length read is, first, rows_in (length pairs) 2, room)
+
+  module _ (text roads marks : List ℕ) where
+    abbrev pub mark : Span → Bool
+    mark = mark_of text roads marks
+
+    pub pairs_count : length (turned_pairs text roads marks ws pairs i) ≡ get_or ws (i * 7 + 6) 0 * 2
+    unfolding turned_pairs pairs_turned
+    pairs_count =
+        let r = row 7 ws i in
+        let size = placed_length {r = r} refl refl in
+        joined_even 2 (length (placed r) / 2) (turned_pair (mark (span_in r 0)) (mark (span_in r 2)) (placed r))
+        (λ j. pair_2 _ _ (placed r) j)
+        ∙ omega (arith, size, row_word 7 6 ws i refl)
+
+    pub pairs_put : (out : List ℕ) {new r p : List ℕ} {m n : Bool} {a : ℕ} → r ≡ row 7 ws i → m ≡ mark (span_in r 0)
+        → n ≡ mark (span_in r 2) → p ≡ placed r → a ≡ word r 5 → new ≡ spliced (a * 2) (pairs_turned m n p) out
+        → new ≡ spliced (get_or ws (i * 7 + 5) 0 * 2) (turned_pairs text roads marks ws pairs i) out
+    unfolding turned_pairs
+    pairs_put out {new} {r} read incoming connecting part_is first put =
+        put
+        ∙ (λ t. spliced (first t * 2) (pairs_turned (incoming t) (connecting t) (part_is t)) out)
+        ∙ (λ t.
+        spliced (read_word 7 5 ws i read refl t * 2)
+        (pairs_turned (mark (span_in (read t) 0)) (mark (span_in (read t) 2)) (placed (read t))) out)

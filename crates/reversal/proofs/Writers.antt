@@ -1,12 +1,12 @@
 -- Loops that write to an output, row after row or word after word: what holds before each turn, and what a
 -- turn does.
-use Prim.Native.Nat.{ℕ, ◌+◌, ◌*◌, ◌/◌, ◌<◌, ◌≤◌}
-use mathlib.Core.List.{List, ◌++◌}
+use Prim.Native.Nat.{ℕ, suc, ◌+◌, ◌*◌, ◌/◌, ◌<◌, ◌≤◌}
+use mathlib.Core.List.{List, [], ◌∷◌, ◌++◌}
 use mathlib.Core.Path.{◌≡◌, refl, sym, ap, ap₂, ◌∙◌}
 use native.Mathlib.Numerals.{add-one}
 use native.Mathlib.Omega.{arith}
-use lib.ListN.{length, get_or, set, take, drop, length-set}
-use lib.Seq.{paste, paste-suc, paste-zero, take-length}
+use lib.ListN.{length, get_or, set, take, drop, length-drop, length-set}
+use lib.Seq.{drop-drop, get_or-drop, paste, paste-suc, paste-zero, take-length}
 use Rattle.model.specs.Rows.{written}
 use Rattle.words.specs.Rows.{joined, spliced}
 use Rattle.words.proofs.Joins.{parts_turn, row_room, rows_begin, rows_turn, within_turn}
@@ -110,3 +110,30 @@ module _ {at : ℕ} {row lent : List ℕ} where
       pasted.so_far
       ∙ ap (paste lent at row) past
       ∙ ap (λ (l : List ℕ). take at lent ++ l ++ drop (at + length row) lent) (take-length row)
+
+-- ---- pair by pair
+-- pair n of a list, where it is what is left after n pairs
+pub pair_next : (xs : List ℕ) (n : ℕ) {rest more : List ℕ} (pair : List ℕ) → rest ≡ drop (n * 2) xs
+    → rest ≡ pair ++ more → length pair ≡ 2
+    → (n < length xs / 2) × (get_or pair 0 0 ≡ get_or xs (n * 2) 0) × (get_or pair 1 0 ≡ get_or xs (n * 2 + 1) 0)
+    × (more ≡ drop ((n + 1) * 2) xs)
+pair_next xs n [] left cut two = absurd (let z : ◌≡◌ {A = ℕ} 0 2 = two in omega arith)
+pair_next xs n (a ∷ []) left cut two = absurd (let z : ◌≡◌ {A = ℕ} 1 2 = two in omega arith)
+pair_next xs n {more = more} (a ∷ b ∷ []) left cut two =
+    let e : a ∷ b ∷ more ≡ drop (n * 2) xs = sym cut ∙ left in
+    let size : suc (suc (length more)) ≡ length (drop (n * 2) xs) = ap length e in
+    let turn : n < length xs / 2 = omega (arith, size, length-drop (n * 2) xs) in
+    let first : n * 2 + 0 ≡ n * 2 = omega arith in
+    let past : n * 2 + 2 ≡ (n + 1) * 2 = omega arith in (
+      turn,
+      ap (λ (l : List ℕ). get_or l 0 0) e
+          ∙ get_or-drop (n * 2) xs 0 0
+          ∙ ap (λ (k : ℕ). get_or xs k 0) first,
+      ap (λ (l : List ℕ). get_or l 1 0) e ∙ get_or-drop (n * 2) xs 1 0,
+      ap (drop 2) e ∙ drop-drop 2 (n * 2) xs ∙ ap (λ (k : ℕ). drop k xs) past,
+    )
+pair_next xs n (a ∷ b ∷ c ∷ cs) left cut two = absurd (let z : suc (suc (suc (length cs))) ≡ 2 = two in omega arith)
+
+-- and none is left
+pub pairs_end : (xs : List ℕ) (n : ℕ) {rest : List ℕ} → rest ≡ drop (n * 2) xs → length rest < 2 → length xs / 2 ≤ n
+pairs_end xs n left few = omega (arith, few, ap length left, length-drop (n * 2) xs)

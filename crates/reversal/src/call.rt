@@ -1,17 +1,34 @@
 // Reversal as a call: its refusals, and its six outputs.
-ghost use Rattle.std.specs.Prelude.{◌≡◌};
-ghost use Rattle.model.specs.Tables.{all_tables};
-ghost use Rattle.model.specs.Rules.{fits};
-ghost use Rattle.model.specs.Calls.{ReversalOutputs, outcome, put_reversed, reversal_call};
-ghost use Rattle.reversal.specs.Turned.{Room, Writable, turned_tables};
-ghost use Rattle.reversal.specs.Answers.{answer_of, lengths_of, outputs};
+ghost use Rattle.std.specs.Prelude.{◌≡◌, true, ◌*◌, ◌/◌, length};
+ghost use Rattle.model.specs.Rows.{parts_fit, table};
+ghost use Rattle.model.specs.Calls.{outcome, put_reversed, reversal_call};
+ghost use Rattle.words.specs.Map.{all_read};
+ghost use Rattle.reversal.specs.Turned.{Room, reversed_tables};
+ghost use Rattle.reversal.specs.Answers.{SameOutputs, answer_of, long_enough, outputs, outputs_of};
 
+use crate::lanes::OwnedLanes;
+use crate::marks::Turning;
 use crate::{lanes, links, roads};
-use tables::verdict::{Verdict, admitted, reversal_verdict};
-use words::tests::both;
+use rules::parts::Sections;
+use tables::refusal::Refusal;
+use tables::verdict;
+use tables::verdict::Links;
+use words::by_key::ByName;
+use words::map::MapTables;
 
-// How many rows were written to each output.
-#[derive(Clone, Copy)]
+// What reversal writes to.
+#[derive(Drop)]
+pub struct ReversalOutputs<'a> {
+    pub roads: &'a mut [u32],
+    pub sections: &'a mut [u32],
+    pub connections: &'a mut [u32],
+    pub pairs: &'a mut [u32],
+    pub lanes: &'a mut [u32],
+    pub edges: &'a mut [f32],
+}
+
+// How many rows were written to each output. (Each call has its own outputs, and so its own counts.)
+#[derive(Clone, Copy, PartialEq, Eq, Debug)]
 pub struct Counts {
     pub roads: usize,
     pub sections: usize,
@@ -21,181 +38,73 @@ pub struct Counts {
     pub edges: usize,
 }
 
-// The rows written, or why the call was refused.
-#[derive(Clone, Copy)]
-pub enum Reversed {
-    Written(Counts),
-    Refused(Verdict),
-}
-
-// How many words each table, or each output, has.
-#[derive(Clone, Copy)]
-struct Lengths {
-    roads: usize,
-    sections: usize,
-    connections: usize,
-    pairs: usize,
-    lanes: usize,
-    edges: usize,
-}
-
-// Not 9: each output is as long as the table whose rows it gets.
-fn enough(tables: Lengths, outs: Lengths) -> bool
-    ensures { result ≡ fits (lengths_of tables) (lengths_of outs) }
+// Not 9: each output is as long as the table whose rows it gets. (Reading's outputs are others, and have their own.)
+fn enough(map: &MapTables, lanes: &[u32], edges: &[f32], out: &ReversalOutputs) -> bool
+    ensures { result ≡ long_enough (outputs map.now.roads.now map.now.sections.now map.now.connections.now
+        map.now.pairs.now lanes.now edges.now) (outputs_of out.now) }
 {
-    let a = tables.edges <= outs.edges;
-    let b = both(tables.lanes <= outs.lanes, a);
-    let c = both(tables.pairs <= outs.pairs, b);
-    let d = both(tables.connections <= outs.connections, c);
-    let e = both(tables.sections <= outs.sections, d);
-    both(tables.roads <= outs.roads, e)
+    map.roads.len() <= out.roads.len()
+        && map.sections.len() <= out.sections.len()
+        && map.connections.len() <= out.connections.len()
+        && map.pairs.len() <= out.pairs.len()
+        && lanes.len() <= out.lanes.len()
+        && edges.len() <= out.edges.len()
 }
 
 // Writes the six outputs.
 fn write_all(
-    text: &[u8],
-    roads: &[u32],
-    sections: &[u32],
+    owned: &OwnedLanes,
     connections: &[u32],
     pairs: &[u32],
-    lanes: &[u32],
     edges: &[f32],
-    marks: &[u32],
-    heads: &[u32],
-    next: &[u32],
-    owner: &[u32],
-    outroads: &mut [u32],
-    outsections: &mut [u32],
-    outconnections: &mut [u32],
-    outpairs: &mut [u32],
-    outlanes: &mut [u32],
-    outedges: &mut [f32],
+    out: &mut ReversalOutputs,
 )
-    requires writable { Writable text.now roads.now sections.now connections.now pairs.now lanes.now edges.now
-        marks.now heads.now next.now owner.now }
-    requires room { Room (outputs roads.now sections.now connections.now pairs.now lanes.now edges.now)
-        (outputs outroads.old outsections.old outconnections.old outpairs.old outlanes.old outedges.old) }
-    ensures { let content : ReversalOutputs = turned_tables text.now roads.now sections.now connections.now pairs.now
-        lanes.now edges.now marks.now owner.now in
-        outputs outroads.new outsections.new outconnections.new
-        outpairs.new outlanes.new outedges.new
-        ≡ put_reversed content (outputs outroads.old outsections.old outconnections.old
-        outpairs.old outlanes.old outedges.old) }
+    requires links { parts_fit 5 6 0 (length pairs.now / 2) (table 7 connections.now) ≡ true }
+    requires even { length edges.now ≡ 12 * (length owned.now.lanes.now / 10) }
+    requires room { Room (outputs owned.now.turning.roads.rows.now owned.now.turning.sections.sections.now
+        connections.now pairs.now owned.now.lanes.now edges.now) (outputs_of out.old) }
+    ensures content { outputs_of out.new ≡ put_reversed (reversed_tables owned.now.turning.roads.text.now
+        owned.now.turning.roads.rows.now owned.now.turning.sections.sections.now connections.now pairs.now
+        owned.now.lanes.now edges.now owned.now.turning.marks.now owned.now.owner.now) (outputs_of out.old) }
+    ensures same { SameOutputs out.old out.new }
 {
-    roads::put_roads(text, roads, heads, next, marks, outroads);
-    roads::put_sections(roads, sections, marks, outsections);
-    links::put_connections(text, roads, heads, next, marks, connections, outconnections);
-    links::put_pairs(
-        text,
-        roads,
-        heads,
-        next,
-        marks,
-        connections,
-        pairs,
-        outpairs,
-    );
-    lanes::put_lanes(
-        text, roads, sections, heads, next, marks, lanes, owner, outlanes,
-    );
-    lanes::put_edges(owner, marks, edges, outedges);
+    let turning = &owned.turning;
+    roads::put_roads(turning, out.roads);
+    roads::put_sections(turning, out.sections);
+    links::put_connections(turning, connections, out.connections);
+    links::put_pairs(turning, connections, pairs, out.pairs);
+    lanes::put_lanes(owned, out.lanes);
+    lanes::put_edges(owned, edges, out.edges);
 }
 
-// The map with its marked roads reversed.
+// The map with its marked roads reversed. (The call's contract gives its parameters; that each output is still the one
+// lent is said of two moments, which no invariant can.)
 pub fn reverse(
-    text: &[u8],
-    roads: &[u32],
-    sections: &[u32],
-    junctions: &[u32],
-    connections: &[u32],
-    pairs: &[u32],
+    map: &MapTables,
     lanes: &[u32],
     edges: &[f32],
     marks: &[u32],
-    outroads: &mut [u32],
-    outsections: &mut [u32],
-    outconnections: &mut [u32],
-    outpairs: &mut [u32],
-    outlanes: &mut [u32],
-    outedges: &mut [f32],
-) -> Reversed
-    ensures { outcome (answer_of result) (outputs outroads.new outsections.new outconnections.new
-        outpairs.new outlanes.new outedges.new)
-        ≡ reversal_call (all_tables text.now roads.now sections.now junctions.now
-        connections.now pairs.now lanes.now edges.now)
-        marks.now
-        (outputs outroads.old outsections.old outconnections.old outpairs.old
-        outlanes.old outedges.old) }
+    out: &mut ReversalOutputs,
+) -> Result<Counts, Refusal>
+    ensures outcome { outcome (answer_of result) (outputs_of out.new)
+        ≡ reversal_call (all_read map.now lanes.now edges.now) marks.now (outputs_of out.old) }
+    ensures same { SameOutputs out.old out.new }
 {
-    let mut heads = [0u32; 16384];
-    let mut next = [0u32; 16384];
-    let mut owner = [0u32; 16384];
-    let mut kheads = [0u32; 16384];
-    let mut knext = [0u32; 16384];
-    let v = reversal_verdict(
-        text,
-        roads,
-        sections,
-        junctions,
-        connections,
-        pairs,
-        lanes,
-        edges,
-        marks,
-        &mut heads,
-        &mut next,
-        &mut owner,
-        &mut kheads,
-        &mut knext,
-    );
-    if !admitted(v) {
-        return Reversed::Refused(v);
+    let mut links = Links::new();
+    verdict::reversal_verdict(map, lanes, edges, marks, &mut links)?;
+    if !enough(map, lanes, edges, out) {
+        return Err(Refusal::OutputShort);
     }
-    let tables = Lengths {
-        roads: roads.len(),
-        sections: sections.len(),
-        connections: connections.len(),
-        pairs: pairs.len(),
-        lanes: lanes.len(),
-        edges: edges.len(),
-    };
-    let outs = Lengths {
-        roads: outroads.len(),
-        sections: outsections.len(),
-        connections: outconnections.len(),
-        pairs: outpairs.len(),
-        lanes: outlanes.len(),
-        edges: outedges.len(),
-    };
-    if !enough(tables, outs) {
-        return Reversed::Refused(Verdict::OutputShort);
-    }
-    write_all(
-        text,
-        roads,
-        sections,
-        connections,
-        pairs,
-        lanes,
-        edges,
-        marks,
-        &heads,
-        &next,
-        &owner,
-        outroads,
-        outsections,
-        outconnections,
-        outpairs,
-        outlanes,
-        outedges,
-    );
-    let n = Counts {
-        roads: roads.len() / 20,
-        sections: sections.len(),
-        connections: connections.len() / 7,
-        pairs: pairs.len() / 2,
+    let roads = ByName::<20>::over(map.text, map.roads, &links.roads);
+    let turning = Turning::over(roads, Sections::over(map.roads, map.sections), marks);
+    let owned = OwnedLanes::over(turning, lanes, &links.owner);
+    write_all(&owned, map.connections, map.pairs, edges, out);
+    Ok(Counts {
+        roads: map.roads.len() / 20,
+        sections: map.sections.len(),
+        connections: map.connections.len() / 7,
+        pairs: map.pairs.len() / 2,
         lanes: lanes.len() / 10,
         edges: edges.len() / 12,
-    };
-    Reversed::Written(n)
+    })
 }

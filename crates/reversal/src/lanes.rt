@@ -1,205 +1,231 @@
 // Lanes and their edges.
-ghost use Rattle.std.specs.Prelude.{◌≡◌, cond, ◌+◌, ◌*◌, ◌/◌, ◌≤◌, ◌<◌, length, get_or};
+ghost use Rattle.std.specs.Prelude.{◌≡◌, cond, ℕ, suc, ◌+◌, ◌*◌, ◌/◌, ◌≤◌, ◌<◌, length, get_or};
 ghost use Rattle.geometry.specs.Edges.{ends_at};
 ghost use Rattle.geometry.specs.Gap.{swapped};
-ghost use Rattle.model.specs.Reversal.{mirror};
+ghost use Rattle.model.specs.Lists.{map_o};
+ghost use Rattle.model.specs.Reversal.{mirror, reverse_direction, signed};
 ghost use Rattle.model.specs.Rows.{written};
+ghost use Rattle.model.specs.Tables.{lane_in, lane_row};
+ghost use Rattle.words.specs.Fields.{number_read};
 ghost use Rattle.words.specs.Rows.{joined};
-ghost use Rattle.reversal.specs.Turned.{Ready, ReadyEdges, ReadyLanes, Within, floats_of, lane_on, lane_with};
-ghost use Rattle.reversal.specs.Turned.{row_at, to_marked, turn_way, turned_edges, turned_lane};
+ghost use Rattle.reversal.specs.Turned.{Kept, Within, floats_of, reversed_on, lane_read, target_marked, turned_edges};
+ghost use Rattle.reversal.specs.Turned.{reversed_lane};
 
+use crate::marks::Turning;
 use crate::{marks, roads};
 use geometry::edges;
+use geometry::gap::Direction;
 use geometry::segment::Point;
-use rules::parts;
 use tables::lookup::RoadId;
-use words::rows;
+use words::name::Name;
+use words::target::Target;
+use words::{kinds, rows};
 
-// A direction's word: forward and backward swap if the mark is set.
-fn turned_way(mark: bool, way: u32) -> u32
-    ensures { result ≡ turn_way mark way }
-{
-    if !mark {
-        return way;
+// The lanes, with what turns their roads. `owner` has for each lane its road's row plus 1: an array that the checks of
+// the tables leave, since there is no heap for a Vec of both.
+#[derive(Clone, Copy)]
+pub struct OwnedLanes<'a> {
+    pub turning: Turning<'a>,
+    pub lanes: &'a [u32],
+    pub owner: &'a [u32],
+    ghost owned: { length lanes.now / 10 ≤ length owner.now },
+    ghost kept: { (i : ℕ) → i < length lanes.now / 10
+        → Kept turning.roads.rows.now turning.sections.sections.now lanes.now owner.now i },
+}
+
+impl<'a> OwnedLanes<'a> {
+    // Lanes whose roads are known, and list their sections.
+    pub fn over(turning: Turning<'a>, lanes: &'a [u32], owner: &'a [u32]) -> Self
+        requires owned { length lanes.now / 10 ≤ length owner.now }
+        requires kept { (i : ℕ) → i < length lanes.now / 10
+            → Kept turning.roads.rows.now turning.sections.sections.now lanes.now owner.now i }
+        ensures roads { (result.turning.roads.text.now ≡ turning.entry.roads.text.now)
+            × (result.turning.roads.rows.now ≡ turning.entry.roads.rows.now) }
+        ensures turning { (result.turning.sections.sections.now ≡ turning.entry.sections.sections.now)
+            × (result.turning.marks.now ≡ turning.entry.marks.now) }
+        ensures lanes { (result.lanes.now ≡ lanes.now) × (result.owner.now ≡ owner.now) }
+    {
+        OwnedLanes {
+            turning,
+            lanes,
+            owner,
+        }
     }
-    match way {
-        0 => 1,
-        1 => 0,
+
+    // Lane i's road.
+    fn road(&self, i: usize) -> RoadId
+        requires { i < length self.now.lanes.now / 10 }
+        ensures { suc result.0 ≡ get_or self.now.owner.now i 0 }
+    {
+        RoadId(self.owner[i] - 1)
+    }
+}
+
+// A lane: its row's fields.
+#[derive(Clone, Copy)]
+struct Lane {
+    identity: u32,
+    road: Name,
+    section: u32,
+    number: u32,
+    direction: Direction,
+    successor: Option<u32>,
+    predecessor: Option<u32>,
+}
+
+impl Lane {
+    // The lane of that row.
+    #[tactic(auto, unfolding(model::specs::Tables::lane_in))]
+    fn at(row: &[u32; 10]) -> Lane
+        ensures { lane_read result ≡ lane_in row.now }
+    {
+        Lane {
+            identity: row[0],
+            road: Name::at(row, 1),
+            section: row[3],
+            number: row[4],
+            direction: kinds::direction(row, 0),
+            successor: rows::link(row, 6),
+            predecessor: rows::link(row, 8),
+        }
+    }
+
+    // Its ten words.
+    fn words(self) -> [u32; 10]
+        ensures { result ≡ lane_row (lane_read self) }
+    {
+        let [onward, onto] = rows::link_words(self.successor);
+        let [back, backto] = rows::link_words(self.predecessor);
+        [
+            self.identity,
+            self.road.start,
+            self.road.size,
+            self.section,
+            self.number,
+            kinds::direction_word(self.direction),
+            onward,
+            onto,
+            back,
+            backto,
+        ]
+    }
+}
+
+// A direction: forward and backward swap if the mark is set. (No method: the type is geometry's.)
+fn turned_way(mark: bool, way: Direction) -> Direction
+    ensures { result ≡ reverse_direction mark way }
+{
+    match (mark, way) {
+        (true, Direction::Forward) => Direction::Backward,
+        (true, Direction::Backward) => Direction::Forward,
         _ => way,
     }
 }
 
-// A lane's row: its identity, its road's name, its section, number and direction, and its links at the end and at the
-// start of its road, each a flag and a lane number.
-#[derive(Clone, Copy)]
-struct Row {
-    id: u32,
-    start: u32,
-    size: u32,
-    section: u32,
-    number: u32,
-    way: u32,
-    onward: u32,
-    onto: u32,
-    back: u32,
-    backto: u32,
-}
-
-// A lane's row as it is, from word `at` on.
-fn row_at(lanes: &[u32], at: usize) -> Row
-    requires { at + 10 ≤ length lanes.now }
-    ensures { result ≡ row_at lanes.now at }
+// Whether a link changes sign: by the road that the target from word `at` of the roads on names where the section is
+// the last that way, and else by its own road.
+#[tactic(auto, unfolding(crate::specs::Turned::target_marked))]
+fn sign(turning: &Turning, at: usize, last: bool, mark: bool) -> bool
+    requires { at + 7 ≤ length turning.now.roads.rows.now }
+    ensures { result ≡ cond last
+        (target_marked turning.now.roads.text.now turning.now.roads.rows.now turning.now.marks.now at) mark }
 {
-    Row {
-        id: lanes[at],
-        start: lanes[at + 1],
-        size: lanes[at + 2],
-        section: lanes[at + 3],
-        number: lanes[at + 4],
-        way: lanes[at + 5],
-        onward: lanes[at + 6],
-        onto: lanes[at + 7],
-        back: lanes[at + 8],
-        backto: lanes[at + 9],
+    if last {
+        turning.to_marked(Target::at(turning.roads.rows, at))
+    } else {
+        mark
     }
 }
 
-// A lane's row, from word `at` on, with that section. Its links at the end and at the start of its road change sign
-// by `p` and `q`; the links swap if the mark is set.
-fn lane_with(lanes: &[u32], at: usize, mark: bool, section: u32, p: bool, q: bool) -> [u32; 10]
-    requires { at + 10 ≤ length lanes.now }
-    ensures { result ≡ lane_with lanes.now at mark section p q }
-{
-    let x = row_at(lanes, at);
-    let number = marks::signed_by(mark, x.number);
-    let way = turned_way(mark, x.way);
-    let onto = marks::signed_by(p, x.onto);
-    let backto = marks::signed_by(q, x.backto);
-    if mark {
-        return [
-            x.id, x.start, x.size, section, number, way, x.back, backto, x.onward, onto,
-        ];
-    }
-    [
-        x.id, x.start, x.size, section, number, way, x.onward, onto, x.back, backto,
-    ]
-}
-
-// Whether a link changes sign: by the road that the target names where the section is the last that way, and else by
-// its own road.
-fn sign(
-    text: &[u8],
-    roads: &[u32],
-    heads: &[u32],
-    next: &[u32],
-    marks: &[u32],
+// A lane's link: its number changes sign as `sign` says.
+fn turned_link(
+    turning: &Turning,
+    link: Option<u32>,
     at: usize,
     last: bool,
     mark: bool,
-) -> bool
-    requires ready { Ready text.now roads.now marks.now heads.now next.now }
-    requires at_in_bounds { at + 7 ≤ length roads.now }
-    ensures { result ≡ cond last (to_marked text.now roads.now marks.now at) mark }
+) -> Option<u32>
+    requires { at + 7 ≤ length turning.now.roads.rows.now }
+    ensures { number_read result ≡ map_o (signed (cond last
+        (target_marked turning.now.roads.text.now turning.now.roads.rows.now turning.now.marks.now at) mark))
+        (number_read link) }
 {
-    if last {
-        return marks::to_marked(text, roads, heads, next, marks, at);
-    }
-    mark
+    let number = link?;
+    Some(marks::signed_by(sign(turning, at, last, mark), number))
 }
 
-// A section's number, counted from the other end of its road's if the mark is set.
+// A section's number, counted from the other end of its road's if the mark is set. (A struct of a part and a number in
+// it would be no plainer: it would be built for each call and taken apart in it.)
 fn turned_section(part: &[u32], mark: bool, s: u32) -> u32
     requires { Within part.now s }
     ensures { result ≡ cond mark (mirror part.now s) s }
 {
-    if mark {
-        return roads::mirror_of(part, s);
-    }
-    s
+    if mark { roads::mirror_of(part, s) } else { s }
 }
 
-// Lane i, reversed, on a road that has these sections.
-fn lane_on(
-    text: &[u8],
-    roads: &[u32],
-    heads: &[u32],
-    next: &[u32],
-    marks: &[u32],
-    lanes: &[u32],
-    i: usize,
-    road: RoadId,
-    mark: bool,
-    part: &[u32],
-) -> [u32; 10]
-    requires ready { Ready text.now roads.now marks.now heads.now next.now }
-    requires i_in_bounds { i < length lanes.now / 10 }
-    requires road_in_bounds { road.0 < length roads.now / 20 }
-    requires within { Within part.now (get_or lanes.now (i * 10 + 3) 0) }
-    ensures { result ≡ lane_on text.now roads.now marks.now lanes.now i
-        road.0 mark part.now }
+// A lane, reversed, on a road that has these sections.
+fn lane_on(turning: &Turning, lane: Lane, road: RoadId, mark: bool, part: &[u32]) -> Lane
+    requires road_in_bounds { road.0 < length turning.now.roads.rows.now / 20 }
+    requires within { Within part.now lane.section }
+    ensures { lane_read result ≡ reversed_on turning.now.roads.text.now turning.now.roads.rows.now turning.now.marks.now
+        (lane_read lane) road.0 mark part.now }
 {
+    let at = road.0 as usize * 20;
+    let [first, last] = roads::ends_of(part);
+    let onward = turned_link(turning, lane.successor, at + 11, lane.section == last, mark);
+    let back = turned_link(
+        turning,
+        lane.predecessor,
+        at + 4,
+        lane.section == first,
+        mark,
+    );
+    let (successor, predecessor) = if mark { (back, onward) } else { (onward, back) };
+    Lane {
+        section: turned_section(part, mark, lane.section),
+        number: marks::signed_by(mark, lane.number),
+        direction: turned_way(mark, lane.direction),
+        successor,
+        predecessor,
+        ..lane
+    }
+}
+
+// Lane i, reversed.
+fn turned_lane(owned: &OwnedLanes, i: usize) -> [u32; 10]
+    requires { i < length owned.now.lanes.now / 10 }
+    ensures { result ≡ reversed_lane owned.now.turning.roads.text.now owned.now.turning.roads.rows.now
+        owned.now.turning.sections.sections.now owned.now.turning.marks.now owned.now.lanes.now owned.now.owner.now i }
+{
+    let turning = &owned.turning;
+    let road = owned.road(i);
     let r = road.0 as usize;
-    let s = lanes[i * 10 + 3];
-    let last = s as usize == roads::last_of(part);
-    let first = s as usize == roads::first_of(part);
-    let p = sign(text, roads, heads, next, marks, r * 20 + 11, last, mark);
-    let q = sign(text, roads, heads, next, marks, r * 20 + 4, first, mark);
-    lane_with(lanes, i * 10, mark, turned_section(part, mark, s), p, q)
+    let mark = turning.mark_at(Some(r));
+    let lane = Lane::at(rows::row(owned.lanes, i));
+    lane_on(turning, lane, road, mark, turning.numbers(r)).words()
 }
 
 // Writes the lanes, reversed.
-pub fn put_lanes(
-    text: &[u8],
-    roads: &[u32],
-    sections: &[u32],
-    heads: &[u32],
-    next: &[u32],
-    marks: &[u32],
-    lanes: &[u32],
-    owner: &[u32],
-    out: &mut [u32],
-)
-    requires ready { Ready text.now roads.now marks.now heads.now next.now }
-    requires ready_lanes { ReadyLanes roads.now sections.now lanes.now owner.now out.old }
-    ensures { out.new ≡ written (joined (length lanes.now / 10)
-        (turned_lane text.now roads.now sections.now marks.now
-        lanes.now owner.now)) out.old }
+pub fn put_lanes(owned: &OwnedLanes, out: &mut [u32])
+    requires { length owned.now.lanes.now ≤ length out.old }
+    ensures { out.new ≡ written (joined (length owned.now.lanes.now / 10)
+        (reversed_lane owned.now.turning.roads.text.now owned.now.turning.roads.rows.now
+        owned.now.turning.sections.sections.now owned.now.turning.marks.now owned.now.lanes.now
+        owned.now.owner.now)) out.old }
 {
-    let n = lanes.len() / 10;
-    let mut i = 0;
-    while i < n {
-        let o = rows::word(owner, i);
-        let r = o - 1;
-        let mark = marks::mark_at(marks, o);
-        let part = parts::numbers(roads, sections, r);
-        let id = r as u32;
-        let row = lane_on(
-            text,
-            roads,
-            heads,
-            next,
-            marks,
-            lanes,
-            i,
-            RoadId(id),
-            mark,
-            part,
-        );
-        rows::put(out, i * 10, &row);
-        i += 1;
+    for i in 0..owned.lanes.len() / 10 {
+        rows::put(out, i * 10, &turned_lane(owned, i));
     }
 }
 
-// The twelve floats of two ends.
+// The twelve floats of two ends. (No `From`: neither type is this crate's.)
+#[tactic(auto, unfolding(crate::specs::Turned::floats_of))]
 fn floats(ends: [[Point; 2]; 2]) -> [f32; 12]
     ensures { result ≡ floats_of ends }
 {
-    let start = ends[0];
-    let end = ends[1];
-    let a = start[0];
-    let b = start[1];
-    let c = end[0];
-    let d = end[1];
+    let [start, end] = ends;
+    let [a, b] = start;
+    let [c, d] = end;
     [a.x, a.y, a.z, b.x, b.y, b.z, c.x, c.y, c.z, d.x, d.y, d.z]
 }
 
@@ -209,24 +235,26 @@ fn turned_ends(edges: &[f32], i: usize, mark: bool) -> [[Point; 2]; 2]
     ensures { result ≡ cond mark (swapped (ends_at edges.now i)) (ends_at edges.now i) }
 {
     let ends = edges::ends_at(edges, i);
-    if mark {
-        return edges::turned(ends);
-    }
-    ends
+    if mark { edges::turned(ends) } else { ends }
+}
+
+// The edges of lane i, reversed.
+fn edges_of(owned: &OwnedLanes, edges: &[f32], i: usize) -> [f32; 12]
+    requires { (i < length owned.now.lanes.now / 10) × (i * 12 + 12 ≤ length edges.now) }
+    ensures { result ≡ turned_edges owned.now.owner.now owned.now.turning.marks.now edges.now i }
+{
+    let mark = owned.turning.mark_at(Some(owned.road(i).0 as usize));
+    floats(turned_ends(edges, i, mark))
 }
 
 // Writes the lanes' edges, reversed.
-pub fn put_edges(owner: &[u32], marks: &[u32], edges: &[f32], out: &mut [f32])
-    requires { ReadyEdges owner.now marks.now edges.now out.old }
+pub fn put_edges(owned: &OwnedLanes, edges: &[f32], out: &mut [f32])
+    requires even { length edges.now ≡ 12 * (length owned.now.lanes.now / 10) }
+    requires room { length edges.now ≤ length out.old }
     ensures { out.new ≡ written (joined (length edges.now / 12)
-        (turned_edges owner.now marks.now edges.now)) out.old }
+        (turned_edges owned.now.owner.now owned.now.turning.marks.now edges.now)) out.old }
 {
-    let n = edges.len() / 12;
-    let mut i = 0;
-    while i < n {
-        let mark = marks::mark_at(marks, rows::word(owner, i));
-        let row = floats(turned_ends(edges, i, mark));
-        rows::put_floats(out, i * 12, &row);
-        i += 1;
+    for i in 0..edges.len() / 12 {
+        rows::put(out, i * 12, &edges_of(owned, edges, i));
     }
 }

@@ -2,7 +2,7 @@
 #![tactic(auto)]
 
 pub mod call;
-pub mod lanes;
-pub mod links;
-pub mod marks;
-pub mod roads;
+mod lanes;
+mod links;
+mod marks;
+mod roads;

@@ -1,125 +1,79 @@
-// Connections and their lane pairs.
-ghost use Rattle.std.specs.Prelude.{◌≡◌, ◌+◌, ◌*◌, ◌/◌, ◌≤◌, ◌<◌, length};
-ghost use Rattle.model.specs.Rows.{written};
+// Connections and their lane pairs. Each table has a loop of its own over its rows: one function for all of them would
+// take a closure that gives `[u32; W]`, and the check does not cover a bound `Fn` that names a const parameter yet.
+// A struct of `turning` and the connections would be no plainer: three functions read it, and no rule ties the two.
+ghost use Rattle.std.specs.Prelude.{◌≡◌, ◌+◌, ◌*◌, ◌/◌, ◌≤◌, ◌<◌, length, get_or};
+ghost use Rattle.model.specs.Rows.{part, written};
 ghost use Rattle.words.specs.Rows.{joined, spliced};
-ghost use Rattle.reversal.specs.Turned.{Ready, ReadyPairs, connection_with, pairs_from, turned_connection};
-ghost use Rattle.reversal.specs.Turned.{turned_pairs};
+ghost use Rattle.reversal.specs.Turned.{ReadyPairs, pairs_turned, reversed_connection, turned_pairs};
 
 use crate::marks;
+use crate::marks::Turning;
+use words::name::Name;
 use words::rows;
 
-// A connection's row, from word `at` on, with that contact.
-fn connection_with(connections: &[u32], at: usize, contact: u32) -> [u32; 7]
-    requires { at + 7 ≤ length connections.now }
-    ensures { result ≡ connection_with connections.now at contact }
-{
-    [
-        connections[at],
-        connections[at + 1],
-        connections[at + 2],
-        connections[at + 3],
-        contact,
-        connections[at + 5],
-        connections[at + 6],
-    ]
-}
-
-// Connection i, reversed.
-fn turned_connection(
-    text: &[u8],
-    roads: &[u32],
-    heads: &[u32],
-    next: &[u32],
-    marks: &[u32],
-    connections: &[u32],
-    i: usize,
-) -> [u32; 7]
-    requires ready { Ready text.now roads.now marks.now heads.now next.now }
-    requires i_in_bounds { i < length connections.now / 7 }
-    ensures { result ≡ turned_connection text.now roads.now marks.now
+// Connection i, reversed: its contact turns over if its connecting road is marked.
+fn turned_connection(turning: &Turning, connections: &[u32], i: usize) -> [u32; 7]
+    requires { i < length connections.now / 7 }
+    ensures { result ≡ reversed_connection turning.now.roads.text.now turning.now.roads.rows.now turning.now.marks.now
         connections.now i }
 {
-    let at = i * 7;
-    let mark = marks::marked(text, roads, heads, next, marks, connections, at + 2);
-    let contact = marks::turned_bit(mark, connections[at + 4]);
-    connection_with(connections, at, contact)
+    let row = rows::row::<7>(connections, i);
+    let mut turned = *row;
+    turned[4] = u32::from(turning.marked(Name::at(row, 2)) != rows::flag(row, 4));
+    turned
 }
 
 // Writes the connections, reversed.
-pub fn put_connections(
-    text: &[u8],
-    roads: &[u32],
-    heads: &[u32],
-    next: &[u32],
-    marks: &[u32],
-    connections: &[u32],
-    out: &mut [u32],
-)
-    requires ready { Ready text.now roads.now marks.now heads.now next.now }
-    requires connections_in_bounds { length connections.now ≤ length out.old }
+pub fn put_connections(turning: &Turning, connections: &[u32], out: &mut [u32])
+    requires { length connections.now ≤ length out.old }
     ensures { out.new ≡ written (joined (length connections.now / 7)
-        (turned_connection text.now roads.now marks.now connections.now))
-        out.old }
+        (reversed_connection turning.now.roads.text.now turning.now.roads.rows.now turning.now.marks.now
+        connections.now)) out.old }
 {
-    let n = connections.len() / 7;
-    let mut i = 0;
-    while i < n {
-        let row = turned_connection(text, roads, heads, next, marks, connections, i);
-        rows::put(out, i * 7, &row);
-        i += 1;
+    for i in 0..connections.len() / 7 {
+        rows::put(out, i * 7, &turned_connection(turning, connections, i));
     }
 }
 
-// Writes `count` pairs from row `first` on in their place: their numbers change sign by the marks of the incoming and
-// the connecting road.
-fn put_part(
-    pairs: &[u32],
-    first: usize,
-    count: usize,
-    incoming: bool,
-    connecting: bool,
-    out: &mut [u32],
-)
-    requires count_in_bounds { first + count ≤ length pairs.now / 2 }
-    requires pairs_in_bounds { length pairs.now ≤ length out.old }
-    ensures { out.new
-        ≡ spliced (first * 2) (pairs_from incoming connecting pairs.now first count) out.old }
+// The pairs of the connection of that row.
+fn part_of<'a>(pairs: &'a [u32], row: &[u32; 7]) -> &'a [u32]
+    requires { get_or row.now 5 0 + get_or row.now 6 0 ≤ length pairs.now / 2 }
+    ensures { result.now ≡ part (get_or row.now 5 0 * 2) (get_or row.now 6 0 * 2) pairs.now }
 {
-    let mut k = 0;
-    while k < count {
-        let at = (first + k) * 2;
-        let from = marks::signed_by(incoming, pairs[at]);
-        let to = marks::signed_by(connecting, pairs[at + 1]);
-        rows::put(out, at, &[from, to]);
-        k += 1;
+    let first = rows::word(row, 5) * 2;
+    &pairs[first..first + rows::word(row, 6) * 2]
+}
+
+// Writes the pairs of a part from word `at` on: their numbers change sign by the marks of the incoming and the
+// connecting road.
+fn put_part(part: &[u32], at: usize, incoming: bool, connecting: bool, out: &mut [u32])
+    requires { at + length part.now ≤ length out.old }
+    ensures { out.new ≡ spliced at (pairs_turned incoming connecting part.now) out.old }
+{
+    for (k, pair) in part.chunks_exact(2).enumerate() {
+        let from = marks::signed_by(incoming, pair[0]);
+        let to = marks::signed_by(connecting, pair[1]);
+        rows::put(out, at + k * 2, &[from, to]);
     }
 }
 
 // Writes the pairs of the connections, reversed.
-pub fn put_pairs(
-    text: &[u8],
-    roads: &[u32],
-    heads: &[u32],
-    next: &[u32],
-    marks: &[u32],
-    connections: &[u32],
-    pairs: &[u32],
-    out: &mut [u32],
-)
-    requires ready { Ready text.now roads.now marks.now heads.now next.now }
-    requires ready_pairs { ReadyPairs connections.now pairs.now out.old }
+pub fn put_pairs(turning: &Turning, connections: &[u32], pairs: &[u32], out: &mut [u32])
+    requires { ReadyPairs connections.now pairs.now out.old }
     ensures { out.new ≡ written (joined (length connections.now / 7)
-        (turned_pairs text.now roads.now marks.now connections.now
+        (turned_pairs turning.now.roads.text.now turning.now.roads.rows.now turning.now.marks.now connections.now
         pairs.now)) out.old }
 {
-    let n = connections.len() / 7;
-    let mut i = 0;
-    while i < n {
-        let incoming = marks::marked(text, roads, heads, next, marks, connections, i * 7);
-        let connecting = marks::marked(text, roads, heads, next, marks, connections, i * 7 + 2);
-        let first = rows::word(connections, i * 7 + 5);
-        let count = rows::word(connections, i * 7 + 6);
-        put_part(pairs, first, count, incoming, connecting, out);
-        i += 1;
+    for i in 0..connections.len() / 7 {
+        let row = rows::row::<7>(connections, i);
+        let incoming = turning.marked(Name::at(row, 0));
+        let connecting = turning.marked(Name::at(row, 2));
+        put_part(
+            part_of(pairs, row),
+            rows::word(row, 5) * 2,
+            incoming,
+            connecting,
+            out,
+        );
     }
 }

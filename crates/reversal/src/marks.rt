@@ -1,74 +1,105 @@
 // Marks by row and by name, and what a mark turns.
-ghost use Rattle.std.specs.Prelude.{◌≡◌, ◌+◌, ◌≤◌, ◌<◌, length};
-ghost use Rattle.model.specs.Reversal.{signed};
-ghost use Rattle.words.specs.Rows.{name_from};
-ghost use Rattle.reversal.specs.Turned.{mark_at, mark_of, Ready, to_marked, turn_bit};
+ghost use Rattle.std.specs.Prelude.{◌≡◌, true, ◌/◌, ◌≤◌, ◌<◌, Some, length};
+ghost use Rattle.model.specs.Lists.{ascends, map_o};
+ghost use Rattle.model.specs.Reversal.{reverse_target, signed};
+ghost use Rattle.words.specs.Chain.{stored};
+ghost use Rattle.words.specs.Fields.{target_read};
+ghost use Rattle.words.specs.Name.{place_of};
+ghost use Rattle.words.specs.Rows.{all};
+ghost use Rattle.rules.specs.ByRow.{numbers_at};
+ghost use Rattle.reversal.specs.Turned.{mark_at, mark_of, names_marked};
 
-use words::tests::{both, is};
-use words::{index, numbers, rows};
+use rules::parts::Sections;
+use words::by_key::ByName;
+use words::name::Name;
+use words::target::Target;
+use words::{numbers, rows};
 
-// Whether the road with that row plus 1 is marked; 0 is no road.
-pub fn mark_at(marks: &[u32], road: usize) -> bool
-    requires { road ≤ length marks.now }
-    ensures { result ≡ mark_at marks.now road }
-{
-    if road == 0 {
-        return false;
-    }
-    marks[road - 1] == 1
+// The roads by name, their sections, and a mark for each.
+#[derive(Clone, Copy)]
+pub struct Turning<'a> {
+    pub roads: ByName<'a, 20>,
+    pub sections: Sections<'a>,
+    pub marks: &'a [u32],
+    ghost same: { sections.roads.now ≡ roads.rows.now },
+    ghost up: { all (length roads.rows.now / 20)
+        (λ i. ascends (numbers_at roads.rows.now sections.sections.now i)) ≡ true },
+    ghost even: { length marks.now ≡ length roads.rows.now / 20 },
 }
 
-// Whether the road is marked whose name stands at words `at` and `at + 1` of a table. An unknown one is not.
-pub fn marked(
-    text: &[u8],
-    roads: &[u32],
-    heads: &[u32],
-    next: &[u32],
-    marks: &[u32],
-    table: &[u32],
-    at: usize,
-) -> bool
-    requires ready { Ready text.now roads.now marks.now heads.now next.now }
-    requires at_in_bounds { at + 1 < length table.now }
-    ensures { result ≡ mark_of text.now roads.now marks.now (name_from table.now at) }
-{
-    let start = rows::word(table, at);
-    let size = rows::word(table, at + 1);
-    let n = roads.len() / 20;
-    mark_at(
-        marks,
-        index::find_name(text, roads, 20, 0, heads, next, n, start, size),
-    )
-}
-
-// Whether the target from word `at` of the roads on names a marked road.
-pub fn to_marked(
-    text: &[u8],
-    roads: &[u32],
-    heads: &[u32],
-    next: &[u32],
-    marks: &[u32],
-    at: usize,
-) -> bool
-    requires ready { Ready text.now roads.now marks.now heads.now next.now }
-    requires at_in_bounds { at + 7 ≤ length roads.now }
-    ensures { result ≡ to_marked text.now roads.now marks.now at }
-{
-    let road = both(is(roads[at], 1), is(roads[at + 1], 0));
-    both(road, marked(text, roads, heads, next, marks, roads, at + 2))
-}
-
-// A flag, turned over if the mark is set.
-pub fn turned_bit(mark: bool, bit: u32) -> u32
-    ensures { result ≡ turn_bit mark bit }
-{
-    if !mark {
-        return bit;
+impl<'a> Turning<'a> {
+    // Roads whose numbers ascend, and that have a mark each.
+    pub fn over(roads: ByName<'a, 20>, sections: Sections<'a>, marks: &'a [u32]) -> Self
+        requires same { sections.roads.now ≡ roads.rows.now }
+        requires up { all (length roads.rows.now / 20)
+            (λ i. ascends (numbers_at roads.rows.now sections.sections.now i)) ≡ true }
+        requires even { length marks.now ≡ length roads.rows.now / 20 }
+        ensures roads { (result.roads.text.now ≡ roads.entry.text.now)
+            × (result.roads.rows.now ≡ roads.entry.rows.now) }
+        ensures sections { result.sections.sections.now ≡ sections.entry.sections.now }
+        ensures marks { result.marks.now ≡ marks.now }
+    {
+        Turning {
+            roads,
+            sections,
+            marks,
+        }
     }
-    if bit == 0 {
-        return 1;
+
+    // The section numbers of a road.
+    pub fn numbers(&self, road: usize) -> &'a [u32]
+        requires { road < length self.now.roads.rows.now / 20 }
+        ensures { result.now ≡ numbers_at self.now.roads.rows.now self.now.sections.sections.now road }
+    {
+        self.sections.numbers(road)
     }
-    0
+
+    // Whether the road of that row is marked; none is not.
+    pub fn mark_at(&self, road: Option<usize>) -> bool
+        requires { stored road ≤ length self.now.marks.now }
+        ensures { result ≡ mark_at self.now.marks.now (stored road) }
+    {
+        road.is_some_and(|r| rows::flag(self.marks, r))
+    }
+
+    // Whether the road of that name is marked; an unknown one is not.
+    pub fn marked(&self, name: Name) -> bool
+        ensures { result ≡ mark_of self.now.roads.text.now self.now.roads.rows.now self.now.marks.now (place_of name) }
+    {
+        self.mark_at(self.roads.find(name))
+    }
+
+    // Whether a target names a marked road.
+    fn leads(&self, target: Target) -> bool
+        ensures { result ≡ names_marked (mark_of self.now.roads.text.now self.now.roads.rows.now self.now.marks.now)
+            (target_read (Some target)) }
+    {
+        !target.is_junction && self.marked(target.name)
+    }
+
+    // Whether a target that may be absent names a marked road.
+    // (No `is_some_and`: the check learns nothing of a closure on self without clauses, and with them it is longer.)
+    pub fn to_marked(&self, target: Option<Target>) -> bool
+        ensures { result ≡ names_marked (mark_of self.now.roads.text.now self.now.roads.rows.now self.now.marks.now)
+            (target_read target) }
+    {
+        match target {
+            Some(target) => self.leads(target),
+            None => false,
+        }
+    }
+
+    // A target, reversed: its contact turns over if it names a marked road.
+    pub fn turned(&self, target: Option<Target>) -> Option<Target>
+        ensures { target_read result ≡ map_o (reverse_target (mark_of self.now.roads.text.now self.now.roads.rows.now
+            self.now.marks.now)) (target_read target) }
+    {
+        let target = target?;
+        Some(Target {
+            contact: target.contact != self.leads(target),
+            ..target
+        })
+    }
 }
 
 // A lane number, with its sign changed if the mark is set.
@@ -76,7 +107,8 @@ pub fn signed_by(mark: bool, number: u32) -> u32
     ensures { result ≡ signed mark number }
 {
     if mark {
-        return numbers::negate(number);
+        numbers::negate(number)
+    } else {
+        number
     }
-    number
 }

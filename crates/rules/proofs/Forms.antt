@@ -1,7 +1,7 @@
 -- Each rule of the model's specs/Rules by row numbers.
 use native.Mathlib.Numerals.{add-one}
 use mathlib.Core.Logic.{⊎_elim}
-use Prim.Native.Nat.{ℕ, zero, suc, ◌+◌, ◌*◌, ◌/◌, ◌<◌, ◌≤◌, ◌-◌}
+use Prim.Native.Nat.{ℕ, zero, suc, ◌+◌, ◌*◌, ◌/◌, ◌<◌, ◌≤◌}
 use mathlib.Core.Path.{◌≡◌, refl, sym, ap, ap₂, ◌∙◌, subst}
 use mathlib.Core.List.{List, [], ◌∷◌, ◌++◌, map}
 use mathlib.Core.Option.{Option, none, some}
@@ -22,7 +22,8 @@ use Rattle.model.specs.Tables.{lane_in, lanes_in, road_in, roads_in, span_in}
 use Rattle.model.specs.Text.{bytes_of, equal_bytes, same_in}
 use Rattle.words.specs.Keys.{bears, id_before, is_id, name_before}
 use Rattle.words.specs.Rows.{all, any, from, last_of, name_at, span, tab}
-use Rattle.words.proofs.Chains.{last_any, last_hit, last_miss, last_none}
+use Rattle.words.proofs.Chains as chains
+use Rattle.words.proofs.Chains.{last_any, last_hit, last_le, last_miss, last_none}
 use Rattle.words.proofs.KeyLaws.{equal_refl, equal_sound}
 use Rattle.words.proofs.Laws.{any_at, any_same}
 use Rattle.words.proofs.Scans.{Local, all_more, all_none, all_same, distinct_tab, every_tab, map_rows}
@@ -73,7 +74,7 @@ roads_once_lem text roads sections =
     (λ j. same_in text (name_at 20 0 roads j) (name_at 20 0 roads i))
     (λ j lt. ap₂ (same_in text) (name_at_lem 20 0 roads j) (name_at_lem 20 0 roads i)))
 
-first_word : (w : ℕ) (ws : List ℕ) (i : ℕ) → get_or (from w ws i) 0 0 ≡ get_or ws (i * w) 0
+pub first_word : (w : ℕ) (ws : List ℕ) (i : ℕ) → get_or (from w ws i) 0 0 ≡ get_or ws (i * w) 0
 first_word w ws i = get_or-drop (i * w) ws 0 0 ∙ ap (λ (m : ℕ). get_or ws m 0) (add-zero (i * w))
 
 -- 6
@@ -178,9 +179,7 @@ unfolding bears
 two_alike text roads m i j a b = same_both text (name_at 20 0 roads i) (name_at 20 0 roads j) m a b
 
 pub last_same : (n : ℕ) (p q : ℕ → Bool) → ((i : ℕ) → p i ≡ q i) → last_of n p ≡ last_of n q
-unfolding last_of
-last_same zero p q h = refl
-last_same (suc n) p q h = ap₂ (λ b (k : ℕ). cond b (suc n) k) (h n) (last_same n p q h)
+last_same n p q h = chains.last_same n p q (λ i lt. h i)
 
 -- the record of a row plus 1
 abbrev pub record_at : {R : Type 0} → (ℕ → R) → ℕ → Option R
@@ -255,33 +254,23 @@ module _ (text roads sections : List ℕ) (m : Span) where
       ∙ ap (member s) (numbers_at_lem roads sections r)
 
 -- ---- 7: the road found by its row
-pub listed_none : (roads sections : List ℕ) (road s : ℕ) → road ≡ 0 → false ≡ listed_by roads sections road s
-listed_none roads sections road s e = sym (ap (λ (k : ℕ). listed_by roads sections k s) e)
+pub road_row_le : (text roads : List ℕ) (m : Span) → road_row_of text roads m ≤ length roads / 20
+unfolding road_row_of
+road_row_le text roads m = last_le (length roads / 20) (bears text 20 0 roads m)
 
-pub listed_some : (roads sections : List ℕ) (road s : ℕ) → (road ≡ 0 → ⊥)
-    → member s (numbers_at roads sections (road - 1)) ≡ listed_by roads sections road s
-listed_some roads sections zero s n = absurd (n refl)
-listed_some roads sections (suc r) s n =
-    ap (λ (k : ℕ). member s (numbers_at roads sections k)) (let e : suc r - 1 ≡ r = omega arith in e)
-
-pub listed_row : (text roads sections : List ℕ) (m : Span) (s road : ℕ)
-    → any (length roads / 20) (name_before text 20 0 roads) ≡ false
-    → road ≡ last_of (length roads / 20) (bears text 20 0 roads m)
+listed_row : (text roads sections : List ℕ) (m : Span) (s road : ℕ)
+    → any (length roads / 20) (name_before text 20 0 roads) ≡ false → road ≡ road_row_of text roads m
     → listed_by roads sections road s ≡ known_in text roads sections m s
+unfolding road_row_of
 listed_row text roads sections m s zero once e = sym (known_none text roads sections m s (sym e))
 listed_row text roads sections m s (suc r) once e = sym (known_some text roads sections m s r once (sym e))
 
 -- an owner more
-pub owned_more : (text roads lanes owner : List ℕ) (i : ℕ) {new_owner : List ℕ} {f : ℕ}
-    → Owned text roads lanes i owner → i < length owner
-    → f ≡ last_of (length roads / 20) (bears text 20 0 roads (name_at 10 1 lanes i)) → new_owner ≡ set owner i f
-    → Owned text roads lanes (i + 1) new_owner
-unfolding road_row_of
-owned_more text roads lanes owner i {new_owner} {f} owned room found is =
-    record { at = λ k lt. ap (λ (o : List ℕ). get_or o k 0) is ∙ go k lt }
+owned_more : (text roads lanes owner : List ℕ) (i : ℕ) {f : ℕ} → Owned text roads lanes i owner → i < length owner
+    → f ≡ road_row_of text roads (name_at 10 1 lanes i) → Owned text roads lanes (i + 1) (set owner i f)
+owned_more text roads lanes owner i {f} owned room found = record { at = go }
   where
-    go : (k : ℕ) → k < i + 1
-        → get_or (set owner i f) k 0 ≡ last_of (length roads / 20) (bears text 20 0 roads (name_at 10 1 lanes k))
+    go : (k : ℕ) → k < i + 1 → get_or (set owner i f) k 0 ≡ road_row_of text roads (name_at 10 1 lanes k)
     go k lt = ⊎_elim
         (λ same. rw same (get_or-set_same owner i f 0 room ∙ found))
         (λ less. get_or-set_other owner i k f 0 (λ same. omega arith) ∙ owned.at k less)
@@ -289,7 +278,6 @@ owned_more text roads lanes owner i {new_owner} {f} owned room found is =
 
 -- what 7 keeps before lane i: whether the sections of the lanes below i are listed, and these lanes' roads
 pub record Listing (text roads sections lanes owner : List ℕ) (every : Bool) (i : ℕ) : Type 0 where
-  pub below : i ≤ length lanes / 10
   pub listed : every ≡ all i (listed_at text roads sections lanes)
   pub room : length owner ≡ 16384
   pub owned : Owned text roads lanes i owner
@@ -297,32 +285,23 @@ pub record Listing (text roads sections lanes owner : List ℕ) (every : Bool) (
 module _ {text roads sections lanes : List ℕ} where
   pub listing_none : {owner : List ℕ} → length owner ≡ 16384 → Listing text roads sections lanes owner true 0
   listing_none room = record {
-    below = omega arith;
     listed = sym (all_none _);
     room = room;
     owned = record { at = λ k lt. absurd (not-suc-le-zero lt) };
   }
 
-  module _ {owner : List ℕ} {every : Bool} {i : ℕ} (listing : Listing text roads sections lanes owner every i) where
-    -- lane i's road was looked for by its name, and its section in that road
-    pub listing_more : {road : ℕ} {known new_every : Bool} {new_owner : List ℕ} → i < length lanes / 10
-        → length lanes / 10 ≤ 16384 → any (length roads / 20) (name_before text 20 0 roads) ≡ false
-        → road ≡ last_of (length roads / 20) (bears text 20 0 roads (name_at 10 1 lanes i))
-        → known ≡ listed_by roads sections road (get_or lanes (i * 10 + 3) 0) → new_every ≡ (every && known)
-        → new_owner ≡ set owner i road → Listing text roads sections lanes new_owner new_every (i + 1)
-    listing_more {road} less few once found Known-is every-is owner_is =
-        let room : i < length owner = omega (arith, listing.room) in
-        let section_is = Known-is ∙ listed_row text roads sections (name_at 10 1 lanes i) _ road once found in
-        record {
-          below = omega arith;
-          listed = every-is ∙ ap₂ ◌&&◌ listing.listed section_is ∙ sym (all_more i _);
-          room = ap length owner_is ∙ simp length-set listing.room;
-          owned = owned_more text roads lanes owner i listing.owned room found owner_is;
-        }
-
-    -- the end
-    pub all_listed : length lanes / 10 ≤ i
-        → (every ≡ all (length lanes / 10) (listed_at text roads sections lanes))
-        × Owned text roads lanes (length lanes / 10) owner
-    all_listed past = let end : i ≡ length lanes / 10 = omega (arith, listing.below) in
-        (rw end at listing.listed, rw end at listing.owned)
+  -- lane i's road was looked for by its name, and its section in that road
+  pub listing_more : {owner : List ℕ} {every : Bool} {i word : ℕ} {known : Bool} (road : ℕ)
+      → Listing text roads sections lanes owner every i → i < 16384
+      → any (length roads / 20) (name_before text 20 0 roads) ≡ false
+      → road ≡ road_row_of text roads (name_at 10 1 lanes i) → word ≡ road
+      → known ≡ listed_by roads sections road (get_or lanes (i * 10 + 3) 0)
+      → Listing text roads sections lanes (set owner i word) (every && known) (i + 1)
+  listing_more {owner} {every} {i} road listing few once found word_is known_is =
+      let room : i < length owner = omega (arith, listing.room) in
+      let section_is = known_is ∙ listed_row text roads sections (name_at 10 1 lanes i) _ road once found in
+      record {
+        listed = ap₂ ◌&&◌ listing.listed section_is ∙ sym (all_more i _);
+        room = simp length-set listing.room;
+        owned = owned_more text roads lanes owner i listing.owned room (word_is ∙ found);
+      }

@@ -9,9 +9,9 @@ use native.Mathlib.Omega.{arith}
 use lib.ListN.{length, get_or, drop}
 use lib.Seq.{get_or-drop}
 use lib.Dec.{eqb}
-use borrow.Author.Tests.{ne_eqb, not-true}
+use borrow.Author.Tests.{not-true}
 use Rattle.model.specs.Lists.{distinct, every, some?}
-use Rattle.model.specs.Records.{Connection, Junction, Road, Span}
+use Rattle.model.specs.Records.{Connection, Junction, JunctionKind, Road, Span, common, direct, virtual}
 use Rattle.model.specs.Repair.{names_junction}
 use Rattle.model.specs.Reversal.{marked}
 use Rattle.model.specs.Rows.{table, word}
@@ -19,7 +19,7 @@ use Rattle.model.specs.Rules.{is_direct, names_direct_twice, names_once, names_t
 use Rattle.model.specs.Tables.{connections_in, junction_in, junctions_in, kind_of, road_in, roads_in, target_of}
 use Rattle.model.specs.Text.{bytes_of, equal_bytes, same_in}
 use Rattle.laws.proofs.RowTests.{some_found}
-use Rattle.words.specs.Keys.{is_direct_of}
+use Rattle.words.specs.Keys.{is_kind, is_kind_of}
 use Rattle.words.specs.Rows.{all, any, from, name_at, name_from, span}
 use Rattle.words.proofs.KeyLaws.{equal_off, equal_on, equal_refl, equal_sound}
 use Rattle.words.proofs.Laws.{any_same, tab_at, tab_length}
@@ -37,10 +37,10 @@ any_factor true (suc n) p = ap (λ b. b || p n) (any_factor true n p)
 any_factor false (suc n) p = ap (λ b. b || false) (any_factor false n p)
 
 -- ---- words
-kind_is : (k : ℕ) → is_direct (kind_of k) ≡ eqb k 1
-kind_is zero = refl
-kind_is (suc zero) = refl
-kind_is (suc (suc n)) = sym (ne_eqb (suc (suc n)) 1 (λ z. omega arith))
+kind_is : (k : JunctionKind) → is_direct k ≡ is_kind direct k
+kind_is common = refl
+kind_is direct = refl
+kind_is virtual = refl
 
 junction_named : (same : Span → Span → Bool) (j : Span) (p k s n c g a : ℕ)
     → names_junction same j (target_of p k s n c g a) ≡ ((eqb p 1 && eqb k 1) && same (span s n) j)
@@ -158,9 +158,13 @@ module _ (text roads junctions : List ℕ) (C : List Connection) (sections : Lis
       (get_or (drop at roads) 16 0) (get_or (drop at roads) 17 0)
       ∙ simp (get_or-drop at roads, add_assoc)
 
-  direct_is : (q : ℕ) → is_direct (junction_in C (from 5 junctions q)).kind ≡ eqb (get_or junctions (q * 5 + 2) 0) 1
+  direct_is : (q : ℕ)
+      → is_direct (junction_in C (from 5 junctions q)).kind
+      ≡ is_kind direct (kind_of (get_or junctions (q * 5 + 2) 0))
   unfolding junction_in
-  direct_is q = kind_is (word (from 5 junctions q) 2) ∙ ap (λ (k : ℕ). eqb k 1) (get_or-drop (q * 5) junctions 2 0)
+  direct_is q =
+      kind_is (kind_of (word (from 5 junctions q) 2))
+      ∙ ap (λ (k : ℕ). is_kind direct (kind_of k)) (get_or-drop (q * 5) junctions 2 0)
 
   called : (q : ℕ) → (junction_in C (from 5 junctions q)).name ≡ name_at 5 0 junctions q
   unfolding junction_in
@@ -174,16 +178,17 @@ module _ (text roads junctions : List ℕ) (C : List Connection) (sections : Lis
   one_junction : (at q : ℕ)
       → (is_direct (junction_in C (from 5 junctions q)).kind
       && names_twice (same_in text) (junction_in C (from 5 junctions q)).name (road_in sections (drop at roads)))
-      ≡ (both_ends at && is_direct_of text junctions (name_from roads (at + 6)) q)
-  unfolding names_twice is_direct_of
+      ≡ (both_ends at && is_kind_of direct text junctions (name_from roads (at + 6)) q)
+  unfolding names_twice is_kind_of
   one_junction at q =
       ap₂ ◌&&◌ (direct_is q) (ap₂ ◌&&◌ (first_names at (junction_in C (from 5 junctions q)).name)
       (last_names at (junction_in C (from 5 junctions q)).name))
-      ∙ ap (λ (n : Span). eqb (get_or junctions (q * 5 + 2) 0) 1
+      ∙ ap (λ (n : Span). is_kind direct (kind_of (get_or junctions (q * 5 + 2) 0))
       && ((to_junction roads (at + 4) && same_in text (name_from roads (at + 6)) n)
       && (to_junction roads (at + 11) && same_in text (name_from roads (at + 13)) n))) (called q)
       ∙ pairwise text (name_from roads (at + 6)) (name_from roads (at + 13)) (name_at 5 0 junctions q)
-      (eqb (get_or junctions (q * 5 + 2) 0) 1) (to_junction roads (at + 4)) (to_junction roads (at + 11))
+      (is_kind direct (kind_of (get_or junctions (q * 5 + 2) 0))) (to_junction roads (at + 4))
+      (to_junction roads (at + 11))
 
   some_direct : (at : ℕ)
       → some? (λ j. is_direct j.kind && names_twice (same_in text) j.name (road_in sections (drop at roads)))
@@ -193,12 +198,12 @@ module _ (text roads junctions : List ℕ) (C : List Connection) (sections : Lis
       let test : Junction → Bool =
       λ j. is_direct j.kind && names_twice (same_in text) j.name (road_in sections (drop at roads)) in
       let n = length junctions / 5 in
-      let direct = is_direct_of text junctions (name_from roads (at + 6)) in
+      let borne = is_kind_of direct text junctions (name_from roads (at + 6)) in
       ap (some? test) (map_rows 5 junctions (junction_in C) (junction_in_local C))
       ∙ some_tab test n (λ q. junction_in C (from 5 junctions q))
-      ∙ any_same n (λ q. test (junction_in C (from 5 junctions q))) (λ q. both_ends at && direct q)
+      ∙ any_same n (λ q. test (junction_in C (from 5 junctions q))) (λ q. both_ends at && borne q)
       (λ q lt. one_junction at q)
-      ∙ any_factor (both_ends at) n direct
+      ∙ any_factor (both_ends at) n borne
 
 own_name : (text : List ℕ) (a : Span) → same_in text a a ≡ true
 unfolding same_in
@@ -219,11 +224,11 @@ one_ended_lem text roads sections junctions connections pairs marks once len =
     let test : Road → Bool =
     λ r. not (marked same rs marks r.name
     && some? (λ j. is_direct j.kind && names_twice same j.name r) js) in
-    let direct = some_direct text roads junctions (connections_in pairs connections) sections in
+    let borne = some_direct text roads junctions (connections_in pairs connections) sections in
     ap (every test) (roads_tab roads sections)
     ∙ every_tab test n road
     ∙ all_same n (λ i. test (road i)) (λ i. not (eqb (get_or marks i 0) 1 && twice_from text roads junctions (i * 20)))
-    (λ i lt. ap₂ (λ a b. not (a && b)) (mark i lt) (direct (i * 20)))
+    (λ i lt. ap₂ (λ a b. not (a && b)) (mark i lt) (borne (i * 20)))
   where
     mark : (i : ℕ) → i < length roads / 20
         → marked (same_in text) (roads_in sections roads) marks (road_in sections (from 20 roads i)).name

@@ -3,20 +3,17 @@
 use Rattle.std.specs.Prelude.{ℕ, zero, suc, ◌+◌, ◌*◌, ◌/◌, ◌<◌, ◌≤◌, ◌≡◌, List, Bool, false, not, ◌&&◌, length, get_or}
 use Rattle.std.specs.Prelude.{eqb}
 use Rattle.model.specs.Lists.{member}
-use Rattle.model.specs.Records.{Span}
-use Rattle.model.specs.Text.{same_in, placed}
+use Rattle.model.specs.Records.{Span, direct}
+use Rattle.model.specs.Text.{same_in}
 use Rattle.model.specs.Rows.{part}
 use Rattle.model.specs.Succession.{sections_of}
 use Rattle.model.specs.Tables.{roads_in}
 use Rattle.model.specs.Rules.{target_worded, link_worded}
 use Rattle.words.specs.Rows.{any, last_of, name_from, name_at}
 use Rattle.words.specs.Chain.{Chained}
-use Rattle.words.specs.Keys.{bears, is_direct_of, lane_hash, name_hash}
+use Rattle.words.specs.Keys.{bears, is_kind_of, lane_hash, name_hash}
 
--- ---- 2: names, targets and links at word a of a table
-abbrev pub placed_at : List ℕ → List ℕ → ℕ → Bool
-placed_at text ws a = placed text (name_from ws a)
-
+-- ---- 2: targets and links at word a of a row
 abbrev pub target_fits : List ℕ → List ℕ → ℕ → Bool
 target_fits text ws a =
     target_worded text (get_or ws a 0) (get_or ws (a + 1) 0) (get_or ws (a + 2) 0) (get_or ws (a + 3) 0)
@@ -60,18 +57,11 @@ unfoldable pub twice_from : List ℕ → List ℕ → List ℕ → ℕ → Bool
 twice_from text roads junctions a =
     to_junction roads (a + 4) && to_junction roads (a + 11) && same_in text (name_from roads (a + 13))
     (name_from roads (a + 6))
-    && any (length junctions / 5) (is_direct_of text junctions (name_from roads (a + 6)))
+    && any (length junctions / 5) (is_kind_of direct text junctions (name_from roads (a + 6)))
 
 -- road i is not marked, or does not
 unfoldable pub turns_twice : List ℕ → List ℕ → List ℕ → List ℕ → ℕ → Bool
 turns_twice text roads junctions marks i = not (eqb (get_or marks i 0) 1 && twice_from text roads junctions (i * 20))
-
--- the junctions, not too many, linked by name
-pub record ByName (text junctions heads next : List ℕ) : Type 0 where
-  pub few : length junctions / 5 ≤ 16384
-  pub buckets : length heads ≡ 16384
-  pub rows : length next ≡ 16384
-  pub chains : Chained (name_hash text 5 0 junctions) (length junctions / 5) heads next
 
 -- what rule 1 says of the tables whose rows are counted
 pub record Few (roads sections connections pairs : List ℕ) : Type 0 where

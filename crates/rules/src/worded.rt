@@ -1,159 +1,111 @@
-// 2: a word or name breaks the table rules.
-ghost use Rattle.std.specs.Prelude.{◌≡◌, ◌&&◌, ◌+◌, ◌*◌, ◌/◌, ◌≤◌, ◌<◌, length, get_or, drop};
+// 2: a word or name breaks the table rules. (The rule is about the words: here they are read as they stand.)
+ghost use Rattle.std.specs.Prelude.{◌≡◌, ◌+◌, ◌≤◌, ◌<◌, length};
 ghost use Rattle.model.specs.Lists.{every};
 ghost use Rattle.model.specs.Rows.{table};
-ghost use Rattle.model.specs.Rules.{road_worded, junction_worded, connection_worded, lane_worded};
-ghost use Rattle.rules.specs.ByRow.{placed_at, target_fits, link_fits};
+ghost use Rattle.model.specs.Rules.{road_worded, junction_worded, connection_worded, lane_worded, map_worded};
+ghost use Rattle.words.specs.Map.{map_read};
+ghost use Rattle.rules.specs.ByRow.{target_fits, link_fits};
 
-use words::rows;
-use words::tests::{both, is, most};
-
-// Whether the name at words `at` and `at + 1` lies in the text.
-fn placed_at(text: &[u8], ws: &[u32], at: usize) -> bool
-    requires { at + 1 < length ws.now }
-    ensures { result ≡ placed_at text.now ws.now at }
-{
-    let s = rows::word(ws, at);
-    let n = rows::word(ws, at + 1);
-    s + n <= text.len()
-}
+use words::map::MapTables;
+use words::name::Name;
 
 // Whether the target from word `at` on keeps the rules.
-fn target_fits(text: &[u8], ws: &[u32], at: usize) -> bool
-    requires { at + 6 < length ws.now }
-    ensures { result ≡ target_fits text.now ws.now at }
+#[tactic(auto, unfolding(model::specs::Rules::target_worded))]
+fn target_fits(text: &[u8], row: &[u32], at: usize) -> bool
+    requires { at + 6 < length row.now }
+    ensures { result ≡ target_fits text.now row.now at }
 {
-    if ws[at] == 1 {
-        let a = both(most(ws[at + 1], 1), placed_at(text, ws, at + 2));
-        return both(
-            both(both(a, most(ws[at + 4], 1)), most(ws[at + 5], 1)),
-            most(ws[at + 6], 1),
-        );
+    if row[at] == 1 {
+        return row[at + 1] <= 1
+            && Name::at(row, at + 2).is_placed(text)
+            && row[at + 4] <= 1
+            && row[at + 5] <= 1
+            && row[at + 6] <= 1;
     }
-    let b = both(
-        both(is(ws[at + 1], 0), is(ws[at + 2], 0)),
-        is(ws[at + 3], 0),
-    );
-    both(
-        is(ws[at], 0),
-        both(
-            both(both(b, is(ws[at + 4], 0)), is(ws[at + 5], 0)),
-            is(ws[at + 6], 0),
-        ),
-    )
+    row[at..at + 7] == [0; 7]
 }
 
 // Whether the link at words `at` and `at + 1` does.
-fn link_fits(ws: &[u32], at: usize) -> bool
-    requires { at + 1 < length ws.now }
-    ensures { result ≡ link_fits ws.now at }
+#[tactic(auto, unfolding(model::specs::Rules::link_worded))]
+fn link_fits(row: &[u32], at: usize) -> bool
+    requires { at + 1 < length row.now }
+    ensures { result ≡ link_fits row.now at }
 {
-    if ws[at] == 1 {
-        return true;
-    }
-    both(most(ws[at], 1), is(ws[at + 1], 0))
+    row[at] == 1 || row[at] == 0 && row[at + 1] == 0
 }
 
-fn road_worded(text: &[u8], ws: &[u32], at: usize) -> bool
-    requires { at + 20 ≤ length ws.now }
-    ensures { result ≡ road_worded text.now (drop at ws.now) }
+#[tactic(auto, unfolding(model::specs::Rules::road_worded))]
+fn road_worded(text: &[u8], row: &[u32]) -> bool
+    requires { 20 ≤ length row.now }
+    ensures { result ≡ road_worded text.now row.now }
 {
-    let n = placed_at(text, ws, at);
-    let p = target_fits(text, ws, at + 4);
-    let s = target_fits(text, ws, at + 11);
-    if both(is(ws[at + 2], 4294967295), is(ws[at + 3], 0)) {
-        return both(both(n, p), s);
-    }
-    both(both(both(n, placed_at(text, ws, at + 2)), p), s)
+    let junction = Name::at(row, 2);
+    Name::at(row, 0).is_placed(text)
+        && (junction.is_absent() || junction.is_placed(text))
+        && target_fits(text, row, 4)
+        && target_fits(text, row, 11)
 }
 
-fn junction_worded(text: &[u8], ws: &[u32], at: usize) -> bool
-    requires { at + 5 ≤ length ws.now }
-    ensures { result ≡ junction_worded text.now (drop at ws.now) }
+#[tactic(auto, unfolding(model::specs::Rules::junction_worded))]
+fn junction_worded(text: &[u8], row: &[u32]) -> bool
+    requires { 5 ≤ length row.now }
+    ensures { result ≡ junction_worded text.now row.now }
 {
-    both(placed_at(text, ws, at), most(ws[at + 2], 2))
+    Name::at(row, 0).is_placed(text) && row[2] <= 2
 }
 
-fn connection_worded(text: &[u8], ws: &[u32], at: usize) -> bool
-    requires { at + 7 ≤ length ws.now }
-    ensures { result ≡ connection_worded text.now (drop at ws.now) }
+#[tactic(auto, unfolding(model::specs::Rules::connection_worded))]
+fn connection_worded(text: &[u8], row: &[u32]) -> bool
+    requires { 7 ≤ length row.now }
+    ensures { result ≡ connection_worded text.now row.now }
 {
-    both(
-        both(placed_at(text, ws, at), placed_at(text, ws, at + 2)),
-        most(ws[at + 4], 1),
-    )
+    Name::at(row, 0).is_placed(text) && Name::at(row, 2).is_placed(text) && row[4] <= 1
 }
 
-fn lane_worded(text: &[u8], ws: &[u32], at: usize) -> bool
-    requires { at + 10 ≤ length ws.now }
-    ensures { result ≡ lane_worded text.now (drop at ws.now) }
+#[tactic(auto, unfolding(model::specs::Rules::lane_worded))]
+fn lane_worded(text: &[u8], row: &[u32]) -> bool
+    requires { 10 ≤ length row.now }
+    ensures { result ≡ lane_worded text.now row.now }
 {
-    let a = both(placed_at(text, ws, at + 1), most(ws[at + 5], 2));
-    both(both(a, link_fits(ws, at + 6)), link_fits(ws, at + 8))
+    Name::at(row, 1).is_placed(text) && row[5] <= 2 && link_fits(row, 6) && link_fits(row, 8)
 }
 
-pub fn roads_worded(text: &[u8], ws: &[u32]) -> bool
-    ensures { result ≡ every (road_worded text.now) (table 20 ws.now) }
+// 2, of each of the map's tables
+pub fn roads_worded(text: &[u8], roads: &[u32]) -> bool
+    ensures { result ≡ every (road_worded text.now) (table 20 roads.now) }
 {
-    let n = ws.len() / 20;
-    let mut i = 0;
-    while i < n {
-        if !road_worded(text, ws, i * 20) {
-            return false;
-        }
-        i += 1;
-    }
-    true
+    roads.chunks_exact(20).all(|row| road_worded(text, row))
 }
 
-pub fn junctions_worded(text: &[u8], ws: &[u32]) -> bool
-    ensures { result ≡ every (junction_worded text.now) (table 5 ws.now) }
+pub fn junctions_worded(text: &[u8], junctions: &[u32]) -> bool
+    ensures { result ≡ every (junction_worded text.now) (table 5 junctions.now) }
 {
-    let n = ws.len() / 5;
-    let mut i = 0;
-    while i < n {
-        if !junction_worded(text, ws, i * 5) {
-            return false;
-        }
-        i += 1;
-    }
-    true
+    junctions
+        .chunks_exact(5)
+        .all(|row| junction_worded(text, row))
 }
 
-pub fn connections_worded(text: &[u8], ws: &[u32]) -> bool
-    ensures { result ≡ every (connection_worded text.now) (table 7 ws.now) }
+pub fn connections_worded(text: &[u8], connections: &[u32]) -> bool
+    ensures { result ≡ every (connection_worded text.now) (table 7 connections.now) }
 {
-    let n = ws.len() / 7;
-    let mut i = 0;
-    while i < n {
-        if !connection_worded(text, ws, i * 7) {
-            return false;
-        }
-        i += 1;
-    }
-    true
+    connections
+        .chunks_exact(7)
+        .all(|row| connection_worded(text, row))
 }
 
-pub fn lanes_worded(text: &[u8], ws: &[u32]) -> bool
-    ensures { result ≡ every (lane_worded text.now) (table 10 ws.now) }
+// 2, of the map
+#[tactic(auto, unfolding(model::specs::Rules::map_worded))]
+pub fn map_worded(map: &MapTables) -> bool
+    ensures { result ≡ map_worded (map_read map.now) }
 {
-    let n = ws.len() / 10;
-    let mut i = 0;
-    while i < n {
-        if !lane_worded(text, ws, i * 10) {
-            return false;
-        }
-        i += 1;
-    }
-    true
+    roads_worded(map.text, map.roads)
+        && junctions_worded(map.text, map.junctions)
+        && connections_worded(map.text, map.connections)
 }
 
-// 2, of the map's tables
-pub fn map_worded(text: &[u8], roads: &[u32], junctions: &[u32], connections: &[u32]) -> bool
-    ensures { result ≡ (every (road_worded text.now) (table 20 roads.now)
-        && every (junction_worded text.now) (table 5 junctions.now)
-        && every (connection_worded text.now) (table 7 connections.now)) }
+// 2, of the lanes
+pub fn lanes_worded(text: &[u8], lanes: &[u32]) -> bool
+    ensures { result ≡ every (lane_worded text.now) (table 10 lanes.now) }
 {
-    let a = both(roads_worded(text, roads), junctions_worded(text, junctions));
-    both(a, connections_worded(text, connections))
+    lanes.chunks_exact(10).all(|row| lane_worded(text, row))
 }

@@ -14,17 +14,14 @@ use Rattle.model.specs.Rows.{written}
 use Rattle.model.specs.Succession.{Entry, away, entry_id, runs_away}
 use Rattle.model.specs.Tables.{direction_of, lane_in}
 use Rattle.laws.proofs.Bound.{length_insert}
-use Rattle.laws.proofs.Sorting.{Ordered, ordered_sort, sort_middle, sorted_by_counts}
+use Rattle.laws.proofs.Sorting.{Ordered, sort_middle}
 use Rattle.words.proofs.Laws.{written_length}
 use Rattle.laws.proofs.Valid.{Each}
 use Rattle.succession.specs.ByRow.{Room, Took, lane_at, lane_row_of, one_at, pair_entry}
 use Rattle.succession.specs.Runs.{Rising, absorb, admit, take_in}
+use Rattle.laws.proofs.Sorting.{ordered_insert}
 
 -- ---- order
-pub ordered_insert : (n : ℕ) (xs : List ℕ) → Ordered xs → Ordered (insert n xs)
-ordered_insert n xs h =
-    subst (λ (l : List ℕ). Ordered (insert n l)) (sym (sorted_by_counts xs xs h (λ m. refl))) (ordered_sort (n ∷ xs))
-
 each_at : (P : ℕ → Type 0) (xs : List ℕ) (j : ℕ) → Each P xs → j < length xs → P (get_or xs j 0)
 each_at P [] j h l = absurd (not-suc-le-zero l)
 each_at P (x ∷ xs) zero h l = h.0
@@ -183,47 +180,32 @@ away_at : (lanes : List ℕ) (r : ℕ) (e : Bool)
 unfolding runs_away lane_at lane_in
 away_at lanes r e = ap (λ (k : ℕ). away (direction_of k) e) (lane_word lanes r 5)
 
-module _ (both : Bool) (n : ℕ) (lanes : List ℕ) (e : Bool) (old : List ℕ) (h : n ≤ length old) where
-  pub took_nothing : (row : ℕ) → row ≡ 0 → Took both n (one_at lanes row e) old old n
-  took_nothing zero z = took_none both n old h
-  took_nothing (suc r) z = absurd (omega arith)
+module _ (both : Bool) (n : ℕ) (lanes : List ℕ) (e : Bool) (old : List ℕ) (r : ℕ) where
+  stays : (b : Bool) → both && not (away (direction_of (get_or lanes (r * 10 + 5) 0)) e) ≡ b →
+      absorb both (take n old) (one_at lanes (suc r) e)
+      ≡ cond b (take n old) (take_in both (get_or lanes (r * 10) 0) (take n old))
+  stays b q =
+      ap₂ (λ (a : Bool) (k : ℕ). cond (both && not a) (take n old) (take_in both k (take n old))) (away_at lanes r e)
+      (id_at_lem lanes r e)
+      ∙ ap (λ (a : Bool). cond a (take n old) (take_in both (get_or lanes (r * 10) 0) (take n old))) q
 
-  module _ (row : ℕ) (nz : row ≡ 0 → ⊥) where
-    admitted : (r : ℕ) → one_at lanes (suc r) e ≡ record { lane = lane_at lanes r; contact = e } ∷ []
-    admitted r = refl
+  pub took_barred : n ≤ length old → both && not (away (direction_of (get_or lanes (r * 10 + 5) 0)) e) ≡ true
+      → Took both n (one_at lanes (suc r) e) old old n
+  took_barred h q =
+      record {
+        list = sym (written_take n old h) ∙ ap (λ (l : List ℕ). written l old) (sym (stays true q));
+        size = sym (length-take-le n old h) ∙ ap length (sym (stays true q));
+      }
 
-    some_row : one_at lanes row e ≡ one_at lanes (suc (row - 1)) e
-    some_row = let q : row ≡ suc (row - 1) = omega arith in ap (λ (k : ℕ). one_at lanes k e) q
-
-    stays : (b : Bool) → both && not (away (direction_of (get_or lanes ((row - 1) * 10 + 5) 0)) e) ≡ b →
-        absorb both (take n old) (one_at lanes row e)
-        ≡ cond b (take n old) (take_in both (get_or lanes ((row - 1) * 10) 0) (take n old))
-    stays b q = ap (absorb both (take n old)) some_row
-        ∙ ap₂ (λ (a : Bool) (k : ℕ). cond (both && not a) (take n old) (take_in both k (take n old)))
-        (away_at lanes (row - 1) e) (id_at_lem lanes (row - 1) e)
-        ∙ ap (λ (a : Bool). cond a (take n old) (take_in both (get_or lanes ((row - 1) * 10) 0) (take n old))) q
-
-    pub took_barred : both && not (away (direction_of (get_or lanes ((row - 1) * 10 + 5) 0)) e) ≡ true
-        → Took both n (one_at lanes row e) old old n
-    took_barred q =
-        record {
-          list = sym (written_take n old h) ∙ ap (λ (l : List ℕ). written l old) (sym (stays true q));
-          size = sym (length-take-le n old h) ∙ ap length (sym (stays true q));
-        }
-
-    pub took_entered : both && not (away (direction_of (get_or lanes ((row - 1) * 10 + 5) 0)) e) ≡ false
-        → (new : List ℕ) (m : ℕ) →
-        new ≡ written (take_in both (get_or lanes ((row - 1) * 10) 0) (take n old)) old
-        → m ≡ length (take_in both (get_or lanes ((row - 1) * 10) 0) (take n old)) →
-        Took both n (one_at lanes row e) old new m
-    took_entered q new m a b =
-        record {
-          list = a ∙ ap (λ (l : List ℕ). written l old) (sym (stays false q));
-          size = b ∙ ap length (sym (stays false q));
-        }
-
-    pub one_long : length (one_at lanes row e) ≡ 1
-    one_long = ap length some_row
+  pub took_entered : both && not (away (direction_of (get_or lanes (r * 10 + 5) 0)) e) ≡ false
+      → (new : List ℕ) (m : ℕ) → new ≡ written (take_in both (get_or lanes (r * 10) 0) (take n old)) old
+      → m ≡ length (take_in both (get_or lanes (r * 10) 0) (take n old))
+      → Took both n (one_at lanes (suc r) e) old new m
+  took_entered q new m a b =
+      record {
+        list = a ∙ ap (λ (l : List ℕ). written l old) (sym (stays false q));
+        size = b ∙ ap length (sym (stays false q));
+      }
 
 -- ---- a pair
 module _ (pairs lanes owner : List ℕ) (w s : ℕ) (e : Bool) (k p : ℕ) where
@@ -233,13 +215,13 @@ module _ (pairs lanes owner : List ℕ) (w s : ℕ) (e : Bool) (k p : ℕ) where
       ap (λ (b : Bool). cond b (one_at lanes (lane_row_of lanes owner w s (get_or pairs (p * 2 + 1) 0)) e) [])
       (ne_eqb (get_or pairs (p * 2) 0) k n)
 
-  pub pair_leads : get_or pairs (p * 2) 0 ≡ k → (r : ℕ) → r ≡ lane_row_of lanes owner w s (get_or pairs (p * 2 + 1) 0)
-      → pair_entry pairs lanes owner w s e k p ≡ one_at lanes r e
+  pub pair_leads : get_or pairs (p * 2) 0 ≡ k
+      → pair_entry pairs lanes owner w s e k p
+      ≡ one_at lanes (lane_row_of lanes owner w s (get_or pairs (p * 2 + 1) 0)) e
   unfolding pair_entry
-  pair_leads q r f =
+  pair_leads q =
       ap (λ (b : Bool). cond b (one_at lanes (lane_row_of lanes owner w s (get_or pairs (p * 2 + 1) 0)) e) [])
       (eq-eqb (get_or pairs (p * 2) 0) k q)
-      ∙ ap (λ (z : ℕ). one_at lanes z e) (sym f)
 
 -- ---- the run in the end: sorted, and for a two-way lane each once
 pub absorbed_one_way : (ys : List ℕ) (es : List Entry) → absorb false (sort ys) es ≡ sort (ys ++ map entry_id es)

@@ -2,25 +2,24 @@
 use Prim.Native.Nat.{ℕ, zero, suc, ◌+◌, ◌*◌, ◌/◌, ◌<◌, ◌≤◌}
 use mathlib.Core.Path.{◌≡◌, refl, sym, ap, ◌∙◌, subst}
 use mathlib.Core.Bool.{Bool, true, false, cond}
-use mathlib.Core.Option.{none}
+use mathlib.Core.Option.{none, some}
 use mathlib.Core.List.{List, [], ◌∷◌, ◌++◌}
-use native.Mathlib.Nat.{le_refl, add_assoc}
+use native.Mathlib.Nat.{le_refl}
 use native.Mathlib.Omega.{arith}
-use lib.Dec.{eqb}
 use lib.ListN.{length, get_or}
 use borrow.Author.Tests.{not-true, ltb-true}
 use Rattle.model.specs.Calls.{lane_rules, rules_to5, succession_rules}
 use Rattle.model.specs.Lists.{ascends, every}
-use Rattle.model.specs.Records.{Lane}
+use Rattle.model.specs.Records.{Lane, Target}
 use Rattle.model.specs.Rows.{parts_fit, table}
 use Rattle.model.specs.Rules.{connection_parts_fit, first_broken, lanes_sized, map_sized, pair_parts_fit}
 use Rattle.model.specs.Rules.{same, section_parts_fit, sections_ascend}
 use Rattle.model.specs.Succession.{exits}
-use Rattle.model.specs.Tables.{Tables, lane_in, lanes_in, lanes_of, map_of, roads_in}
+use Rattle.model.specs.Tables.{Tables, flag, lane_in, lanes_in, lanes_of, map_of, roads_in}
 use Rattle.laws.proofs.Bound.{sum_of}
 use Rattle.laws.proofs.Offsets.{exits_limit}
 use Rattle.laws.proofs.RulesReversed.{Passes, all_pass}
-use Rattle.words.specs.Rows.{all, any, from, name_from, tab, total}
+use Rattle.words.specs.Rows.{all, any, from, tab, total}
 use Rattle.words.specs.Keys.{bears, id_before, key_before, name_before}
 use Rattle.words.proofs.Chains.{last_le}
 use Rattle.words.proofs.Scans.{all_at, left_on, right_on}
@@ -31,10 +30,12 @@ use Rattle.rules.proofs.Forms.{identities_once_lem, lanes_listed_lem, lanes_tab,
 use Rattle.rules.proofs.Places.{keys_once_lem}
 use Rattle.succession.specs.Runs.{Rising}
 use Rattle.succession.specs.ByRow.{Rows, Sound, exits_by_row, lane_at, rows_of, successors_by_row}
-use Rattle.succession.specs.Named.{Ended, Named, Sided, junction_row_of, target_row_of}
+use Rattle.succession.specs.Named.{Ended, Named, Sided, junction_row_of, row_of_target, target_row_of}
 use Rattle.succession.specs.Finished.{exit_count}
 use Rattle.succession.specs.Answers.{own_list}
 use Rattle.succession.proofs.ByName.{owner_known}
+use Rattle.succession.proofs.Places.{by_le}
+use Rattle.std.proofs.lemmas.List.{get_or_past}
 use Rattle.succession.proofs.Bridge.{Ruled, exits_by_row_lem, successors_by_row_lem}
 use Rattle.succession.proofs.Spreads.{total_plus}
 use Rattle.words.proofs.Laws.{total_same}
@@ -62,32 +63,25 @@ ascend_rise (x ∷ xs) e (suc i) (suc j) a b =
 
 -- ---- what a target names lies in its table
 module _ (text roads junctions : List ℕ) (a : ℕ) where
-  pub target_road_low : eqb (get_or roads (a + 1) 0) 1 ≡ false
+  pub target_road_low : flag (get_or roads (a + 1) 0) ≡ false
       → target_row_of text roads junctions a ≤ length roads / 20
-  unfolding target_row_of road_row_of
-  target_road_low e = go (eqb (get_or roads a 0) 1) (eqb (get_or roads (a + 1) 0) 1) e
+  unfolding target_row_of
+  target_road_low e = go (flag (get_or roads a 0)) _ e
     where
-      go : (x y : Bool) → y ≡ false
-          → cond x (cond y (junction_row_of text junctions (name_from roads (a + 2)))
-          (road_row_of text roads (name_from roads (a + 2)))) 0 ≤ length roads / 20
-      go true true z = absurd (mathlib.Core.Bool.true≢false z)
-      go true false z =
-          unfold road_row_of in last_le (length roads / 20) (bears text 20 0 roads (name_from roads (a + 2)))
-      go false y z = omega arith
+      go : (x : Bool) (t : Target) → t.is_junction ≡ false
+          → row_of_target text roads junctions (cond x (some t) none) ≤ length roads / 20
+      go true t is = rw is (unfold road_row_of in last_le (length roads / 20) (bears text 20 0 roads t.name))
+      go false t is = omega arith
 
-  pub target_junction_low : eqb (get_or roads (a + 1) 0) 1 ≡ true
+  pub target_junction_low : flag (get_or roads (a + 1) 0) ≡ true
       → target_row_of text roads junctions a ≤ length junctions / 5
   unfolding target_row_of
-  target_junction_low e = go (eqb (get_or roads a 0) 1) (eqb (get_or roads (a + 1) 0) 1) e
+  target_junction_low e = go (flag (get_or roads a 0)) _ e
     where
-      go : (x y : Bool) → y ≡ true
-          → cond x (cond y (junction_row_of text junctions (name_from roads (a + 2)))
-          (road_row_of text roads (name_from roads (a + 2)))) 0 ≤ length junctions / 5
-      go true true z =
-          unfold junction_row_of in last_le (length junctions / 5)
-          (bears text 5 0 junctions (name_from roads (a + 2)))
-      go true false z = absurd (mathlib.Core.Bool.true≢false (sym z))
-      go false y z = omega arith
+      go : (x : Bool) (t : Target) → t.is_junction ≡ true
+          → row_of_target text roads junctions (cond x (some t) none) ≤ length junctions / 5
+      go true t is = rw is (unfold junction_row_of in last_le (length junctions / 5) (bears text 5 0 junctions t.name))
+      go false t is = omega arith
 
 sum_snoc : {A : Type 0} (f : A → ℕ) (xs : List A) (y : A) → sum_of f (xs ++ (y ∷ [])) ≡ sum_of f xs + f y
 unfolding sum_of
@@ -203,6 +197,13 @@ module _ (t : Tables) (admitted : first_broken (succession_rules t) ≡ none) wh
         not-true (any (length lanes / 10) (key_before lanes owner))
         (sym (keys_once_lem text roads sections lanes owner lanes_known linked.owned) ∙ rules.1.1.1.1.1.1.1.0)
 
+    -- each lane's road is a row plus 1, so each lane has a word
+    pub owner_long : length lanes / 10 ≤ length owner
+    owner_long = by_le (length lanes / 10) (length owner) (λ h. h)
+        (λ h. absurd
+        (owner_known text roads sections lanes owner linked.owned lanes_known (length owner) h
+        (get_or_past owner (length owner) 0 (le_refl (length owner)))))
+
     pub ruled : Ruled text roads sections junctions connections pairs lanes owner
     ruled = record {
       once = names_single;
@@ -214,8 +215,7 @@ module _ (t : Tables) (admitted : first_broken (succession_rules t) ≡ none) wh
 
     -- and with the rows that connections and targets name
     module _ {sides ends : List ℕ} (sided : Sided text roads connections (length connections / 7) sides)
-        (ended : Ended text roads junctions (length roads / 20) ends) (owner-wide : length owner ≡ 16384)
-        (heads-wide : length kheads ≡ 16384) (next-wide : length knext ≡ 16384)
+        (ended : Ended text roads junctions (length roads / 20) ends)
         (sides-wide : length sides ≡ 32768) (ends-wide : length ends ≡ 32768) where
       abbrev rows : Rows
       rows = rows_of roads sections junctions connections pairs lanes owner sides ends
@@ -227,61 +227,32 @@ module _ (t : Tables) (admitted : first_broken (succession_rules t) ≡ none) wh
       unfolding road_row_of
       road_low n = last_le (length roads / 20) (bears text 20 0 roads n)
 
-      pub sound : Sound roads sections junctions connections pairs lanes owner sides ends kheads knext
+      pub sound : Sound rows
       sound = record {
-        few = fewer_lanes;
         few_roads = fewer.few_roads;
-        owner_long = let a = fewer_lanes in omega arith;
         owner_low = λ l ll. positive (get_or owner l 0)
             (owner_known text roads sections lanes owner linked.owned lanes_known l ll);
         owner_high = λ l ll. subst (λ (k : ℕ). k ≤ length roads / 20) (sym (linked.owned.at l ll)) (road_low _);
         sides_long = let a = fewer.few_connections in omega arith;
         sides_high = λ c lc. subst (λ (k : ℕ). k ≤ length roads / 20) (sym (sided.connecting c lc)) (road_low _);
         ends_long = let a = fewer.few_roads in omega arith;
-        road_ends = road_end;
-        junction_ends = junction_end;
-        section_parts = part_in 20 18 19 (length sections) roads (omega arith) (omega arith) sections_good.0;
+        start_roads = λ r lr e. subst (λ (j : ℕ). j ≤ length roads / 20) (sym (ended.start r lr))
+            (target_road_low text roads junctions (r * 20 + 4) e);
+        start_junctions = λ r lr e. subst (λ (j : ℕ). j ≤ length junctions / 5) (sym (ended.start r lr))
+            (target_junction_low text roads junctions (r * 20 + 4) e);
+        end_roads = λ r lr e. subst (λ (j : ℕ). j ≤ length roads / 20) (sym (ended.end r lr))
+            (target_road_low text roads junctions (r * 20 + 11) e);
+        end_junctions = λ r lr e. subst (λ (j : ℕ). j ≤ length junctions / 5) (sym (ended.end r lr))
+            (target_junction_low text roads junctions (r * 20 + 11) e);
+        section_parts = sections_good.0;
         rising = λ r lr. ascend_rise (numbers_at roads sections r)
             (all_at (length roads / 20) r (λ i. ascends (numbers_at roads sections i)) sections_good.1 lr);
         connection_parts = ruled.connection_parts;
         pair_parts = ruled.pair_parts;
-        buckets = heads-wide;
-        links = let a = fewer_lanes in omega arith;
-        chained = linked.keyed;
       }
         where
           positive : (k : ℕ) → (k ≡ 0 → ⊥) → 0 < k
           positive k n = omega arith
-
-          road_end : (r k : ℕ) → r < length roads / 20 → k < 2
-              → eqb (get_or roads (r * 20 + (5 + k * 7)) 0) 1 ≡ false
-              → get_or ends (r * 2 + k) 0 ≤ length roads / 20
-          road_end r zero lr lk e =
-              subst (λ (j : ℕ). j ≤ length roads / 20)
-              (sym
-              (ap (λ (j : ℕ). get_or ends j 0) (let q : r * 2 + 0 ≡ r * 2 = omega arith in q) ∙ ended.start r lr))
-              (target_road_low text roads junctions (r * 20 + 4)
-              (ap (λ (j : ℕ). eqb (get_or roads j 0) 1) (add_assoc (r * 20) 4 1) ∙ e))
-          road_end r (suc zero) lr lk e =
-              subst (λ (j : ℕ). j ≤ length roads / 20) (sym (ended.end r lr))
-              (target_road_low text roads junctions (r * 20 + 11)
-              (ap (λ (j : ℕ). eqb (get_or roads j 0) 1) (add_assoc (r * 20) 11 1) ∙ e))
-          road_end r (suc (suc k)) lr lk e = absurd (omega arith)
-
-          junction_end : (r k : ℕ) → r < length roads / 20 → k < 2
-              → eqb (get_or roads (r * 20 + (5 + k * 7)) 0) 1 ≡ true
-              → get_or ends (r * 2 + k) 0 ≤ length junctions / 5
-          junction_end r zero lr lk e =
-              subst (λ (j : ℕ). j ≤ length junctions / 5)
-              (sym
-              (ap (λ (j : ℕ). get_or ends j 0) (let q : r * 2 + 0 ≡ r * 2 = omega arith in q) ∙ ended.start r lr))
-              (target_junction_low text roads junctions (r * 20 + 4)
-              (ap (λ (j : ℕ). eqb (get_or roads j 0) 1) (add_assoc (r * 20) 4 1) ∙ e))
-          junction_end r (suc zero) lr lk e =
-              subst (λ (j : ℕ). j ≤ length junctions / 5) (sym (ended.end r lr))
-              (target_junction_low text roads junctions (r * 20 + 11)
-              (ap (λ (j : ℕ). eqb (get_or roads j 0) 1) (add_assoc (r * 20) 11 1) ∙ e))
-          junction_end r (suc (suc k)) lr lk e = absurd (omega arith)
 
       pub own_is : (l : ℕ) → l < length lanes / 10
           → successors_by_row rows l

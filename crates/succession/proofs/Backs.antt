@@ -1,51 +1,39 @@
 -- Runs made word by word, links back, and one list more among packed lists.
-use Prim.Native.Nat.{ℕ, zero, suc, ◌+◌, ◌-◌, ◌*◌, ◌<◌, ◌≤◌}
+use Prim.Native.Nat.{ℕ, zero, suc, ◌+◌, ◌-◌, ◌<◌, ◌≤◌}
 use mathlib.Core.Path.{◌≡◌, refl, sym, ap, ap₂, ◌∙◌, subst}
 use mathlib.Core.Bool.{Bool, true, false, cond}
 use mathlib.Core.List.{List, [], ◌∷◌, ◌++◌}
 use native.Mathlib.Nat.{le_refl}
 use native.Mathlib.Numerals.{add-one}
 use native.Mathlib.Omega.{arith}
-use lib.Dec.{ltb}
 use lib.ListN.{length, get_or, take, drop, take-append-drop}
 use lib.Seq.{length-take-le, take_all, take-suc}
-use borrow.Author.Tests.{lt-ltb}
+use Rattle.std.specs.List.{count_by}
+use Rattle.std.proofs.lemmas.List.Sums.{count_by-le-length, sum_by-cons}
 use Rattle.model.specs.Lists.{insert}
 use Rattle.model.specs.Lookup.{list_part}
 use Rattle.model.specs.Rows.{written}
 use Rattle.model.specs.Succession.{is_both}
-use Rattle.model.specs.Tables.{direction_of}
 use Rattle.laws.proofs.Bound.{length_insert}
 use Rattle.laws.proofs.Sorting.{Ordered}
 use Rattle.words.specs.Rows.{joined, total}
 use Rattle.words.proofs.Laws.{written_length}
 use Rattle.succession.specs.Runs.{Rising}
-use Rattle.succession.specs.ByRow.{Rows, exits_by_row, successors_by_row, successors_from_row}
+use Rattle.succession.specs.ByRow.{Rows, direction_at, own_exits_by_row, successors_by_row}
 use Rattle.succession.specs.Packs.{start_of}
-use Rattle.succession.specs.Finished.{Made, Taking, back_into, both_long, exit_count, finished_from, two_way_row}
-use Rattle.succession.specs.Finished.{wants}
-use Rattle.succession.proofs.Absorbed.{length_absorb, ordered_insert, ordered_rising, rising_ordered}
+use Rattle.succession.specs.Finished.{Made, Taking, back_into, exit_count, finished_at}
+use Rattle.succession.specs.Finished.{finished_from, two_way_row, wants}
+use Rattle.succession.proofs.Absorbed.{length_absorb, ordered_rising, rising_ordered}
 use Rattle.succession.proofs.Absorbed.{written_front, written_take, written_twice}
 use Rattle.succession.proofs.Places.{tail_back, tail_is, tail_from}
-use Rattle.succession.proofs.Packing.{joined_long, packed_more}
+use Rattle.succession.proofs.Packing.{packed_more}
+use Rattle.succession.proofs.Turns.{own_most}
+use Rattle.laws.proofs.Sorting.{ordered_insert}
 
--- ---- two-way lanes
-both_word : (w : ℕ) → ltb 1 w ≡ is_both (direction_of w)
-both_word zero = refl
-both_word (suc zero) = refl
-both_word (suc (suc w)) = lt-ltb 1 (suc (suc w)) (omega arith)
-
-pub two_way_row_lem : (lanes : List ℕ) (f : ℕ) → (f ≡ 0 → ⊥)
-    → ltb 1 (get_or lanes ((f - 1) * 10 + 5) 0) ≡ two_way_row lanes f
-two_way_row_lem lanes zero n = absurd (n refl)
-two_way_row_lem lanes (suc r) n =
-    both_word (get_or lanes ((suc r - 1) * 10 + 5) 0)
-    ∙ ap (λ (k : ℕ). is_both (direction_of (get_or lanes (k * 10 + 5) 0)))
-    (let e : suc r - 1 ≡ r = omega arith in e)
-
--- what `two_way` answers for row l
-pub direction_is : (lanes : List ℕ) (l : ℕ) {b : Bool} → b ≡ two_way_row lanes (l + 1) → two_way_row lanes (suc l) ≡ b
-direction_is lanes l answer = ap (two_way_row lanes) (sym (add-one l)) ∙ sym answer
+-- how long the two lists of a lane are together
+abbrev pub both_long : (offsets ids finder_offsets finder_ids : List ℕ) → ℕ → ℕ
+both_long offsets ids finder_offsets finder_ids l =
+    length (list_part offsets ids l) + length (list_part finder_offsets finder_ids l)
 
 -- ---- a run made
 module _ {run : List ℕ} (n x : ℕ) (asked : Bool) where
@@ -95,20 +83,25 @@ module _ (p : ℕ → Bool) where
       ∙ ap (λ (l : List ℕ). back_into p l xs) (take-suc ys k 0 h)
       ∙ back_more (take k ys) (get_or ys k 0) xs
 
-  put_size : (b : Bool) (y : ℕ) (xs : List ℕ)
-      → (length xs ≤ length (cond b (insert y xs) xs)) × (length (cond b (insert y xs) xs) ≤ suc (length xs))
-  put_size true y xs = let e = length_insert y xs in (omega arith, omega arith)
-  put_size false y xs = (le_refl (length xs), omega arith)
+  put_count : (b : Bool) (y : ℕ) (xs : List ℕ) → length (cond b (insert y xs) xs) ≡ length xs + cond b 1 0
+  put_count true y xs = length_insert y xs ∙ sym (add-one (length xs))
+  put_count false y xs = omega arith
+
+  -- each that is wanted adds one
+  pub back_count : (ys xs : List ℕ) → length (back_into p ys xs) ≡ length xs + count_by p ys
+  back_count [] xs = omega arith
+  back_count (y ∷ ys) xs =
+      let put = cond (p y) (insert y xs) xs in
+      let rest : length (back_into p ys put) ≡ length put + count_by p ys = back_count ys put in
+      let all : length xs + cond (p y) 1 0 + count_by p ys ≡ length xs + count_by p (y ∷ ys) =
+      omega (arith, sum_by-cons (λ x. cond (p x) 1 0) y ys) in
+      rest ∙ ap (λ (k : ℕ). k + count_by p ys) (put_count (p y) y xs) ∙ all
 
   pub back_least : (ys xs : List ℕ) → length xs ≤ length (back_into p ys xs)
-  back_least [] xs = le_refl (length xs)
-  back_least (y ∷ ys) xs =
-      let a = put_size (p y) y xs in let b = back_least ys (cond (p y) (insert y xs) xs) in omega (arith, a.0)
+  back_least ys xs = omega (arith, back_count ys xs)
 
   pub back_most : (ys xs : List ℕ) → length (back_into p ys xs) ≤ length xs + length ys
-  back_most [] xs = omega arith
-  back_most (y ∷ ys) xs =
-      let a = put_size (p y) y xs in let b = back_most ys (cond (p y) (insert y xs) xs) in omega (arith, a.1)
+  back_most ys xs = omega (arith, back_count ys xs, count_by-le-length p ys)
 
   ordered_put : (b : Bool) (y : ℕ) (xs : List ℕ) → Ordered xs → Ordered (cond b (insert y xs) xs)
   ordered_put true y xs h = ordered_insert y xs h
@@ -146,10 +139,6 @@ module _ (p : ℕ → Bool) where
           add-one (length (back_into p (take k ys) xs))
           ∙ sym (length_insert (get_or ys k 0) (back_into p (take k ys) xs))
       go false = refl
-
-  pub count_room : (ys : List ℕ) (k : ℕ) (xs : List ℕ) → k ≤ length ys
-      → length (back_into p (take k ys) xs) ≤ length xs + k
-  count_room ys k xs h = let a = back_most (take k ys) xs in let b = length-take-le k ys h in omega arith
 
 -- the loop's turn
 module _ {p : ℕ → Bool} {finders : List ℕ} {start : ℕ} {run₀ : List ℕ} (ready : Taking p finders start run₀) where
@@ -201,7 +190,7 @@ module _ {p : ℕ → Bool} {finders : List ℕ} {start : ℕ} {run₀ : List �
           ∙ sym (back_take p finders k (take start run₀) lt))
           (subst (λ (l : List ℕ). length (so_far k) ≤ length l)
           (sym (back_take p finders k (take start run₀) lt))
-          (put_size p (p (get_or finders k 0)) (get_or finders k 0) (so_far k)).0)
+          (omega (arith, put_count p (p (get_or finders k 0)) (get_or finders k 0) (so_far k))))
 
 -- ---- a lane's finished list
 module _ (lanes mine finders : List ℕ) (l : ℕ) where
@@ -281,22 +270,21 @@ module _ (list : ℕ → List ℕ) (f : ℕ → ℕ) (few : (i : ℕ) → length
         (ap (λ (l : List ℕ). take at out ++ l) (en ∙ ap₂ written ex (tail_is at out h)))
         (let a = start_most (i + 1) in let b = upto in omega arith)
 
-    pub more_long : {new : List ℕ} → new ≡ written (joined (i + 1) list) out₀ → length new ≡ length out₀
-    more_long e =
-        ap length e
-        ∙ written_length (joined (i + 1) list) out₀
-        (let a = joined_long list (i + 1) in let b = start_most (i + 1) in let d = upto in omega arith)
+-- ---- all finished lists are no longer than the own lists and the finders' together
+module _ (lanes offsets ids finder_offsets finder_ids : List ℕ) (n : ℕ) where
+  abbrev finished : ℕ → List ℕ
+  finished = finished_at lanes offsets ids finder_offsets finder_ids
+
+  abbrev both : ℕ → ℕ
+  both = both_long offsets ids finder_offsets finder_ids
+
+  pub finished_most : start_of finished n ≤ total n both
+  finished_most = start_most finished both (λ k. finish_most lanes _ _ k) n
 
 pub successors_most : (R : Rows) (l : ℕ) → length (successors_by_row R l) ≤ exit_count R l
 unfolding successors_by_row
-successors_most R l = go (get_or R.lanes (l * 10 + 5) 0)
-  where
-    go : (d : ℕ) → length (successors_from_row R l d) ≤ exit_count R l
-    go zero = let a = length_absorb false [] (exits_by_row R l true) in omega arith
-    go (suc zero) = let a = length_absorb false [] (exits_by_row R l false) in omega arith
-    go (suc (suc d)) =
-        let a = length_absorb true [] (exits_by_row R l true ++ exits_by_row R l false) in
-        let b = lib.ListN.length-append (exits_by_row R l true) (exits_by_row R l false) in omega arith
+successors_most R l =
+    omega (arith, length_absorb (is_both (direction_at R.lanes l)) [] (own_exits_by_row R l), own_most R l)
 
 pub both_fit : (starts ids fstarts fids : List ℕ) (n : ℕ) (f : ℕ → List ℕ)
     → ((i : ℕ) → i < n → list_part fstarts fids i ≡ f i)

@@ -8,8 +8,7 @@ use native.Mathlib.Nat.{le_refl, le_step, not-suc-le-zero, le_of_suc-le-suc, eq-
 use native.Mathlib.Numerals.{add-one}
 use native.Mathlib.Omega.{arith}
 use lib.Dec.{eqb}
-use lib.ListN.{length, get_or, drop, set}
-use lib.Seq.{get_or-set_same, get_or-set_other}
+use lib.ListN.{length, get_or, drop, set, length-set}
 use borrow.Author.Tests.{eqb-true, le-leb, lt-leb}
 use Rattle.model.specs.Rows.{parts_fit, table}
 use Rattle.words.specs.Chain.{Chained, Empty}
@@ -18,7 +17,8 @@ use Rattle.words.proofs.Chains.{chained_none, last_hit, last_miss, link_turn}
 use Rattle.words.proofs.Laws.{total_le, total_more, total_none}
 use Rattle.words.proofs.Scans.{left_on, right_on}
 use Rattle.rules.proofs.Fits.{fit_end, fit_step}
-use Rattle.succession.specs.Meeting.{Homes, begins_by, connection_hash, end_of, first_of, home_of, meeting_hash}
+use Rattle.succession.specs.Meeting.{ChainedFrom, Homes, begins_by, connection_hash, end_of, first_of, home_of}
+use Rattle.succession.specs.Meeting.{meeting_hash}
 
 -- ---- the last row of which p holds
 last_is : (n j : ℕ) (p : ℕ → Bool) → j < n → p j ≡ true → ((k : ℕ) → j < k → k < n → p k ≡ false) → last_of n p ≡ suc j
@@ -37,14 +37,6 @@ last_past (suc n) i p h l = go (p n) refl (λ a b. last_past n i p a b)
     go false e ih =
         ⊎_elim (λ q. subst (λ (k : ℕ). p k ≡ false) (sym q) e)
         (λ lt. ih (let q = last_miss n p e in omega arith) lt) (eq-or-lt_of_le (le_of_suc-le-suc l))
-
--- ---- words made 0
-pub cleared_more : (ws : List ℕ) (i : ℕ) → i < length ws → ((b : ℕ) → b < i → get_or ws b 0 ≡ 0) → (b : ℕ)
-    → b < i + 1 → get_or (set ws i 0) b 0 ≡ 0
-cleared_more ws i h f b l = ⊎_elim
-    (λ q. ap (λ (k : ℕ). get_or (set ws i 0) k 0) q ∙ get_or-set_same ws i 0 0 h)
-    (λ lt. get_or-set_other ws i b 0 0 (λ q. omega arith) ∙ f b lt)
-    (eq-or-lt_of_le (le_of_suc-le-suc (subst (λ (k : ℕ). b < k) (add-one i) l)))
 
 -- ---- parts that follow one another
 abbrev pub count_of : List ℕ → ℕ → ℕ
@@ -99,35 +91,26 @@ module _ (n : ℕ) (junctions : List ℕ) (fit : parts_fit 3 4 0 n (table 5 junc
       ∙ sym (add-one j)
 
   -- ---- all parts, from the last one down
-  module _ (sides : List ℕ) where
-    pub chains_begin : (heads next : List ℕ) (j : ℕ) → Empty heads next → j ≡ length junctions / 5
-        → Chained (connection_hash junctions sides n) (n - start_at junctions j) heads next
-    chains_begin heads next j empty e = subst (λ (k : ℕ). Chained (connection_hash junctions sides n) k heads next)
-        (let a = whole_is in
-        let b = ap (start_at junctions) e in let q : 0 ≡ n - start_at junctions j = omega arith in q)
-        (chained_none (connection_hash junctions sides n) empty)
+  pub end_before : (j : ℕ) → 0 < j → j ≤ length junctions / 5 → end_of junctions (j - 1) ≡ start_at junctions j
+  end_before j p h =
+      end_is (j - 1) (omega arith) ∙ ap (start_at junctions) (let q : j - 1 + 1 ≡ j = omega arith in q)
 
-    pub chains_part : (heads next : List ℕ) (j : ℕ) → 0 < j → j ≤ length junctions / 5
-        → Chained (connection_hash junctions sides n) (n - start_at junctions j) heads next
-        → Chained (connection_hash junctions sides n) (n - end_of junctions (j - 1)) heads next
-    chains_part heads next j p h k = subst (λ (i : ℕ). Chained (connection_hash junctions sides n) i heads next)
-        (let a = end_is (j - 1) (omega arith) in
-        let b : start_at junctions (j - 1 + 1) ≡ start_at junctions j =
-        ap (start_at junctions) (let q : j - 1 + 1 ≡ j = omega arith in q) in
-        let q : n - start_at junctions j ≡ n - end_of junctions (j - 1) = omega arith in q) k
+  module _ (sides heads next : List ℕ) where
+    pub chains_begin : Empty heads next
+        → ChainedFrom junctions sides n (start_at junctions (length junctions / 5)) heads next
+    chains_begin empty = record {
+      buckets = empty.buckets;
+      rows = empty.rows;
+      chained = subst (λ (k : ℕ). Chained (connection_hash junctions sides n) k heads next)
+          (let a = whole_is in let q : 0 ≡ n - start_at junctions (length junctions / 5) = omega arith in q)
+          (chained_none (connection_hash junctions sides n) empty);
+    }
 
-    pub chains_on : (heads next : List ℕ) (j : ℕ) → j < length junctions / 5
-        → Chained (connection_hash junctions sides n) (n - first_of junctions j) heads next
-        → Chained (connection_hash junctions sides n) (n - start_at junctions j) heads next
-    chains_on heads next j h k =
-        subst (λ (i : ℕ). Chained (connection_hash junctions sides n) (n - i) heads next) (first_is j h) k
-
-    pub chains_end : (heads next : List ℕ) (j : ℕ) → j ≡ 0
-        → Chained (connection_hash junctions sides n) (n - start_at junctions j) heads next
+    pub chains_end : (j : ℕ) → j ≡ 0 → ChainedFrom junctions sides n (start_at junctions j) heads next
         → Chained (connection_hash junctions sides n) n heads next
-    chains_end heads next j z k = subst (λ (i : ℕ). Chained (connection_hash junctions sides n) i heads next)
+    chains_end j z k = subst (λ (i : ℕ). Chained (connection_hash junctions sides n) i heads next)
         (let a = total_none (count_of junctions) in
-        let b = ap (start_at junctions) z in let q : n - start_at junctions j ≡ n = omega arith in q) k
+        let b = ap (start_at junctions) z in let q : n - start_at junctions j ≡ n = omega arith in q) k.chained
 
 -- ---- a part's connections put in front of their chains: those from c on are in, and c - 1 is next
 module _ (junctions sides : List ℕ) (n j c : ℕ) (homes : Homes junctions) (lj : j < length junctions / 5)
@@ -139,13 +122,18 @@ module _ (junctions sides : List ℕ) (n j c : ℕ) (homes : Homes junctions) (l
       (let q : n - (n - c + 1) ≡ c - 1 = omega arith in q)
       ∙ ap (λ (x : ℕ). meeting_hash x (get_or sides ((c - 1) * 2) 0)) (homes j (c - 1) lj (omega arith) (omega arith))
 
-  pub part_turn : (heads next : List ℕ) {heads' next' : List ℕ} {h : ℕ}
-      → Chained (connection_hash junctions sides n) (n - c) heads next
-      → h ≡ meeting_hash (j + 1) (get_or sides ((c - 1) * 2) 0)
-      → h < length heads → n - c < length next → heads' ≡ set heads h (n - c + 1)
-      → next' ≡ set next (n - c) (get_or heads h 0)
-      → Chained (connection_hash junctions sides n) (n - (c - 1)) heads' next'
-  part_turn heads next {heads'} {next'} {h} k e l m p q =
-      subst (λ (i : ℕ). Chained (connection_hash junctions sides n) i heads' next')
-      (let z : n - c + 1 ≡ n - (c - 1) = omega arith in z)
-      (link_turn (connection_hash junctions sides n) (n - c) heads next k (e ∙ sym hash_at) l m p q)
+  pub part_turn : (heads next : List ℕ) {heads' next' : List ℕ} {h row : ℕ}
+      → ChainedFrom junctions sides n c heads next
+      → h ≡ meeting_hash (j + 1) (get_or sides ((c - 1) * 2) 0) → h < 16384 → n ≤ 16384 → row ≡ n - c
+      → heads' ≡ set heads h (row + 1) → next' ≡ set next row (get_or heads h 0)
+      → ChainedFrom junctions sides n (c - 1) heads' next'
+  part_turn heads next {heads'} {next'} {h} {row} k e l m at p q =
+      let low : row < length next = (let w = k.rows in omega arith) in record {
+        buckets = ap length p ∙ length-set heads h (row + 1) ∙ k.buckets;
+        rows = ap length q ∙ length-set next row (get_or heads h 0) ∙ k.rows;
+        chained = subst (λ (i : ℕ). Chained (connection_hash junctions sides n) i heads' next')
+            (let z : row + 1 ≡ n - (c - 1) = omega arith in z)
+            (link_turn (connection_hash junctions sides n) row heads next (rw at k.chained)
+            (e ∙ sym hash_at ∙ ap (connection_hash junctions sides n) (sym at)) (let w = k.buckets in omega arith) low p
+            q);
+      }

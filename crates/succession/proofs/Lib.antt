@@ -1,6 +1,7 @@
 pub mod RunLaws
 pub mod Steps
 pub mod Absorbed
+pub mod Growth
 pub mod Turns
 pub mod Homes
 pub mod Walks

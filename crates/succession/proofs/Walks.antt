@@ -10,17 +10,18 @@ use lib.Dec.{eqb, leb, ltb}
 use lib.ListN.{length, get_or}
 use borrow.Author.Tests.{eqb-true, eqb-false, le-leb, le-ltb, leb-true, lt-leb, lt-ltb, ltb-true}
 use Rattle.model.specs.Succession.{Entry}
-use Rattle.words.specs.Chain.{Chained, within}
+use Rattle.words.specs.Chain.{within}
 use Rattle.words.specs.Rows.{joined, last_of}
 use Rattle.words.proofs.Chains.{last_has, last_le}
 use Rattle.words.proofs.Joins.{joined_none, joined_same}
 use Rattle.words.proofs.Scans.{and_off_left, and_on, and_step, left_on, right_on}
-use Rattle.succession.specs.ByRow.{Room, Rows, Took, connection_by_row, junction_by_row, pairs_by_row, ranged}
-use Rattle.succession.specs.Meeting.{Homes, connection_hash, end_of, first_of, home_of, meeting_at}
+use Rattle.succession.specs.ByRow.{Room, Rows, Sound, connection_by_row, junction_by_row, pairs_by_row, ranged}
+use Rattle.succession.specs.Meeting.{Homes, Meeting, connection_hash, end_of, first_of, home_of, meeting_at}
 use Rattle.succession.specs.Meeting.{meeting_hash, meets}
-use Rattle.succession.proofs.Absorbed.{took_none}
 use Rattle.succession.proofs.Homes.{last_past}
-use Rattle.succession.proofs.Turns.{turns_long, turns_on, turns_room}
+use Rattle.succession.specs.declared.entries.Run.{Run}
+use Rattle.succession.specs.Grown.{Grown}
+use Rattle.succession.proofs.Growth.{grown_none, turns_on, turns_room}
 
 -- ---- ranges with nothing in some places
 module _ {A : Type 0} (g : ℕ → List A) where
@@ -114,16 +115,20 @@ junction_met R j w k n h =
     ∙ joined_quiet (meeting_at R j w k) (end_of R.junctions j) n h (λ c a b. after R j w k c a)
 
 -- ---- the walk: the connections before n - at are taken in, and at is the next of the bucket
-pub record Walk (both : Bool) (start : ℕ) (R : Rows) (n j w k : ℕ) (old : List ℕ) (at : ℕ) (run : List ℕ)
-    (m : ℕ) : Type 0 where
+pub record Walked (R : Rows) (n j w k : ℕ) (old : Run) (at : ℕ) (run : Run) : Type 0 where
   pub below : at ≤ n
   pub bucket : (r : ℕ) → at ≡ suc r → connection_hash R.junctions R.sides n r ≡ meeting_hash (j + 1) w
-  pub took : Took both start (joined (n - at) (meeting_at R j w k)) old run m
+  pub grown : Grown (joined (n - at) (meeting_at R j w k)) old run
 
-module _ (both : Bool) (start : ℕ) (R : Rows) (n j w k : ℕ) (old heads next : List ℕ)
-    (room : Room start (junction_by_row R j w k) old) (lj : j < length R.junctions / 5)
-    (fits : end_of R.junctions j ≤ n) (homes : Homes R.junctions)
-    (chained : Chained (connection_hash R.junctions R.sides n) n heads next) where
+module _ (R : Rows) (j w k : ℕ) (old : Run) {heads next : List ℕ} (sound : Sound R)
+    (met : Meeting R.junctions R.connections R.sides heads next)
+    (room : Room old.len (junction_by_row R j w k) old.words.now) (lj : j < length R.junctions / 5) where
+  abbrev n : ℕ
+  n = length R.connections / 7
+
+  fits : end_of R.junctions j ≤ n
+  fits = sound.connection_parts j lj
+
   abbrev hash : ℕ → ℕ
   hash i = connection_hash R.junctions R.sides n i
 
@@ -133,8 +138,8 @@ module _ (both : Bool) (start : ℕ) (R : Rows) (n j w k : ℕ) (old heads next 
       joined_same x (meeting_at R j w k) (λ i. meeting_at R j w k (0 + i))
       (λ i h. ap (meeting_at R j w k) (let z : i ≡ 0 + i = omega arith in z))
 
-  spread : Room start (ranged 0 n (meeting_at R j w k)) old
-  spread = subst (λ (es : List Entry). Room start es old) (junction_met R j w k n fits ∙ from_first n) room
+  spread : Room old.len (ranged 0 n (meeting_at R j w k)) old.words.now
+  spread = subst (λ (es : List Entry). Room old.len es old.words.now) (junction_met R j w k n fits ∙ from_first n) room
 
   -- nothing is missed between two of the bucket
   gap : (lo hi : ℕ) → hi ≤ n → lo ≤ hi → ((i : ℕ) → lo ≤ i → i < hi → hash i ≡ meeting_hash (j + 1) w → ⊥)
@@ -142,19 +147,19 @@ module _ (both : Bool) (start : ℕ) (R : Rows) (n j w k : ℕ) (old heads next 
   gap lo hi h l away =
       joined_quiet (meeting_at R j w k) (n - hi) (n - lo) (omega arith)
       (λ c a b.
-      meeting_quiet R j w k c n homes lj (omega arith) (away (n - (c + 1)) (omega arith) (omega arith)))
+      meeting_quiet R j w k c n met.homes lj (omega arith) (away (n - (c + 1)) (omega arith) (omega arith)))
 
-  pub walk_begin : (b at : ℕ) → b ≡ meeting_hash (j + 1) w → b < length heads → at ≡ get_or heads b 0
-      → Walk both start R n j w k old at old start
+  pub walk_begin : (b at : ℕ) → b ≡ meeting_hash (j + 1) w → b < 16384 → at ≡ get_or heads b 0
+      → Walked R n j w k old at old
   walk_begin b at e lb q = record {
     below = subst (λ (x : ℕ). x ≤ n) (sym is) (last_le n (within hash b));
     bucket = λ r z. eqb-true (hash r) b (last_has n r (within hash b) (sym is ∙ z)) ∙ e;
-    took = subst (λ (es : List Entry). Took both start es old old start) nothing
-        (took_none both start old (let f = room.fits in omega arith));
+    grown = subst (λ (es : List Entry). Grown es old old) nothing
+        (grown_none old room);
   }
     where
       is : at ≡ last_of n (within hash b)
-      is = q ∙ chained.head b lb
+      is = q ∙ met.chained.head b (let h = met.buckets in omega arith)
 
       nothing : [] ≡ joined (n - at) (meeting_at R j w k)
       nothing =
@@ -164,59 +169,55 @@ module _ (both : Bool) (start : ℕ) (R : Rows) (n j w k : ℕ) (old heads next 
           (λ i a l f.
           eqb-false (hash i) b (last_past n i (within hash b) (subst (λ (x : ℕ). x ≤ i) is a) l) (f ∙ sym e))
 
-  module _ (at m : ℕ) (run : List ℕ) (k' : Walk both start R n j w k old at run m) where
-    so_far : Took both start (ranged 0 (n - at - 0) (meeting_at R j w k)) old run m
-    so_far =
-        subst (λ (es : List Entry). Took both start es old run m)
-        (ap (λ (x : ℕ). joined x (meeting_at R j w k)) (let z : n - at ≡ n - at - 0 = omega arith in z)
-        ∙ from_first (n - at - 0)) k'.took
+  module _ (at : ℕ) (run : Run) (k' : Walked R n j w k old at run) where
+    so_far : (c : ℕ) → c ≡ n - at → Grown (ranged 0 (c - 0) (meeting_at R j w k)) old run
+    so_far c q =
+        subst (λ (es : List Entry). Grown es old run)
+        (ap (λ (x : ℕ). joined x (meeting_at R j w k)) (let z : n - at ≡ c - 0 = omega arith in z)
+        ∙ from_first (c - 0)) k'.grown
 
-    pub walk_long : length run ≡ length old
-    walk_long =
-        turns_long both start 0 n (meeting_at R j w k) old spread (n - at) m run so_far (omega arith)
-        (omega arith)
-
-    pub walk_end : at ≡ 0 → Took both start (junction_by_row R j w k) old run m
+    pub walk_end : at ≡ 0 → Grown (junction_by_row R j w k) old run
     walk_end z =
-        subst (λ (es : List Entry). Took both start es old run m)
+        subst (λ (es : List Entry). Grown es old run)
         (ap (λ (x : ℕ). joined x (meeting_at R j w k)) (let e : n - at ≡ n = omega arith in e)
-        ∙ sym (junction_met R j w k n fits)) k'.took
+        ∙ sym (junction_met R j w k n fits)) k'.grown
 
-    module _ (nz : at ≡ 0 → ⊥) where
-      is_link : get_or next (at - 1) 0 ≡ last_of (at - 1) (within hash (hash (at - 1)))
-      is_link = chained.link (at - 1) (let b = k'.below in omega arith)
+    -- at row i of the chain, connection c
+    module _ (i : ℕ) (row : at ≡ suc i) where
+      abbrev c : ℕ
+      c = n - 1 - i
 
-      pub walk_less : get_or next (at - 1) 0 < at
-      walk_less = let a = is_link in let b = last_le (at - 1) (within hash (hash (at - 1))) in omega arith
+      is_link : get_or next i 0 ≡ last_of i (within hash (hash i))
+      is_link = met.chained.link i (let b = k'.below in omega arith)
 
-      pub walk_room : Room m (meeting_at R j w k (n - at)) run
+      pub walk_less : get_or next i 0 < at
+      walk_less = let a = is_link in let b = last_le i (within hash (hash i)) in omega arith
+
+      pub walk_room : Room run.len (meeting_at R j w k (n - 1 - i)) run.words.now
       walk_room =
-          turns_room both start 0 n (meeting_at R j w k) old spread (n - at) m run so_far (omega arith)
+          turns_room 0 n (meeting_at R j w k) old spread c run (so_far c (omega arith)) (omega arith)
           (let b = k'.below in omega arith)
 
-      pub walk_on : (at' q : ℕ) (new : List ℕ) → at' ≡ get_or next (at - 1) 0
-          → Took both m (meeting_at R j w k (n - at)) run new q → Walk both start R n j w k old at' new q
-      walk_on at' q new e t = record {
+      pub walk_on : (at' : ℕ) (new : Run) → at' ≡ get_or next i 0
+          → Grown (meeting_at R j w k (n - 1 - i)) run new → Walked R n j w k old at' new
+      walk_on at' new e t = record {
         below = let a = walk_less in let b = k'.below in omega arith;
-        bucket = λ r z. eqb-true (hash r) (hash (at - 1))
-            (last_has (at - 1) r (within hash (hash (at - 1))) (sym is ∙ z))
-            ∙ own;
-        took = subst (λ (es : List Entry). Took both start es old new q)
-            (sym (from_first (n - at + 1 - 0))
+        bucket = λ r z. eqb-true (hash r) (hash i) (last_has i r (within hash (hash i)) (sym is ∙ z)) ∙ own;
+        grown = subst (λ (es : List Entry). Grown es old new)
+            (sym (from_first (c + 1 - 0))
             ∙ ap (λ (x : ℕ). joined x (meeting_at R j w k))
-            (let b = k'.below in let z : n - at + 1 - 0 ≡ n - (at - 1) = omega arith in z)
-            ∙ gap at' (at - 1) (let b = k'.below in omega arith)
-            (let a = last_le (at - 1) (within hash (hash (at - 1))) in let z = is in omega arith)
-            (λ i a l f.
-            eqb-false (hash i) (hash (at - 1))
-            (last_past (at - 1) i (within hash (hash (at - 1))) (subst (λ (x : ℕ). x ≤ i) is a) l)
+            (let b = k'.below in let z : c + 1 - 0 ≡ n - i = omega arith in z)
+            ∙ gap at' i (let b = k'.below in omega arith)
+            (let a = last_le i (within hash (hash i)) in let z = is in omega arith)
+            (λ q a l f.
+            eqb-false (hash q) (hash i) (last_past i q (within hash (hash i)) (subst (λ (x : ℕ). x ≤ q) is a) l)
             (f ∙ sym own)))
-            (turns_on both start 0 n (meeting_at R j w k) old spread (n - at) m run so_far (omega arith)
-            (let b = k'.below in omega arith) new q t);
+            (turns_on 0 n (meeting_at R j w k) old spread c run (so_far c (omega arith)) (omega arith)
+            (let b = k'.below in omega arith) new t);
       }
         where
-          is : at' ≡ last_of (at - 1) (within hash (hash (at - 1)))
+          is : at' ≡ last_of i (within hash (hash i))
           is = e ∙ is_link
 
-          own : hash (at - 1) ≡ meeting_hash (j + 1) w
-          own = k'.bucket (at - 1) (let z : at ≡ suc (at - 1) = omega arith in z)
+          own : hash i ≡ meeting_hash (j + 1) w
+          own = k'.bucket i row

@@ -1,15 +1,16 @@
 -- Succession over rows: the model's functions where every name is a row plus 1, and 0 where nothing bears it.
 -- Definitions only.
 use Rattle.std.specs.Prelude.{ℕ, zero, suc, ◌+◌, ◌*◌, ◌/◌, ◌<◌, ◌≤◌, ◌≡◌, Bool, true, false, not, cond, List, [], ◌∷◌}
-use Rattle.std.specs.Prelude.{◌++◌, eqb, length, get_or, take}
+use Rattle.std.specs.Prelude.{◌++◌, eqb, length, get_or, take, Option as Found, Some, None}
 use Rattle.std.proofs.Math.Option.{Option, none, some}
-use Rattle.model.specs.Lists.{pick}
-use Rattle.model.specs.Records.{Lane}
-use Rattle.model.specs.Rows.{written}
-use Rattle.model.specs.Succession.{Entry, end_section, next_section}
-use Rattle.model.specs.Tables.{flag, lane_in}
-use Rattle.words.specs.Chain.{Chained}
-use Rattle.words.specs.Keys.{is_key, lane_hash}
+use Rattle.geometry.specs.declared.gap.Direction.{Direction}
+use Rattle.geometry.specs.declared.gap.Direction.TheVariants.{Forward, Backward, Both}
+use Rattle.model.specs.Lists.{list_o, pick}
+use Rattle.model.specs.Records.{Lane, Target}
+use Rattle.model.specs.Rows.{parts_fit, table, written}
+use Rattle.model.specs.Succession.{Entry, end_section, is_both, next_section}
+use Rattle.model.specs.Tables.{direction_of, flag, lane_in, link_of, target_in}
+use Rattle.words.specs.Keys.{is_key}
 use Rattle.words.specs.Rows.{from, joined, last_of}
 use Rattle.rules.specs.ByRow.{numbers_at}
 use Rattle.succession.specs.Runs.{Rising, absorb}
@@ -62,6 +63,11 @@ abbrev pub sections_by_row : List ℕ → List ℕ → ℕ → List ℕ
 sections_by_row roads sections zero = []
 sections_by_row roads sections (suc r) = numbers_at roads sections r
 
+-- a section of the code as the model's
+abbrev pub section_of : Found ℕ → Option ℕ
+section_of (Some s) = some s
+section_of None = none
+
 -- ---- the model's functions
 unfoldable pub lookup_by_row : Rows → ℕ → Bool → ℕ → List Entry
 lookup_by_row R w e k =
@@ -95,43 +101,57 @@ abbrev pub junction_at_row : Rows → ℕ → ℕ → ℕ → List Entry
 junction_at_row R zero w k = []
 junction_at_row R (suc j) w k = junction_by_row R j w k
 
--- past the target from word at on, which names row `to`, of lane l with the link from word link on
-unfoldable pub cross_by_row : Rows → ℕ → ℕ → ℕ → ℕ → List Entry
-cross_by_row R l at to link = cond (eqb (get_or R.roads at 0) 1)
-    (cond (eqb (get_or R.roads (at + 1) 0) 1)
+-- the link from word at of the lanes on, and lane l's at an end of its road
+abbrev pub link_from : List ℕ → ℕ → Option ℕ
+link_from lanes at = link_of (get_or lanes at 0) (get_or lanes (at + 1) 0)
+
+abbrev pub link_by_row : List ℕ → ℕ → Bool → Option ℕ
+link_by_row lanes l e = pick e (link_from lanes (l * 10 + 8)) (link_from lanes (l * 10 + 6))
+
+-- what a target, which names row `to`, leads lane l, with link o there, into
+abbrev pub cross_at_row : Rows → ℕ → ℕ → Option ℕ → Target → List Entry
+cross_at_row R l to o t = cond t.is_junction
     (junction_at_row R to (get_or R.owner l 0) (get_or R.lanes (l * 10 + 4) 0))
-    (cond (eqb (get_or R.lanes link 0) 1)
-    (lookup_by_row R to (flag (get_or R.roads (at + 4) 0)) (get_or R.lanes (link + 1) 0)) []))
-    []
+    (list_o o (lookup_by_row R to t.contact))
 
--- the lane in another section of lane l's road
-unfoldable pub step_by_row : List ℕ → List ℕ → ℕ → ℕ → ℕ → Bool → List Entry
-step_by_row lanes owner l s link e =
-    cond (eqb (get_or lanes link 0) 1)
-    (one_at lanes (lane_row_of lanes owner (get_or owner l 0) s (get_or lanes (link + 1) 0)) e) []
+-- past the target from word at on, which names row `to`, of lane l with link o there
+unfoldable pub cross_by_row : Rows → ℕ → ℕ → ℕ → Option ℕ → List Entry
+cross_by_row R l at to o = list_o (target_in R.roads at) (cross_at_row R l to o)
 
-abbrev pub exits_from_row : Rows → ℕ → ℕ → Bool → ℕ → Option ℕ → List Entry
-exits_from_row R l r e link (some s) = step_by_row R.lanes R.owner l s link (not e)
-exits_from_row R l r e link none =
+-- the lane in another section of lane l's road, by link o
+unfoldable pub step_by_row : List ℕ → List ℕ → ℕ → ℕ → Option ℕ → Bool → List Entry
+step_by_row lanes owner l s o e = list_o o (λ k. one_at lanes (lane_row_of lanes owner (get_or owner l 0) s k) e)
+
+abbrev pub exits_from_row : Rows → ℕ → ℕ → Bool → Option ℕ → Option ℕ → List Entry
+exits_from_row R l r e o (some s) = step_by_row R.lanes R.owner l s o (not e)
+exits_from_row R l r e o none =
     cross_by_row R l (pick e (r * 20 + 4) (r * 20 + 11))
-    (pick e (get_or R.ends (r * 2) 0) (get_or R.ends (r * 2 + 1) 0)) link
+    (pick e (get_or R.ends (r * 2) 0) (get_or R.ends (r * 2 + 1) 0)) o
 
 abbrev pub exits_at_row : Rows → ℕ → Bool → ℕ → List Entry
 exits_at_row R l e zero = []
 exits_at_row R l e (suc r) =
-    exits_from_row R l r e (pick e (l * 10 + 8) (l * 10 + 6))
+    exits_from_row R l r e (link_by_row R.lanes l e)
     (next_section (numbers_at R.roads R.sections r) (get_or R.lanes (l * 10 + 3) 0) e)
 
 unfoldable pub exits_by_row : Rows → ℕ → Bool → List Entry
 exits_by_row R l e = exits_at_row R l e (get_or R.owner l 0)
 
-abbrev pub successors_from_row : Rows → ℕ → ℕ → List ℕ
-successors_from_row R l zero = absorb false [] (exits_by_row R l true)
-successors_from_row R l (suc zero) = absorb false [] (exits_by_row R l false)
-successors_from_row R l (suc (suc d)) = absorb true [] (exits_by_row R l true ++ exits_by_row R l false)
+-- the direction of lane l
+abbrev pub direction_at : List ℕ → ℕ → Direction
+direction_at lanes l = direction_of (get_or lanes (l * 10 + 5) 0)
 
+abbrev pub own_exits_from_row : Rows → ℕ → Direction → List Entry
+own_exits_from_row R l Forward = exits_by_row R l true
+own_exits_from_row R l Backward = exits_by_row R l false
+own_exits_from_row R l Both = exits_by_row R l true ++ exits_by_row R l false
+
+unfoldable pub own_exits_by_row : Rows → ℕ → List Entry
+own_exits_by_row R l = own_exits_from_row R l (direction_at R.lanes l)
+
+-- taken in one by one: from a two-way lane each once, and only what runs away from the joint
 unfoldable pub successors_by_row : Rows → ℕ → List ℕ
-successors_by_row R l = successors_from_row R l (get_or R.lanes (l * 10 + 5) 0)
+successors_by_row R l = absorb (is_both (direction_at R.lanes l)) [] (own_exits_by_row R l)
 
 -- ---- what the functions ask and answer
 -- the entries taken in one by one, after the n words of the run
@@ -143,36 +163,28 @@ pub record Room (n : ℕ) (es : List Entry) (old : List ℕ) : Type 0 where
   pub rising : Rising (take n old)
   pub fits : n + length es ≤ length old
 
--- few roads, and the part of each lies in the sections
-pub record Sectioned (roads sections : List ℕ) : Type 0 where
-  pub few : length roads / 20 ≤ 16384
-  pub parts : (r : ℕ) → r < length roads / 20
-      → get_or roads (r * 20 + 18) 0 + get_or roads (r * 20 + 19) 0 ≤ length sections
-
--- rows and parts lie in their tables, sections ascend, and the chains hold the lanes by their keys
-pub record Sound (roads sections junctions connections pairs lanes owner sides ends heads next : List ℕ) : Type 0 where
-  pub few : length lanes / 10 ≤ 16384
-  pub few_roads : length roads / 20 ≤ 16384
-  pub owner_long : length lanes / 10 ≤ length owner
-  pub owner_low : (l : ℕ) → l < length lanes / 10 → 0 < get_or owner l 0
-  pub owner_high : (l : ℕ) → l < length lanes / 10 → get_or owner l 0 ≤ length roads / 20
-  pub sides_long : length connections / 7 * 2 ≤ length sides
-  pub sides_high : (c : ℕ) → c < length connections / 7 → get_or sides (c * 2 + 1) 0 ≤ length roads / 20
-  pub ends_long : length roads / 20 * 2 ≤ length ends
-  pub road_ends : (r : ℕ) (k : ℕ) → r < length roads / 20 → k < 2
-      → eqb (get_or roads (r * 20 + (5 + k * 7)) 0) 1 ≡ false → get_or ends (r * 2 + k) 0 ≤ length roads / 20
-  pub junction_ends : (r : ℕ) (k : ℕ) → r < length roads / 20 → k < 2
-      → eqb (get_or roads (r * 20 + (5 + k * 7)) 0) 1 ≡ true → get_or ends (r * 2 + k) 0 ≤ length junctions / 5
-  pub section_parts : (r : ℕ) → r < length roads / 20
-      → get_or roads (r * 20 + 18) 0 + get_or roads (r * 20 + 19) 0 ≤ length sections
-  pub rising : (r : ℕ) → r < length roads / 20 → Rising (numbers_at roads sections r)
-  pub connection_parts : (j : ℕ) → j < length junctions / 5
-      → get_or junctions (j * 5 + 3) 0 + get_or junctions (j * 5 + 4) 0 ≤ length connections / 7
-  pub pair_parts : (c : ℕ) → c < length connections / 7
-      → get_or connections (c * 7 + 5) 0 + get_or connections (c * 7 + 6) 0 ≤ length pairs / 2
-  pub buckets : length heads ≡ 16384
-  pub links : length lanes / 10 ≤ length next
-  pub chained : Chained (lane_hash lanes owner) (length lanes / 10) heads next
+-- rows and parts lie in their tables, and sections ascend
+pub record Sound (R : Rows) : Type 0 where
+  pub few_roads : length R.roads / 20 ≤ 16384
+  pub owner_low : (l : ℕ) → l < length R.lanes / 10 → 0 < get_or R.owner l 0
+  pub owner_high : (l : ℕ) → l < length R.lanes / 10 → get_or R.owner l 0 ≤ length R.roads / 20
+  pub sides_long : length R.connections / 7 * 2 ≤ length R.sides
+  pub sides_high : (c : ℕ) → c < length R.connections / 7 → get_or R.sides (c * 2 + 1) 0 ≤ length R.roads / 20
+  pub ends_long : length R.roads / 20 * 2 ≤ length R.ends
+  pub start_roads : (r : ℕ) → r < length R.roads / 20 → flag (get_or R.roads (r * 20 + 4 + 1) 0) ≡ false
+      → get_or R.ends (r * 2) 0 ≤ length R.roads / 20
+  pub start_junctions : (r : ℕ) → r < length R.roads / 20 → flag (get_or R.roads (r * 20 + 4 + 1) 0) ≡ true
+      → get_or R.ends (r * 2) 0 ≤ length R.junctions / 5
+  pub end_roads : (r : ℕ) → r < length R.roads / 20 → flag (get_or R.roads (r * 20 + 11 + 1) 0) ≡ false
+      → get_or R.ends (r * 2 + 1) 0 ≤ length R.roads / 20
+  pub end_junctions : (r : ℕ) → r < length R.roads / 20 → flag (get_or R.roads (r * 20 + 11 + 1) 0) ≡ true
+      → get_or R.ends (r * 2 + 1) 0 ≤ length R.junctions / 5
+  pub section_parts : parts_fit 18 19 0 (length R.sections) (table 20 R.roads) ≡ true
+  pub rising : (r : ℕ) → r < length R.roads / 20 → Rising (numbers_at R.roads R.sections r)
+  pub connection_parts : (j : ℕ) → j < length R.junctions / 5
+      → get_or R.junctions (j * 5 + 3) 0 + get_or R.junctions (j * 5 + 4) 0 ≤ length R.connections / 7
+  pub pair_parts : (c : ℕ) → c < length R.connections / 7
+      → get_or R.connections (c * 7 + 5) 0 + get_or R.connections (c * 7 + 6) 0 ≤ length R.pairs / 2
 
 -- lane l's own list written from the run's first word on
 pub record Resolved (R : Rows) (l : ℕ) (old new : List ℕ) (q : ℕ) : Type 0 where

@@ -1,15 +1,14 @@
 -- All lanes' lists, from what each finds by its own links and from who finds it. Definitions only.
-use Rattle.std.specs.Prelude.{ℕ, zero, suc, ◌+◌, ◌*◌, ◌/◌, ◌≤◌, ◌≡◌, Bool, true, false, not, ◌&&◌, cond, List, [], ◌∷◌}
-use Rattle.std.specs.Prelude.{length, get_or, take}
+use Rattle.std.specs.Prelude.{ℕ, zero, suc, ◌+◌, ◌/◌, ◌≤◌, ◌≡◌, Bool, true, false, not, ◌&&◌, cond, List, [], ◌∷◌}
+use Rattle.std.specs.Prelude.{length, take}
 use Rattle.model.specs.Lists.{insert, member}
 use Rattle.model.specs.Lookup.{list_part}
 use Rattle.model.specs.Rows.{written}
 use Rattle.model.specs.Succession.{is_both}
-use Rattle.model.specs.Tables.{direction_of}
 use Rattle.words.specs.Rows.{last_of}
 use Rattle.words.specs.Keys.{is_id}
 use Rattle.succession.specs.Runs.{Rising}
-use Rattle.succession.specs.ByRow.{Rows, exits_by_row}
+use Rattle.succession.specs.ByRow.{Rows, direction_at, exits_by_row}
 
 -- how many lanes lane l is led into, before any is left out
 abbrev pub exit_count : Rows → ℕ → ℕ
@@ -18,7 +17,7 @@ exit_count R l = length (exits_by_row R l true) + length (exits_by_row R l false
 -- is the lane with that row plus 1 two-way?
 abbrev pub two_way_row : List ℕ → ℕ → Bool
 two_way_row lanes zero = false
-two_way_row lanes (suc r) = is_both (direction_of (get_or lanes (r * 10 + 5) 0))
+two_way_row lanes (suc r) = is_both (direction_at lanes r)
 
 -- does a two-way lane that finds `mine` want a link back to the lane of identity x, which finds it?
 unfoldable pub wants : (lanes mine : List ℕ) → ℕ → Bool
@@ -47,8 +46,3 @@ pub record Taking (p : ℕ → Bool) (finders : List ℕ) (start : ℕ) (run : L
   pub rising : Rising (take start run)
   pub begun : start ≤ length run
   pub room : length (back_into p finders (take start run)) ≤ length run
-
--- how long the two lists of a lane are together
-abbrev pub both_long : (offsets ids finder_offsets finder_ids : List ℕ) → ℕ → ℕ
-both_long offsets ids finder_offsets finder_ids l =
-    length (list_part offsets ids l) + length (list_part finder_offsets finder_ids l)

@@ -1,7 +1,10 @@
 pub mod Runs
 pub mod ByRow
+pub mod Grown
+pub mod Read
 pub mod Meeting
 pub mod Named
 pub mod Packs
 pub mod Finished
+pub mod Found
 pub mod Answers

@@ -40,6 +40,12 @@ unfoldable pub connection_hash : (junctions sides : List ℕ) → ℕ → ℕ �
 connection_hash junctions sides n i =
     meeting_hash (home_of junctions (n - (i + 1))) (get_or sides ((n - (i + 1)) * 2) 0)
 
+-- n connections, those from c on chained: c counts down
+pub record ChainedFrom (junctions sides : List ℕ) (n c : ℕ) (heads next : List ℕ) : Type 0 where
+  pub buckets : length heads ≡ 16384
+  pub rows : length next ≡ 16384
+  pub chained : Chained (connection_hash junctions sides n) (n - c) heads next
+
 -- every part's connections have their junction as home
 abbrev pub Homes : List ℕ → Type 0
 Homes junctions =

@@ -1,365 +1,126 @@
 // The lanes that a lane finds by its own links.
-ghost use Rattle.std.specs.Prelude.{◌≡◌, true, false, ◌+◌, ◌*◌, ◌/◌, ◌≤◌, ◌<◌, eqb, length, get_or};
+ghost use Rattle.std.specs.Prelude.{◌≡◌, true, false, ◌+◌, ◌*◌, ◌/◌, ◌≤◌, ◌<◌, length, get_or};
 ghost use Rattle.model.specs.Lists.{pick};
-ghost use Rattle.succession.specs.ByRow.{Resolved, Took, Room, Rows, Sound, rows_of, cross_by_row, exits_by_row};
-ghost use Rattle.succession.specs.Meeting.{Meeting};
+ghost use Rattle.model.specs.Tables.{flag};
+ghost use Rattle.words.specs.Chain.{stored};
+ghost use Rattle.words.specs.Fields.{number_read};
+ghost use Rattle.succession.specs.ByRow.{Resolved, Room, cross_by_row, exits_by_row, link_by_row, own_exits_by_row};
+ghost use Rattle.succession.specs.Grown.{Grown};
+ghost use Rattle.succession.specs.Read.{read_of};
 
-use crate::sections::Next;
-use crate::{entries, junction, sections, step};
+use crate::entries::Run;
+use crate::walk::Walk;
+use geometry::gap::Direction;
 use tables::lookup::RoadId;
-use words::rows;
+use words::target::Target;
+use words::{chain, kinds, rows};
 
-// Past the end of lane l's road at the target from word `at` on, which names the row `to` (plus 1).
-fn cross(
-    roads: &[u32],
-    sections: &[u32],
-    junctions: &[u32],
-    connections: &[u32],
-    pairs: &[u32],
-    lanes: &[u32],
-    owner: &[u32],
-    sides: &[u32],
-    ends: &[u32],
-    heads: &[u32],
-    next: &[u32],
-    mheads: &[u32],
-    mnext: &[u32],
-    l: usize,
-    at: usize,
-    to: usize,
-    link: usize,
-    both: bool,
-    run: &mut [u32],
-    n: usize,
-) -> usize
-    requires sound { Sound roads.now sections.now junctions.now connections.now pairs.now lanes.now
-        owner.now sides.now ends.now heads.now next.now }
-    requires chained { Meeting junctions.now connections.now sides.now mheads.now mnext.now }
-    requires in_bounds { (l < length lanes.now / 10) × (at + 4 < length roads.now) × (link + 1 < length lanes.now)
-        × (eqb (get_or roads.now (at + 1) 0) 1 ≡ true → to ≤ length junctions.now / 5)
-        × (eqb (get_or roads.now (at + 1) 0) 1 ≡ false → to ≤ length roads.now / 20) }
-    requires room { let read : Rows = rows_of roads.now sections.now junctions.now connections.now pairs.now
-        lanes.now owner.now sides.now ends.now in
-        Room n (cross_by_row read l at to link) run.old }
-    ensures { let read : Rows = rows_of roads.now sections.now junctions.now connections.now pairs.now
-        lanes.now owner.now sides.now ends.now in
-        Took both n (cross_by_row read l at to link) run.old run.new result }
-{
-    if roads[at] != 1 {
-        return n;
-    }
-    if roads[at + 1] == 1 {
-        if to == 0 {
-            return n;
+impl Walk<'_> {
+    // Past the end of lane l's road at the target from word `at` on, which names the row `to`.
+    #[tactic(auto, unfolding(crate::specs::ByRow::cross_by_row, crate::specs::ByRow::lookup_by_row))]
+    fn cross(&self, l: usize, at: usize, to: Option<usize>, link: Option<u32>, run: &mut Run)
+        requires in_bounds { (l < length self.now.places.lanes.now / 10) × (at + 6 < length self.now.map.roads.now)
+            × (flag (get_or self.now.map.roads.now (at + 1) 0) ≡ true
+            → stored to ≤ length self.now.map.junctions.now / 5)
+            × (flag (get_or self.now.map.roads.now (at + 1) 0) ≡ false
+            → stored to ≤ length self.now.map.roads.now / 20) }
+        requires room { Room run.old.len (cross_by_row (read_of self.now) l at (stored to) (number_read link))
+            run.old.words.now }
+        ensures { Grown (cross_by_row (read_of self.now) l at (stored to) (number_read link)) run.old run.new }
+    {
+        let Some(target) = Target::at(self.map.roads, at) else {
+            return;
+        };
+        let lanes = self.places.lanes;
+        if target.is_junction {
+            if let Some(j) = to {
+                self.through_junction(j, self.places.owner[l], lanes[l * 10 + 4], run);
+            }
+        } else if let Some(number) = link {
+            let section = self.end_section(to, target.contact);
+            self.enter(chain::word_of(to), section, number, target.contact, run);
         }
-        return junction::through_junction(
-            roads,
-            sections,
-            junctions,
-            connections,
-            pairs,
-            lanes,
-            owner,
-            sides,
-            ends,
-            heads,
-            next,
-            mheads,
-            mnext,
-            to - 1,
-            rows::word(owner, l),
-            lanes[l * 10 + 4],
-            both,
-            run,
-            n,
-        );
     }
-    if lanes[link] != 1 {
-        return n;
-    }
-    let contact = roads[at + 4];
-    let section = sections::end_section(roads, sections, to, contact);
-    entries::enter(
-        lanes,
-        run,
-        n,
-        both,
-        step::lookup(lanes, owner, heads, next, to, section, lanes[link + 1]),
-        contact,
-    )
-}
 
-// Past the end of lane l's road, or its start if not forward.
-fn leave(
-    roads: &[u32],
-    sections: &[u32],
-    junctions: &[u32],
-    connections: &[u32],
-    pairs: &[u32],
-    lanes: &[u32],
-    owner: &[u32],
-    sides: &[u32],
-    ends: &[u32],
-    heads: &[u32],
-    next: &[u32],
-    mheads: &[u32],
-    mnext: &[u32],
-    l: usize,
-    r: RoadId,
-    link: usize,
-    forward: bool,
-    both: bool,
-    run: &mut [u32],
-    n: usize,
-) -> usize
-    requires sound { Sound roads.now sections.now junctions.now connections.now pairs.now lanes.now
-        owner.now sides.now ends.now heads.now next.now }
-    requires chained { Meeting junctions.now connections.now sides.now mheads.now mnext.now }
-    requires in_bounds { (l < length lanes.now / 10) × (r.0 < length roads.now / 20) × (link + 1 < length lanes.now) }
-    requires room { let read : Rows = rows_of roads.now sections.now junctions.now connections.now pairs.now
-        lanes.now owner.now sides.now ends.now in
-        Room n (cross_by_row read l (pick forward (r.0 * 20 + 4) (r.0 * 20 + 11))
-        (pick forward (get_or read.ends (r.0 * 2) 0) (get_or read.ends (r.0 * 2 + 1) 0)) link) run.old }
-    ensures { let read : Rows = rows_of roads.now sections.now junctions.now connections.now pairs.now
-        lanes.now owner.now sides.now ends.now in
-        Took both n (cross_by_row read l (pick forward (r.0 * 20 + 4) (r.0 * 20 + 11))
-        (pick forward (get_or read.ends (r.0 * 2) 0) (get_or read.ends (r.0 * 2 + 1) 0)) link)
-        run.old run.new result }
-{
-    let row = r.0 as usize;
-    if forward {
-        return cross(
-            roads,
-            sections,
-            junctions,
-            connections,
-            pairs,
-            lanes,
-            owner,
-            sides,
-            ends,
-            heads,
-            next,
-            mheads,
-            mnext,
-            l,
-            row * 20 + 11,
-            rows::word(ends, row * 2 + 1),
-            link,
-            both,
-            run,
-            n,
-        );
+    // Past the end of road r from its lane l, or past its start if not forward.
+    fn leave(&self, l: usize, r: RoadId, link: Option<u32>, forward: bool, run: &mut Run)
+        requires in_bounds { (l < length self.now.places.lanes.now / 10)
+            × (r.0 < length self.now.map.roads.now / 20) }
+        requires room { Room run.old.len (cross_by_row (read_of self.now) l
+            (pick forward (r.0 * 20 + 4) (r.0 * 20 + 11))
+            (pick forward (get_or self.now.ends.now (r.0 * 2) 0) (get_or self.now.ends.now (r.0 * 2 + 1) 0))
+            (number_read link)) run.old.words.now }
+        ensures { Grown (cross_by_row (read_of self.now) l (pick forward (r.0 * 20 + 4) (r.0 * 20 + 11))
+            (pick forward (get_or self.now.ends.now (r.0 * 2) 0) (get_or self.now.ends.now (r.0 * 2 + 1) 0))
+            (number_read link)) run.old run.new }
+    {
+        let row = r.0 as usize;
+        if forward {
+            let to = chain::row_in(self.ends[row * 2 + 1]);
+            self.cross(l, row * 20 + 11, to, link, run);
+        } else {
+            let to = chain::row_in(self.ends[row * 2]);
+            self.cross(l, row * 20 + 4, to, link, run);
+        }
     }
-    cross(
-        roads,
-        sections,
-        junctions,
-        connections,
-        pairs,
-        lanes,
-        owner,
-        sides,
-        ends,
-        heads,
-        next,
-        mheads,
-        mnext,
-        l,
-        row * 20 + 4,
-        rows::word(ends, row * 2),
-        link,
-        both,
-        run,
-        n,
-    )
-}
 
-// The lanes reached by driving off lane l at its road's end, or at its start if not forward.
-fn exits(
-    roads: &[u32],
-    sections: &[u32],
-    junctions: &[u32],
-    connections: &[u32],
-    pairs: &[u32],
-    lanes: &[u32],
-    owner: &[u32],
-    sides: &[u32],
-    ends: &[u32],
-    heads: &[u32],
-    next: &[u32],
-    mheads: &[u32],
-    mnext: &[u32],
-    l: usize,
-    forward: bool,
-    both: bool,
-    run: &mut [u32],
-    n: usize,
-) -> usize
-    requires sound { Sound roads.now sections.now junctions.now connections.now pairs.now lanes.now
-        owner.now sides.now ends.now heads.now next.now }
-    requires chained { Meeting junctions.now connections.now sides.now mheads.now mnext.now }
-    requires l_in_bounds { l < length lanes.now / 10 }
-    requires room { let read : Rows = rows_of roads.now sections.now junctions.now connections.now pairs.now
-        lanes.now owner.now sides.now ends.now in
-        Room n (exits_by_row read l forward) run.old }
-    ensures { let read : Rows = rows_of roads.now sections.now junctions.now connections.now pairs.now
-        lanes.now owner.now sides.now ends.now in
-        Took both n (exits_by_row read l forward) run.old run.new result }
-{
-    let r = RoadId(owner[l] - 1);
-    let link = step::link_at(l, forward);
-    match sections::next_section(roads, sections, r, lanes[l * 10 + 3], forward) {
-        Next::At(s) => step::within_road(
-            lanes,
-            owner,
-            heads,
-            next,
-            l,
-            s,
-            link,
-            step::entered_at(forward),
-            both,
-            run,
-            n,
-        ),
-        Next::Past => leave(
-            roads,
-            sections,
-            junctions,
-            connections,
-            pairs,
-            lanes,
-            owner,
-            sides,
-            ends,
-            heads,
-            next,
-            mheads,
-            mnext,
-            l,
-            r,
-            link,
-            forward,
-            both,
-            run,
-            n,
-        ),
+    // Lane l's link at its road's end, or at its start if not forward.
+    fn link_at(&self, l: usize, forward: bool) -> Option<u32>
+        requires { l < length self.now.places.lanes.now / 10 }
+        ensures { number_read result ≡ link_by_row self.now.places.lanes.now l forward }
+    {
+        let lanes = self.places.lanes;
+        if forward {
+            rows::link(lanes, l * 10 + 6)
+        } else {
+            rows::link(lanes, l * 10 + 8)
+        }
     }
-}
 
-// The successors that lane l finds by its own links, from the run's first word on. Returns how many.
-pub fn successors_of(
-    roads: &[u32],
-    sections: &[u32],
-    junctions: &[u32],
-    connections: &[u32],
-    pairs: &[u32],
-    lanes: &[u32],
-    owner: &[u32],
-    sides: &[u32],
-    ends: &[u32],
-    heads: &[u32],
-    next: &[u32],
-    mheads: &[u32],
-    mnext: &[u32],
-    l: usize,
-    run: &mut [u32],
-) -> usize
-    requires sound { Sound roads.now sections.now junctions.now connections.now pairs.now lanes.now
-        owner.now sides.now ends.now heads.now next.now }
-    requires chained { Meeting junctions.now connections.now sides.now mheads.now mnext.now }
-    requires in_bounds { let read : Rows = rows_of roads.now sections.now junctions.now connections.now pairs.now
-        lanes.now owner.now sides.now ends.now in
-        (l < length lanes.now / 10)
-        × (length (exits_by_row read l true) + length (exits_by_row read l false) ≤ length run.old) }
-    ensures { let read : Rows = rows_of roads.now sections.now junctions.now connections.now pairs.now
-        lanes.now owner.now sides.now ends.now in
-        Resolved read l run.old run.new result }
-{
-    let direction = lanes[l * 10 + 5];
-    if direction == 0 {
-        return exits(
-            roads,
-            sections,
-            junctions,
-            connections,
-            pairs,
-            lanes,
-            owner,
-            sides,
-            ends,
-            heads,
-            next,
-            mheads,
-            mnext,
-            l,
-            true,
-            false,
-            run,
-            0,
-        );
+    // The lanes reached by driving off lane l at its road's end, or at its start if not forward.
+    fn exits(&self, l: usize, forward: bool, run: &mut Run)
+        requires l_in_bounds { l < length self.now.places.lanes.now / 10 }
+        requires room { Room run.old.len (exits_by_row (read_of self.now) l forward) run.old.words.now }
+        ensures { Grown (exits_by_row (read_of self.now) l forward) run.old run.new }
+    {
+        let r = RoadId(self.places.owner[l] - 1);
+        let link = self.link_at(l, forward);
+        match self.next_section(r, self.places.lanes[l * 10 + 3], forward) {
+            Some(s) => self.within_road(l, s, link, !forward, run),
+            None => self.leave(l, r, link, forward, run),
+        }
     }
-    if direction == 1 {
-        return exits(
-            roads,
-            sections,
-            junctions,
-            connections,
-            pairs,
-            lanes,
-            owner,
-            sides,
-            ends,
-            heads,
-            next,
-            mheads,
-            mnext,
-            l,
-            false,
-            false,
-            run,
-            0,
-        );
+
+    // The lanes reached by driving off lane l: a two-way lane at both ends.
+    #[tactic(auto, unfolding(crate::specs::ByRow::own_exits_by_row))]
+    fn own_exits(&self, l: usize, run: &mut Run)
+        requires l_in_bounds { l < length self.now.places.lanes.now / 10 }
+        requires room { Room run.old.len (own_exits_by_row (read_of self.now) l) run.old.words.now }
+        ensures { Grown (own_exits_by_row (read_of self.now) l) run.old run.new }
+    {
+        match kinds::direction(self.places.lanes, l) {
+            Direction::Forward => self.exits(l, true, run),
+            Direction::Backward => self.exits(l, false, run),
+            Direction::Both => {
+                self.exits(l, true, run);
+                self.exits(l, false, run);
+            }
+        }
     }
-    let n = exits(
-        roads,
-        sections,
-        junctions,
-        connections,
-        pairs,
-        lanes,
-        owner,
-        sides,
-        ends,
-        heads,
-        next,
-        mheads,
-        mnext,
-        l,
-        true,
-        true,
-        run,
-        0,
-    );
-    exits(
-        roads,
-        sections,
-        junctions,
-        connections,
-        pairs,
-        lanes,
-        owner,
-        sides,
-        ends,
-        heads,
-        next,
-        mheads,
-        mnext,
-        l,
-        false,
-        true,
-        run,
-        n,
-    )
+
+    // The successors that lane l finds by its own links, from the first word on. Returns how many.
+    #[tactic(auto, using(crate::proofs::Turns::room_own), unfolding(crate::specs::ByRow::successors_by_row))]
+    pub fn successors_of(&self, l: usize, words: &mut [u32]) -> usize
+        requires { (l < length self.now.places.lanes.now / 10) × (length (exits_by_row (read_of self.now) l true)
+            + length (exits_by_row (read_of self.now) l false) ≤ length words.old) }
+        ensures { Resolved (read_of self.now) l words.old words.new result }
+    {
+        let mut run = Run {
+            words,
+            len: 0,
+            both: kinds::direction(self.places.lanes, l) == Direction::Both,
+        };
+        self.own_exits(l, &mut run);
+        run.len
+    }
 }

@@ -1,168 +1,56 @@
 // Through a junction: its connections from a road, and their pairs from a lane.
-ghost use Rattle.std.specs.Prelude.{◌≡◌, ◌/◌, ◌<◌, length};
-ghost use Rattle.succession.specs.ByRow.{Took, Room, Rows, Sound, rows_of, pairs_by_row, junction_by_row};
-ghost use Rattle.succession.specs.Meeting.{Meeting, meeting_at};
+ghost use Rattle.std.specs.Prelude.{◌/◌, ◌<◌, length};
+ghost use Rattle.succession.specs.ByRow.{Room, pairs_by_row, junction_by_row};
+ghost use Rattle.succession.specs.Grown.{Grown};
+ghost use Rattle.succession.specs.Meeting.{meeting_at};
+ghost use Rattle.succession.specs.Read.{read_of};
 
-use crate::{meeting, sections, step};
-use words::rows;
+use crate::entries::Run;
+use crate::meeting;
+use crate::walk::Walk;
+use words::{chain, rows};
 
-// Through the pairs of connection c that start at lane number k.
-fn through_pairs(
-    roads: &[u32],
-    sections: &[u32],
-    junctions: &[u32],
-    connections: &[u32],
-    pairs: &[u32],
-    lanes: &[u32],
-    owner: &[u32],
-    sides: &[u32],
-    ends: &[u32],
-    heads: &[u32],
-    next: &[u32],
-    c: usize,
-    k: u32,
-    both: bool,
-    run: &mut [u32],
-    start: usize,
-) -> usize
-    requires sound { Sound roads.now sections.now junctions.now connections.now pairs.now lanes.now
-        owner.now sides.now ends.now heads.now next.now }
-    requires c_in_bounds { c < length connections.now / 7 }
-    requires room { let read : Rows = rows_of roads.now sections.now junctions.now connections.now pairs.now
-        lanes.now owner.now sides.now ends.now in
-        Room start (pairs_by_row read c k) run.old }
-    ensures { let read : Rows = rows_of roads.now sections.now junctions.now connections.now pairs.now
-        lanes.now owner.now sides.now ends.now in
-        Took both start (pairs_by_row read c k) run.old run.new result }
-{
-    let road = rows::word(sides, c * 2 + 1);
-    let contact = connections[c * 7 + 4];
-    let section = sections::end_section(roads, sections, road, contact);
-    let first = rows::word(connections, c * 7 + 5);
-    let end = first + rows::word(connections, c * 7 + 6);
-    let mut n = start;
-    let mut p = first;
-    while p < end {
-        n = step::through_pair(
-            pairs, lanes, owner, heads, next, road, section, contact, k, p, both, run, n,
-        );
-        p += 1;
+impl Walk<'_> {
+    // Through the pairs of connection c that start at lane number k.
+    fn through_pairs(&self, c: usize, k: u32, run: &mut Run)
+        requires c_in_bounds { c < length self.now.map.connections.now / 7 }
+        requires room { Room run.old.len (pairs_by_row (read_of self.now) c k) run.old.words.now }
+        ensures { Grown (pairs_by_row (read_of self.now) c k) run.old run.new }
+    {
+        let connections = self.map.connections;
+        let road = self.sides[c * 2 + 1];
+        let at_end = rows::flag(connections, c * 7 + 4);
+        let section = self.end_section(chain::row_in(road), at_end);
+        let first = rows::word(connections, c * 7 + 5);
+        let end = first + rows::word(connections, c * 7 + 6);
+        for p in first..end {
+            self.through_pair(road, section, at_end, k, p, run);
+        }
     }
-    n
-}
 
-// Takes in what connection c leads lane number k of that road to, if it is one of junction j's.
-fn through_connection(
-    roads: &[u32],
-    sections: &[u32],
-    junctions: &[u32],
-    connections: &[u32],
-    pairs: &[u32],
-    lanes: &[u32],
-    owner: &[u32],
-    sides: &[u32],
-    ends: &[u32],
-    heads: &[u32],
-    next: &[u32],
-    j: usize,
-    road: usize,
-    c: usize,
-    k: u32,
-    both: bool,
-    run: &mut [u32],
-    n: usize,
-) -> usize
-    requires sound { Sound roads.now sections.now junctions.now connections.now pairs.now lanes.now
-        owner.now sides.now ends.now heads.now next.now }
-    requires in_bounds { (j < length junctions.now / 5) × (c < length connections.now / 7) }
-    requires room { let read : Rows = rows_of roads.now sections.now junctions.now connections.now pairs.now
-        lanes.now owner.now sides.now ends.now in
-        Room n (meeting_at read j road k c) run.old }
-    ensures { let read : Rows = rows_of roads.now sections.now junctions.now connections.now pairs.now
-        lanes.now owner.now sides.now ends.now in
-        Took both n (meeting_at read j road k c) run.old run.new result }
-{
-    if !meeting::comes_from(junctions, sides, j, road, c) {
-        return n;
+    // Takes in what connection c leads lane number k of that road to, if it is one of junction j's.
+    fn through_connection(&self, j: usize, road: u32, c: usize, k: u32, run: &mut Run)
+        requires in_bounds { (j < length self.now.map.junctions.now / 5)
+            × (c < length self.now.map.connections.now / 7) }
+        requires room { Room run.old.len (meeting_at (read_of self.now) j road k c) run.old.words.now }
+        ensures { Grown (meeting_at (read_of self.now) j road k c) run.old run.new }
+    {
+        if meeting::comes_from(self.map.junctions, self.sides, j, road, c) {
+            self.through_pairs(c, k, run);
+        }
     }
-    through_pairs(
-        roads,
-        sections,
-        junctions,
-        connections,
-        pairs,
-        lanes,
-        owner,
-        sides,
-        ends,
-        heads,
-        next,
-        c,
-        k,
-        both,
-        run,
-        n,
-    )
-}
 
-// Through the connections of junction j that come in from the road.
-pub fn through_junction(
-    roads: &[u32],
-    sections: &[u32],
-    junctions: &[u32],
-    connections: &[u32],
-    pairs: &[u32],
-    lanes: &[u32],
-    owner: &[u32],
-    sides: &[u32],
-    ends: &[u32],
-    heads: &[u32],
-    next: &[u32],
-    mheads: &[u32],
-    mnext: &[u32],
-    j: usize,
-    road: usize,
-    k: u32,
-    both: bool,
-    run: &mut [u32],
-    start: usize,
-) -> usize
-    requires sound { Sound roads.now sections.now junctions.now connections.now pairs.now lanes.now
-        owner.now sides.now ends.now heads.now next.now }
-    requires chained { Meeting junctions.now connections.now sides.now mheads.now mnext.now }
-    requires in_bounds { (j < length junctions.now / 5) × (road < 4294967296) }
-    requires room { let read : Rows = rows_of roads.now sections.now junctions.now connections.now pairs.now
-        lanes.now owner.now sides.now ends.now in
-        Room start (junction_by_row read j road k) run.old }
-    ensures { let read : Rows = rows_of roads.now sections.now junctions.now connections.now pairs.now
-        lanes.now owner.now sides.now ends.now in
-        Took both start (junction_by_row read j road k) run.old run.new result }
-{
-    let count = connections.len() / 7;
-    let mut n = start;
-    let mut at = rows::word(mheads, meeting::bucket(j + 1, road));
-    while at != 0 {
-        n = through_connection(
-            roads,
-            sections,
-            junctions,
-            connections,
-            pairs,
-            lanes,
-            owner,
-            sides,
-            ends,
-            heads,
-            next,
-            j,
-            road,
-            count - at,
-            k,
-            both,
-            run,
-            n,
-        );
-        at = rows::word(mnext, at - 1);
+    // Through the connections of junction j that come in from the road, as their chain has them.
+    pub fn through_junction(&self, j: usize, road: u32, k: u32, run: &mut Run)
+        requires in_bounds { j < length self.now.map.junctions.now / 5 }
+        requires room { Room run.old.len (junction_by_row (read_of self.now) j road k) run.old.words.now }
+        ensures { Grown (junction_by_row (read_of self.now) j road k) run.old run.new }
+    {
+        let count = self.map.connections.len() / 7;
+        let mut at = self.meeting.head(meeting::bucket(j + 1, road));
+        while let Some(i) = at {
+            self.through_connection(j, road, count - 1 - i, k, run);
+            at = self.meeting.after(i);
+        }
     }
-    n
 }

@@ -1,39 +1,36 @@
 -- The whole outcome of a call, from what its checks answer.
 use Prim.Native.Nat.{ℕ, ◌<◌, ◌≤◌}
 use mathlib.Core.Path.{◌≡◌, refl, sym, ap, ap₂, ◌∙◌}
-use mathlib.Core.List.{List, [], ◌∷◌, ◌++◌}
+use mathlib.Core.List.{List, [], ◌∷◌}
 use mathlib.Core.Bool.{Bool, true, false, cond}
-use mathlib.Core.Option.{Option, none, some}
+use mathlib.Core.Option.{none, some}
 use lib.ListN.{length}
 use borrow.Author.Tests.{le-leb, lt-leb}
+use Rattle.std.specs.Prelude.{Result, Ok, Err}
+use Rattle.std.specs.Result.{IsErrAnd}
 use Rattle.model.specs.Calls.{Writing, called, long_enough, outcome, refused, settled, wrote, written_or9}
-use Rattle.model.specs.Rules.{Rule, first_broken, fits, refusal_word, rule}
+use Rattle.model.specs.Rules.{Rule, first_broken, fits, rule}
 use Rattle.laws.proofs.RulesReversed.{broken_append}
-use Rattle.tables.specs.Verdicts.{admits, refusal_of}
-use Rattle.tables.specs.declared.verdict.Verdict.{Verdict}
-use Rattle.tables.proofs.Order.{first_stays, is_none, is_some_lem}
+use Rattle.tables.specs.declared.refusal.Refusal.{Refusal}
+use Rattle.tables.proofs.Order.{number_stays}
 
 module _ {O : Type 0} (w : Writing O) (rules : List Rule) (content outs : O) where
-  -- a verdict that does not admit is the call's refusal
-  pub call_refused : (v : Verdict) → admits v ≡ false → refusal_of v ≡ first_broken rules
-      → outcome (refused (refusal_word (refusal_of v))) outs ≡ called w rules content outs
-  call_refused v barred first = go (refusal_of v) some_number (first_stays rules _ (refusal_of v) some_number first)
-    where
-      some_number : refusal_of v ≡ none → ⊥
-      some_number = is_some_lem (refusal_of v) barred
-
-      go : (o : Option ℕ) → (o ≡ none → ⊥)
-          → o ≡ first_broken (rules ++ long_enough (w.lengths content) (w.lengths outs))
-          → outcome (refused (refusal_word o)) outs ≡ called w rules content outs
-      go none some_number e = absurd (some_number refl)
-      go (some k) some_number e = ap (λ o. settled o (w.rows content) (w.put content outs) outs) e
-
-  -- one that does leaves 'written, or 9'
-  pub call_admitted : (v : Verdict) → admits v ≡ true → refusal_of v ≡ first_broken rules
-      → written_or9 w content outs ≡ called w rules content outs
-  call_admitted v free first =
+  -- a refusal of its checks is the call's
+  pub call_refused : (k : ℕ) → some k ≡ first_broken rules → outcome (refused k) outs ≡ called w rules content outs
+  call_refused k first =
       ap (λ o. settled o (w.rows content) (w.put content outs) outs)
-      (sym (broken_append rules _ (sym first ∙ is_none (refusal_of v) free)))
+      (number_stays rules (long_enough (w.lengths content) (w.lengths outs)) k first)
+
+  -- where there is none, 'written, or 9' is left
+  pub call_admitted : none ≡ first_broken rules → written_or9 w content outs ≡ called w rules content outs
+  call_admitted first =
+      ap (λ o. settled o (w.rows content) (w.put content outs) outs)
+      (sym (broken_append rules (long_enough (w.lengths content) (w.lengths outs)) (sym first)))
+
+-- ---- `?`: an answer that is the same refusal
+pub err_is : {A : Type 0} (q : Result A Refusal) (r : Refusal) → IsErrAnd q (λ e. e ≡ r) → q ≡ Err r
+err_is (Ok a) r e = absurd e
+err_is (Err k) r e = ap Err e
 
 -- ---- room in one table
 pub one_fits : (content out : List ℕ) → length content ≤ length out

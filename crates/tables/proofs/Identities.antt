@@ -1,5 +1,5 @@
 -- The row that bears an identity is what the model's search over the lanes with their edges finds.
-use Prim.Native.Nat.{ℕ, zero, suc, ◌+◌, ◌-◌, ◌*◌, ◌/◌, ◌<◌, ◌≤◌}
+use Prim.Native.Nat.{ℕ, zero, suc, ◌+◌, ◌*◌, ◌/◌, ◌<◌, ◌≤◌}
 use mathlib.Core.Path.{◌≡◌, refl, sym, ap, ap₂, ◌∙◌, subst}
 use mathlib.Core.List.{List, [], ◌∷◌, zip_with}
 use mathlib.Core.Bool.{true, false, cond}
@@ -21,9 +21,7 @@ use Rattle.words.proofs.Chains.{last_has}
 use Rattle.words.proofs.Laws.{any_at, tab_at, tab_length, zip_tab}
 use Rattle.words.proofs.Scans.{table_tab}
 use Rattle.rules.proofs.Forms.{lanes_tab}
-use Rattle.tables.specs.Found.{edged_at, row_found}
-use Rattle.tables.specs.declared.lookup.RowFound.{RowFound}
-use Rattle.tables.specs.declared.lookup.RowFound.TheVariants as row
+use Rattle.tables.specs.Found.{edged_at}
 
 -- ---- lanes with their edges, by rows
 edged : Lane → List Float → EdgedLane
@@ -106,25 +104,3 @@ module _ (lanes : List ℕ) (edges : List Float) (once : any (length lanes / 10)
       (λ j below. test k j (le_trans below up_to) ∙ none_before k r j in_table bears below)
       ∙ ap₂ (λ (m : ℕ) (x : EdgedLane). some (m, x)) (zero-add r)
       (tab_at (length lanes / 10) (edged_at lanes edges) r (edged_at lanes edges 0) in_table)
-
--- ---- a row found, plus 1
-row_plus : RowFound → ℕ
-row_plus (row.Row r) = suc r
-row_plus row.Nothing = 0
-
-plus_found : (f : ℕ) → f ≡ row_plus (row_found f)
-unfolding row_plus
-plus_found zero = refl
-plus_found (suc r) = refl
-
-pub found_row : (f : ℕ) {q : RowFound} {r : ℕ} → q ≡ row_found f → q ≡ row.Row r → f ≡ suc r
-unfolding row_plus
-found_row f answer row = plus_found f ∙ ap row_plus (sym answer ∙ row)
-
-pub found_none : (f : ℕ) {q : RowFound} → q ≡ row_found f → q ≡ row.Nothing → f ≡ 0
-unfolding row_plus
-found_none f answer nothing = plus_found f ∙ ap row_plus (sym answer ∙ nothing)
-
-pub row_of : (f : ℕ) → (f ≡ 0 → ⊥) → row.Row (f - 1) ≡ row_found f
-row_of zero some_row = absurd (some_row refl)
-row_of (suc r) some_row = ap (λ (k : ℕ). row.Row k) (let same : suc r - 1 ≡ r = omega arith in same)

@@ -2,21 +2,21 @@
 use Prim.Native.Nat.{ℕ, zero, suc, ◌/◌, ◌≤◌}
 use mathlib.Core.Path.{◌≡◌, refl, sym, ap, ◌∙◌}
 use mathlib.Core.List.{List, [], ◌∷◌, ◌++◌}
-use mathlib.Core.Bool.{Bool, true, false, not, ◌&&◌, cond, true≢false}
+use mathlib.Core.Bool.{Bool, true, false, ◌&&◌, cond, true≢false}
 use mathlib.Core.Option.{Option, none, some}
 use native.Mathlib.Omega.{arith}
-use lib.ListN.{length, get_or, take}
+use lib.ListN.{drop, get_or, length, take}
 use lib.Dec.{eqb, leb}
 use borrow.Author.Tests.{eqb-true}
-use Rattle.model.specs.Calls.{rules_to5}
-use Rattle.model.specs.Lists.{every, is_some}
+use Rattle.model.specs.Calls.{gap_rules, lane_rules, rules_to5, table_rules}
+use Rattle.model.specs.Lists.{every}
 use Rattle.model.specs.Rows.{parts_fit, table}
-use Rattle.model.specs.Rules.{Rule, connections_fit, first_broken, lanes_sized, map_sized, marks_fit, roads_once, rule}
-use Rattle.model.specs.Rules.{section_parts_fit, sections_fit}
+use Rattle.model.specs.Rules.{Rule, connections_fit, edges_sized, first_broken, lanes_sized, lists_sized, map_sized}
+use Rattle.model.specs.Rules.{marks_fit, roads_once, rule, section_parts_fit, sections_fit}
 use Rattle.model.specs.Tables.{Tables}
 use Rattle.laws.proofs.Basics.{no_some}
 use Rattle.laws.proofs.RulesReversed.{Passes, all_pass, broken_append, unbroken_append}
-use Rattle.words.proofs.Scans.{left_on, right_on}
+use Rattle.words.proofs.Scans.{and_off, left_on, right_on}
 use Rattle.rules.specs.ByRow.{Few}
 use Rattle.rules.proofs.Counts.{few, junctions_few, lanes_few}
 
@@ -56,27 +56,45 @@ first_stays (x ∷ xs) ys o some-number first = go x.passes first (first_stays x
     go true first rest = rest first
     go false first rest = first
 
+-- a number that the first of them gives stays
+pub number_stays : (xs ys : List Rule) (k : ℕ) → some k ≡ first_broken xs → some k ≡ first_broken (xs ++ ys)
+number_stays xs ys k first = first_stays xs ys (some k) (λ e. no_some k (sym e)) first
+
 -- where they all pass, those after them decide
 pub then_first : (xs ys : List Rule) {o : Option ℕ} → none ≡ first_broken xs → o ≡ first_broken ys
     → o ≡ first_broken (xs ++ ys)
 then_first xs ys pass first = first ∙ sym (broken_append xs ys (sym pass))
 
--- ---- a verdict
--- a refusal is no admission
-pub refused : {A : Type 0} (k : ℕ) → some k ≡ none → A
-refused k e = absurd (no_some k (sym e))
+-- ---- a first rule that asks more
+-- nothing more is broken
+pub more_kept : (k : ℕ) (b more : Bool) (rs : List Rule) → more ≡ true
+    → first_broken (rule k b ∷ rs) ≡ first_broken (rule k (b && more) ∷ rs)
+more_kept k b more rs kept = ap (λ x. first_broken (rule k x ∷ rs)) (sym (rw kept (and_true b)))
+  where
+    and_true : (b : Bool) → (b && true) ≡ b
+    and_true true = refl
+    and_true false = refl
 
-pub is_none : (o : Option ℕ) → not (is_some o) ≡ true → o ≡ none
-is_none none e = refl
-is_none (some k) e = absurd (true≢false (sym e))
+-- what more it asks is broken
+pub more_broken : (k : ℕ) (b more : Bool) (rs : List Rule) → more ≡ false
+    → some k ≡ first_broken (rule k (b && more) ∷ rs)
+more_broken k b more rs broken = broken_at 0 (rule k (b && more) ∷ rs) tt (and_off b more broken)
 
-pub is_some_lem : (o : Option ℕ) → not (is_some o) ≡ false → o ≡ none → ⊥
-is_some_lem none e z = true≢false e
-is_some_lem (some k) e z = no_some k (sym z)
+-- the gap check's first nine rules, where its lists keep 1
+pub nine_sized : (t : Tables) (offsets ids : List ℕ) → lists_sized offsets ids ≡ true
+    → first_broken (table_rules t) ≡ first_broken (take 9 (gap_rules t offsets ids))
+unfolding table_rules gap_rules rules_to5 lane_rules
+nine_sized t offsets ids kept =
+    more_kept 1 (map_sized 16384 t && lanes_sized t && edges_sized t) (lists_sized offsets ids)
+    (drop 1 (table_rules t)) kept
 
-pub not_none : (b : Bool) → not b ≡ true → b ≡ false
-not_none true e = absurd (true≢false (sym e))
-not_none false e = refl
+-- and where they break it
+pub nine_unsized : (t : Tables) (offsets ids : List ℕ) → lists_sized offsets ids ≡ false
+    → some 1 ≡ first_broken (take 9 (gap_rules t offsets ids))
+unfolding gap_rules rules_to5 lane_rules
+nine_unsized t offsets ids broken =
+    more_broken 1 (map_sized 16384 t && lanes_sized t && edges_sized t) (lists_sized offsets ids)
+    (drop 1 (take 9 (gap_rules t offsets ids))) broken
 
 -- ---- what rule 1 says of the map and its lanes
 module _ (t : Tables) (sized : (map_sized 16384 t && lanes_sized t) ≡ true) where

@@ -1,2 +1,3 @@
-pub mod Verdicts
+pub mod Refusals
 pub mod Found
+pub mod Left

@@ -3,4 +3,5 @@
 
 pub mod check;
 pub mod lookup;
+pub mod refusal;
 pub mod verdict;

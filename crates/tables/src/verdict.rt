@@ -1,360 +1,187 @@
 // The first refusal that applies to a call, 9 and 11 left to the call itself.
-ghost use Rattle.std.specs.Prelude.{◌≡◌, true, [], ◌∷◌, ◌++◌, ◌/◌, ◌≤◌, length};
-ghost use Rattle.std.proofs.Math.Option.{none};
-ghost use Rattle.model.specs.Tables.{Tables, map_tables, lane_tables, all_tables};
-ghost use Rattle.model.specs.Rules.{first_broken, rule, edges_fit};
-ghost use Rattle.model.specs.Calls.{rules_to5, lane_rules, repair_rules, succession_rules, reversal_rules};
+ghost use Rattle.std.specs.Prelude.{◌≡◌, true, ◌&&◌, ◌++◌, ◌/◌, ◌≤◌, length, IfOk};
+ghost use Rattle.model.specs.Rules.{first_broken, map_sized, lanes_sized, map_worded, lanes_worded, numbers_fine};
+ghost use Rattle.model.specs.Tables.{Tables, lanes_in, pairs_in};
+ghost use Rattle.model.specs.Calls.{rules_to5, lane_rules, repair_rules, succession_rules, table_rules};
+ghost use Rattle.model.specs.Calls.{reversal_rules};
 ghost use Rattle.words.specs.Chain.{Chained, Empty};
 ghost use Rattle.words.specs.Keys.{name_hash};
-ghost use Rattle.rules.specs.ByRow.{Few, Linked};
-ghost use Rattle.tables.specs.Verdicts.{refusal_of, admits};
+ghost use Rattle.words.specs.Map.{map_read, lanes_read, all_read};
+ghost use Rattle.rules.specs.ByRow.{Few};
+ghost use Rattle.tables.specs.Refusals.{refusal_of};
+ghost use Rattle.tables.specs.Left.{Fresh, Left};
 
+use crate::refusal::Refusal;
+use rules::parts::Sections;
 use rules::{lanes, marks, parts, sizes, worded};
-use words::index;
-use words::tests::both;
+use words::by_key;
+use words::by_key::ByName;
+use words::chain::{BUCKETS, Chain};
+use words::map::MapTables;
 
-// Admitted, or the first reason for a refusal. Document 01's number of each is in specs/Verdicts.
-#[derive(Clone, Copy)]
-pub enum Verdict {
-    Admitted,
-    BadSize,
-    BadWord,
-    RoadTwice,
-    BadSections,
-    BadParts,
-    IdentityTwice,
-    LaneUnlisted,
-    PlaceTwice,
-    OutputShort,
-    BadEdges,
-    BadLists,
-    BadMarks,
-    LeastNumber,
-    TwoEnded,
+// What the checks of 1 to 8 leave: the roads by name, each lane's road (its row plus 1), the lanes by place. (Lent to
+// each check and not returned: it is 320 KiB.)
+#[derive(Drop)]
+pub struct Links {
+    pub roads: Chain,
+    pub owner: [u32; BUCKETS],
+    pub places: Chain,
 }
 
-// Whether there is no refusal.
-pub fn admitted(v: Verdict) -> bool
-    ensures { result ≡ admits v }
-{
-    match v {
-        Verdict::Admitted => true,
-        Verdict::BadSize => false,
-        Verdict::BadWord => false,
-        Verdict::RoadTwice => false,
-        Verdict::BadSections => false,
-        Verdict::BadParts => false,
-        Verdict::IdentityTwice => false,
-        Verdict::LaneUnlisted => false,
-        Verdict::PlaceTwice => false,
-        Verdict::OutputShort => false,
-        Verdict::BadEdges => false,
-        Verdict::BadLists => false,
-        Verdict::BadMarks => false,
-        Verdict::LeastNumber => false,
-        Verdict::TwoEnded => false,
+impl Links {
+    // Nothing yet.
+    pub fn new() -> Self
+        ensures { Fresh result }
+    {
+        Links {
+            roads: Chain::new(),
+            owner: [0; BUCKETS],
+            places: Chain::new(),
+        }
     }
 }
 
-// 1 to 5, where the answers of 1 and 2 are at hand. Links the roads by name.
-pub fn map_verdict(
-    sizes: bool,
-    words: bool,
-    text: &[u8],
-    roads: &[u32],
-    sections: &[u32],
-    junctions: &[u32],
-    connections: &[u32],
-    pairs: &[u32],
-    heads: &mut [u32],
-    next: &mut [u32],
-) -> Verdict
-    requires few { sizes ≡ true → Few roads.now sections.now connections.now pairs.now }
-    requires empty { Empty heads.old next.old }
-    ensures result_value { let t : Tables = map_tables text.now roads.now sections.now junctions.now connections.now
-        pairs.now in
-        refusal_of result ≡ first_broken (rules_to5 sizes words t) }
-    ensures chained { refusal_of result ≡ none → Chained (name_hash text.now 20 0 roads.now)
-        (length roads.now / 20) heads.new next.new }
+// 3 to 5, where 1 and 2 are kept. Links the roads by name.
+fn map_verdict(map: &MapTables, roads: &mut Chain) -> Result<(), Refusal>
+    requires few { Few map.now.roads.now map.now.sections.now map.now.connections.now map.now.pairs.now }
+    requires empty { Empty roads.old.heads roads.old.next }
+    ensures refusal { refusal_of result ≡ first_broken (rules_to5 true true (map_read map.now)) }
+    ensures chained { IfOk result (λ _. Chained (name_hash map.now.text.now 20 0 map.now.roads.now)
+        (length map.now.roads.now / 20) roads.new.heads roads.new.next) }
 {
-    if !sizes {
-        return Verdict::BadSize;
+    if by_key::link_names::<20>(roads, map.text, map.roads) {
+        return Err(Refusal::RoadTwice);
     }
-    if !words {
-        return Verdict::BadWord;
+    if !parts::sections_fit(map.roads, map.sections) {
+        return Err(Refusal::BadSections);
     }
-    let n = roads.len() / 20;
-    if index::link_names(text, roads, 20, 0, n, heads, next) {
-        return Verdict::RoadTwice;
+    if !parts::connections_fit(map) {
+        return Err(Refusal::BadParts);
     }
-    if !parts::sections_fit(roads, sections) {
-        return Verdict::BadSections;
-    }
-    if !parts::connections_fit(junctions, connections, pairs) {
-        return Verdict::BadParts;
-    }
-    Verdict::Admitted
+    Ok(())
 }
 
 // Repair's refusals but 9. Links the roads by name.
-pub fn repair_verdict(
-    text: &[u8],
-    roads: &[u32],
-    sections: &[u32],
-    junctions: &[u32],
-    connections: &[u32],
-    pairs: &[u32],
-    heads: &mut [u32],
-    next: &mut [u32],
-) -> Verdict
-    requires empty { Empty heads.old next.old }
-    ensures result_value { let t : Tables = map_tables text.now roads.now sections.now junctions.now connections.now
-        pairs.now in
-        refusal_of result ≡ first_broken (repair_rules t) }
-    ensures chained { refusal_of result ≡ none → Chained (name_hash text.now 20 0 roads.now)
-        (length roads.now / 20) heads.new next.new }
+pub fn repair_verdict(map: &MapTables, roads: &mut Chain) -> Result<(), Refusal>
+    requires { Empty roads.old.heads roads.old.next }
+    ensures refusal { refusal_of result ≡ first_broken (repair_rules (map_read map.now)) }
+    ensures chained { IfOk result (λ _. Chained (name_hash map.now.text.now 20 0 map.now.roads.now)
+        (length map.now.roads.now / 20) roads.new.heads roads.new.next) }
 {
-    let sizes = sizes::map_sized(text, roads, sections, junctions, connections, pairs, 8192);
-    let words = worded::map_worded(text, roads, junctions, connections);
-    map_verdict(
-        sizes,
-        words,
-        text,
-        roads,
-        sections,
-        junctions,
-        connections,
-        pairs,
-        heads,
-        next,
-    )
+    if !sizes::map_sized(map, 8192) {
+        return Err(Refusal::BadSize);
+    }
+    if !worded::map_worded(map) {
+        return Err(Refusal::BadWord);
+    }
+    map_verdict(map, roads)
 }
 
-// 1 to 8, where the answers of 1 and 2 are at hand. Links the roads by name and the lanes by road, section and
-// number, and finds each lane's road.
-pub fn lane_verdict(
-    sizes: bool,
-    words: bool,
-    text: &[u8],
-    roads: &[u32],
-    sections: &[u32],
-    junctions: &[u32],
-    connections: &[u32],
-    pairs: &[u32],
-    lanes: &[u32],
-    heads: &mut [u32],
-    next: &mut [u32],
-    owner: &mut [u32],
-    kheads: &mut [u32],
-    knext: &mut [u32],
-) -> Verdict
-    requires few { (sizes ≡ true → Few roads.now sections.now connections.now pairs.now)
-        × (sizes ≡ true → length lanes.now / 10 ≤ 16384) }
-    requires empty { Empty heads.old next.old }
-    requires owner_len { length owner.old ≡ 16384 }
-    requires empty_2 { Empty kheads.old knext.old }
-    ensures result_value { let t : Tables = lane_tables text.now roads.now sections.now junctions.now connections.now
-        pairs.now lanes.now in
-        refusal_of result ≡ first_broken (rules_to5 sizes words t ++ lane_rules t) }
-    ensures linked { refusal_of result ≡ none → Linked text.now roads.now lanes.now
-        heads.new next.new owner.new kheads.new knext.new }
+// 3 to 8, where 1 and 2 are kept.
+fn lane_verdict(map: &MapTables, lanes: &[u32], links: &mut Links) -> Result<(), Refusal>
+    requires few { Few map.now.roads.now map.now.sections.now map.now.connections.now map.now.pairs.now
+        × (length lanes.now / 10 ≤ 16384) }
+    requires fresh { Fresh links.old }
+    ensures refusal { refusal_of result ≡ first_broken (rules_to5 true true (lanes_read map.now lanes.now)
+        ++ lane_rules (lanes_read map.now lanes.now)) }
+    ensures linked { IfOk result (λ _. Left map.now lanes.now links.new) }
 {
-    let first = map_verdict(
-        sizes,
-        words,
-        text,
-        roads,
-        sections,
-        junctions,
-        connections,
-        pairs,
-        heads,
-        next,
-    );
-    if !admitted(first) {
-        return first;
-    }
+    map_verdict(map, &mut links.roads)?;
     if !lanes::identities_once(lanes) {
-        return Verdict::IdentityTwice;
+        return Err(Refusal::IdentityTwice);
     }
-    if !lanes::lanes_listed(text, roads, sections, lanes, heads, next, owner) {
-        return Verdict::LaneUnlisted;
+    let roads = ByName::<20>::over(map.text, map.roads, &links.roads);
+    let sections = Sections::over(map.roads, map.sections);
+    if !lanes::lanes_listed(&roads, &sections, lanes, &mut links.owner) {
+        return Err(Refusal::LaneUnlisted);
     }
-    let n = lanes.len() / 10;
-    if index::link_keys(lanes, owner, n, kheads, knext) {
-        return Verdict::PlaceTwice;
+    if by_key::link_places(&mut links.places, lanes, &links.owner) {
+        return Err(Refusal::PlaceTwice);
     }
-    Verdict::Admitted
+    Ok(())
 }
 
-// Succession's refusals but 9. Leaves the links of `lane_verdict`.
-pub fn succession_verdict(
-    text: &[u8],
-    roads: &[u32],
-    sections: &[u32],
-    junctions: &[u32],
-    connections: &[u32],
-    pairs: &[u32],
-    lanes: &[u32],
-    heads: &mut [u32],
-    next: &mut [u32],
-    owner: &mut [u32],
-    kheads: &mut [u32],
-    knext: &mut [u32],
-) -> Verdict
-    requires empty { Empty heads.old next.old }
-    requires owner_len { length owner.old ≡ 16384 }
-    requires empty_2 { Empty kheads.old knext.old }
-    ensures result_value { let t : Tables = lane_tables text.now roads.now sections.now junctions.now connections.now
-        pairs.now lanes.now in
-        refusal_of result ≡ first_broken (succession_rules t) }
-    ensures linked { refusal_of result ≡ none → Linked text.now roads.now lanes.now
-        heads.new next.new owner.new kheads.new knext.new }
+// 1, of a call that reads lanes
+#[tactic(auto, unfolding(model::specs::Rules::map_sized, model::specs::Rules::lanes_sized))]
+fn sized(map: &MapTables, lanes: &[u32]) -> bool
+    ensures { let t : Tables = lanes_read map.now lanes.now in result ≡ (map_sized 16384 t && lanes_sized t) }
 {
-    let sizes = both(
-        sizes::map_sized(text, roads, sections, junctions, connections, pairs, 16384),
-        sizes::fits(lanes.len(), 10, 16384),
-    );
-    let words = both(
-        worded::map_worded(text, roads, junctions, connections),
-        worded::lanes_worded(text, lanes),
-    );
-    lane_verdict(
-        sizes,
-        words,
-        text,
-        roads,
-        sections,
-        junctions,
-        connections,
-        pairs,
-        lanes,
-        heads,
-        next,
-        owner,
-        kheads,
-        knext,
-    )
+    sizes::map_sized(map, 16384) && sizes::fits(lanes.len(), 10, 16384)
 }
 
-// 1 to 8 and 10, where the answers of 1 and 2 are at hand. Leaves the links of `lane_verdict`.
+// 2, of a call that reads lanes
+#[tactic(auto, unfolding(model::specs::Rules::map_worded, model::specs::Rules::lanes_worded))]
+fn worded(map: &MapTables, lanes: &[u32]) -> bool
+    ensures { let t : Tables = lanes_read map.now lanes.now in result ≡ (map_worded t && lanes_worded t) }
+{
+    worded::map_worded(map) && worded::lanes_worded(map.text, lanes)
+}
+
+// Succession's refusals but 9.
+pub fn succession_verdict(map: &MapTables, lanes: &[u32], links: &mut Links) -> Result<(), Refusal>
+    requires { Fresh links.old }
+    ensures refusal { refusal_of result ≡ first_broken (succession_rules (lanes_read map.now lanes.now)) }
+    ensures linked { IfOk result (λ _. Left map.now lanes.now links.new) }
+{
+    if !sized(map, lanes) {
+        return Err(Refusal::BadSize);
+    }
+    if !worded(map, lanes) {
+        return Err(Refusal::BadWord);
+    }
+    lane_verdict(map, lanes, links)
+}
+
+// 1 to 8 and 10. (1 is asked of the edges before it is asked of the rest: its number is the same.)
 pub fn table_verdict(
-    sizes: bool,
-    words: bool,
-    text: &[u8],
-    roads: &[u32],
-    sections: &[u32],
-    junctions: &[u32],
-    connections: &[u32],
-    pairs: &[u32],
+    map: &MapTables,
     lanes: &[u32],
     edges: &[f32],
-    heads: &mut [u32],
-    next: &mut [u32],
-    owner: &mut [u32],
-    kheads: &mut [u32],
-    knext: &mut [u32],
-) -> Verdict
-    requires few { (sizes ≡ true → Few roads.now sections.now connections.now pairs.now)
-        × (sizes ≡ true → length lanes.now / 10 ≤ 16384) }
-    requires empty { Empty heads.old next.old }
-    requires owner_len { length owner.old ≡ 16384 }
-    requires empty_2 { Empty kheads.old knext.old }
-    ensures result_value { let t : Tables = all_tables text.now roads.now sections.now junctions.now connections.now
-        pairs.now lanes.now edges.now in
-        refusal_of result ≡ first_broken (rules_to5 sizes words t ++ lane_rules t
-        ++ (rule 10 (edges_fit t) ∷ [])) }
-    ensures linked { refusal_of result ≡ none → Linked text.now roads.now lanes.now
-        heads.new next.new owner.new kheads.new knext.new }
+    links: &mut Links,
+) -> Result<(), Refusal>
+    requires { Fresh links.old }
+    ensures refusal { refusal_of result ≡ first_broken (table_rules (all_read map.now lanes.now edges.now)) }
+    ensures linked { IfOk result (λ _. Left map.now lanes.now links.new) }
 {
-    let first = lane_verdict(
-        sizes,
-        words,
-        text,
-        roads,
-        sections,
-        junctions,
-        connections,
-        pairs,
-        lanes,
-        heads,
-        next,
-        owner,
-        kheads,
-        knext,
-    );
-    if !admitted(first) {
-        return first;
+    if !sizes::fits(edges.len(), 12, 16384) {
+        return Err(Refusal::BadSize);
     }
+    succession_verdict(map, lanes, links)?;
     if !marks::edges_fit(lanes.len(), edges.len()) {
-        return Verdict::BadEdges;
+        return Err(Refusal::BadEdges);
     }
-    Verdict::Admitted
+    Ok(())
 }
 
-// Reversal's refusals but 9. Leaves the links of `lane_verdict`.
+// 13, of lanes and pairs
+fn numbers_turn(lanes: &[u32], pairs: &[u32]) -> bool
+    ensures { result ≡ numbers_fine (lanes_in lanes.now) (pairs_in pairs.now) }
+{
+    marks::lanes_turn(lanes) && marks::pairs_turn(pairs)
+}
+
+// Reversal's refusals but 9.
 pub fn reversal_verdict(
-    text: &[u8],
-    roads: &[u32],
-    sections: &[u32],
-    junctions: &[u32],
-    connections: &[u32],
-    pairs: &[u32],
+    map: &MapTables,
     lanes: &[u32],
     edges: &[f32],
     marks: &[u32],
-    heads: &mut [u32],
-    next: &mut [u32],
-    owner: &mut [u32],
-    kheads: &mut [u32],
-    knext: &mut [u32],
-) -> Verdict
-    requires empty { Empty heads.old next.old }
-    requires owner_len { length owner.old ≡ 16384 }
-    requires empty_2 { Empty kheads.old knext.old }
-    ensures result_value { let t : Tables = all_tables text.now roads.now sections.now junctions.now connections.now
-        pairs.now lanes.now edges.now in
-        refusal_of result ≡ first_broken (reversal_rules t marks.now) }
-    ensures linked { refusal_of result ≡ none → Linked text.now roads.now lanes.now
-        heads.new next.new owner.new kheads.new knext.new }
+    links: &mut Links,
+) -> Result<(), Refusal>
+    requires { Fresh links.old }
+    ensures refusal { refusal_of result
+        ≡ first_broken (reversal_rules (all_read map.now lanes.now edges.now) marks.now) }
+    ensures linked { IfOk result (λ _. Left map.now lanes.now links.new) }
 {
-    let a = both(
-        sizes::map_sized(text, roads, sections, junctions, connections, pairs, 16384),
-        sizes::fits(lanes.len(), 10, 16384),
-    );
-    let sizes = both(a, sizes::fits(edges.len(), 12, 16384));
-    let words = both(
-        worded::map_worded(text, roads, junctions, connections),
-        worded::lanes_worded(text, lanes),
-    );
-    let first = table_verdict(
-        sizes,
-        words,
-        text,
-        roads,
-        sections,
-        junctions,
-        connections,
-        pairs,
-        lanes,
-        edges,
-        heads,
-        next,
-        owner,
-        kheads,
-        knext,
-    );
-    if !admitted(first) {
-        return first;
+    table_verdict(map, lanes, edges, links)?;
+    if !marks::marks_fit(map.roads.len() / 20, marks) {
+        return Err(Refusal::BadMarks);
     }
-    if !marks::marks_fit(roads.len() / 20, marks) {
-        return Verdict::BadMarks;
+    if !numbers_turn(lanes, map.pairs) {
+        return Err(Refusal::LeastNumber);
     }
-    if !both(marks::lanes_turn(lanes), marks::pairs_turn(pairs)) {
-        return Verdict::LeastNumber;
+    if !marks::one_ended(map, marks) {
+        return Err(Refusal::TwoEnded);
     }
-    if !marks::one_ended(text, roads, junctions, marks) {
-        return Verdict::TwoEnded;
-    }
-    Verdict::Admitted
+    Ok(())
 }

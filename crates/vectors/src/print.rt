@@ -1,37 +1,89 @@
-// Words in print.
-use std::io;
-use tables::check;
-use tables::verdict::Verdict;
+// What several cases print.
+use geometry::gap::place_bits;
+use std::{fmt, io};
+use tables::refusal::Refusal;
 
-pub fn print(rt: &impl Print, text: &str) -> io::Result<()> {
-    rt.print(text)
-}
-
-pub fn print_number(rt: &impl Print, n: u32) -> io::Result<()> {
-    rt.print(n)
-}
-
-// Eight hexadecimal digits.
-pub fn print_bits(rt: &impl Print, bits: u32) -> io::Result<()> {
-    print!(rt; "{bits:08x}")
+// A line: of what it is, and what is said of that.
+pub fn say<T: fmt::Display + Copy>(rt: &impl Print, label: &str, said: T) -> io::Result<()> {
+    println!(rt; "{label}: {said}")
 }
 
 // The words of a list, or "none".
-pub fn print_list(rt: &impl Print, words: &[u32]) -> io::Result<()> {
-    if words.len() == 0 {
-        return print(rt, " none");
+#[derive(Clone, Copy)]
+pub struct Words<'a>(pub &'a [u32]);
+
+impl fmt::Display for Words<'_> {
+    fn fmt<W: fmt::Write>(&self, f: &mut fmt::Formatter<W>) -> fmt::Result {
+        let Some((first, others)) = self.0.split_first() else {
+            return f.write_str("none");
+        };
+        first.fmt(f)?;
+        for word in others {
+            write!(f, " {word}")?;
+        }
+        Ok(())
     }
-    let mut i = 0;
-    while i < words.len() {
-        print(rt, " ")?;
-        print_number(rt, words[i])?;
-        i += 1;
-    }
-    Ok(())
 }
 
-// The number of a refusal; the line's end is the caller's.
-pub fn print_refusal(rt: &impl Print, verdict: Verdict) -> io::Result<()> {
-    print(rt, "refusal ")?;
-    print_number(rt, check::number(verdict))
+// The bits of a float, none of a NaN.
+#[derive(Clone, Copy)]
+pub struct Bits(Option<u32>);
+
+impl Bits {
+    // Those of a float.
+    pub fn of(x: f32) -> Self {
+        if x.is_nan() {
+            Bits(None)
+        } else {
+            Bits(Some(x.to_bits()))
+        }
+    }
+
+    // Those of a place, as rows have them. (One function with `of` would take a closure that no NaN is given to.)
+    pub fn of_place(x: f32) -> Self {
+        if x.is_nan() {
+            Bits(None)
+        } else {
+            Bits(Some(place_bits(x)))
+        }
+    }
+}
+
+// Eight hexadecimal digits.
+impl fmt::Display for Bits {
+    fn fmt<W: fmt::Write>(&self, f: &mut fmt::Formatter<W>) -> fmt::Result {
+        match self.0 {
+            Some(bits) => write!(f, "{bits:08x}"),
+            None => f.write_str("nan"),
+        }
+    }
+}
+
+// Whether a call took its input: a word that says so, or the refusal.
+#[derive(Clone, Copy)]
+pub struct Told<'a> {
+    accepted: &'a str,
+    refusal: Option<Refusal>,
+}
+
+impl<'a> Told<'a> {
+    // What a call answered.
+    pub fn of<T: Copy>(answer: Result<T, Refusal>, accepted: &'a str) -> Self {
+        Told {
+            accepted,
+            refusal: answer.err(),
+        }
+    }
+}
+
+impl fmt::Display for Told<'_> {
+    fn fmt<W: fmt::Write>(&self, f: &mut fmt::Formatter<W>) -> fmt::Result {
+        match self.refusal {
+            None => f.write_str(self.accepted),
+            Some(refusal) => {
+                let number = refusal.number();
+                write!(f, "refusal {number}")
+            }
+        }
+    }
 }

@@ -29,7 +29,7 @@ use Rattle.words.proofs.Scans.{right_on}
 use Rattle.rules.proofs.Counts as sized
 use Rattle.gaps.proofs.Bridge.{content_is}
 use Rattle.gaps.proofs.CallLaws.{gap_kept, gap_through}
-use Rattle.gaps.proofs.LinkLaws.{total_most}
+use Rattle.gaps.proofs.LinkLaws.{total_within}
 use Rattle.reversal.proofs.CallLaws as reversal
 use Rattle.vorzhyket.specs.Exported.{Counted, Words}
 use Rattle.vorzhyket.proofs.Left.{counted}
@@ -118,7 +118,8 @@ gap_words_lem t offsets ids unbroken =
     let through = gap_through t offsets ids (sym unbroken) in
     let kept = gap_kept t offsets ids through.0 in
     let content = ap length (content_is t offsets ids kept.even kept.once through.1) in
-    let row-each = total_most t.lanes t.edges offsets ids through.1 in (omega (arith, kept.short), tt)
+    let row-each = total_within t.lanes t.edges offsets ids through.1 (length t.lanes / 10) (omega arith) in
+    (omega (arith, kept.short), tt)
 
 pub gaps_counted : (t : Tables) (offsets ids o : List ℕ) {y : Answer} {after : List ℕ}
     → outcome y after ≡ gap_call t offsets ids o → Counted y

@@ -1,32 +1,18 @@
 -- The words of a place are the part.
 use mathlib.Core.Path.{◌≡◌, refl, sym, ap, ◌∙◌}
-use mathlib.Core.Bool.{Bool, true, false, not, ◌&&◌, cond}
+use mathlib.Core.Bool.{Bool, true, false, cond}
 use mathlib.Core.List.{List, [], ◌∷◌}
-use Prim.Native.Nat.{ℕ, zero, suc, ◌-◌, ◌≤◌, ◌<◌}
+use Prim.Native.Nat.{ℕ, zero, suc, ◌-◌, ◌≤◌}
 use native.Mathlib.Omega.{arith}
-use lib.Dec.{leb, ltb}
 use lib.ListN.{length, take, drop, length-take}
-use borrow.Author.Tests.{eq-eqb, ltb-true, ne_eqb}
 use Rattle.model.specs.Lists.{pick}
 use Rattle.model.specs.Lookup.{list_lookup, list_part, row_listed}
 use Rattle.model.specs.Rows.{part, word}
 use Rattle.model.specs.Text.{bytes_of, name_bytes, placed}
 use Rattle.words.specs.Rows.{span}
-use Rattle.words.proofs.Scans.{left_on}
-use Rattle.vorzhyket.specs.Places.{asks_before, list_place, lookup_place, name_place, part_at, place_of}
+use Rattle.vorzhyket.specs.Places.{list_place, lookup_place, name_place, part_at, place_of}
 
--- ---- a place written down
-pub place_empty : (first : ℕ) {n m : ℕ} → n ≡ m → n ≡ 0 → 0 ∷ 0 ∷ [] ≡ place_of first m
-place_empty first e z = ap (place_of first) (sym z ∙ e)
-
-pub place_full : (first : ℕ) {n m : ℕ} → n ≡ m → (n ≡ 0 → ⊥) → first ∷ n ∷ [] ≡ place_of first m
-place_full first {n} e z = go n z ∙ ap (place_of first) e
-  where
-    go : (n : ℕ) → (n ≡ 0 → ⊥) → first ∷ n ∷ [] ≡ place_of first n
-    go zero z = absurd (z refl)
-    go (suc n) z = refl
-
--- ---- and read back
+-- ---- a place read back
 module _ {A : Type 0} where
   take_again : (c : ℕ) (xs : List A) → take (length (take c xs)) xs ≡ take c xs
   take_again zero xs = refl
@@ -66,49 +52,14 @@ pub name_there : (text : List ℕ) (start size : ℕ)
 unfolding name_place name_bytes bytes_of
 name_there text start size = place_if (placed text (span start size)) start size text
 
--- ---- the side that is asked
-module _ (so si po pi : List ℕ) (row before : ℕ) where
-  abbrev placed_by : Bool → List ℕ
-  placed_by onward = pick (not onward) (list_place so si row) (list_place po pi row)
-
-  pub asked_onward : {p : List ℕ} → before ≡ 0 → p ≡ list_place so si row
-      → p ≡ lookup_place so si po pi row (asks_before before)
-  unfolding lookup_place
-  asked_onward zero_is e = e ∙ ap placed_by (sym (eq-eqb before 0 zero_is))
-
-  pub asked_before : {p : List ℕ} → (before ≡ 0 → ⊥) → p ≡ list_place po pi row
-      → p ≡ lookup_place so si po pi row (asks_before before)
-  unfolding lookup_place
-  asked_before not-zero e = e ∙ ap placed_by (sym (ne_eqb before 0 not-zero))
-
--- ---- what a part that is not empty says
-module _ (offsets ids : List ℕ) (row : ℕ) where
-  abbrev begins : ℕ
-  begins = word offsets row
-
-  abbrev ends : ℕ
-  ends = word offsets (suc row)
-
-  abbrev list : Bool → List ℕ
-  list listed = cond listed (part begins (ends - begins) ids) []
-
-  inside : row_listed offsets ids row ≡ true → suc row < length offsets
-  unfolding row_listed
-  inside listed =
-      let there = ltb (suc row) (length offsets) in
-      let ordered = leb begins ends in
-      ltb-true (suc row) (length offsets)
-      (left_on there ordered (left_on (there && ordered) (leb ends (length ids)) listed))
-
-  pub list_long : (length (list_part offsets ids row) ≡ 0 → ⊥)
-      → (suc row < length offsets) × (length (list_part offsets ids row) ≤ ends)
-  unfolding list_part
-  list_long = go (row_listed offsets ids row) refl
-    where
-      go : (b : Bool) → row_listed offsets ids row ≡ b → (length (list b) ≡ 0 → ⊥)
-          → (suc row < length offsets) × (length (list b) ≤ ends)
-      go false listed full = absurd (full refl)
-      go true listed full = (inside listed, omega (arith, length-take (ends - begins) (drop begins ids)))
+-- ---- a part is no longer than words say
+pub list_long : (offsets ids : List ℕ) (row : ℕ) → length (list_part offsets ids row) ≤ word offsets (suc row)
+unfolding list_part
+list_long offsets ids row = go (word offsets row) (word offsets (suc row)) (row_listed offsets ids row)
+  where
+    go : (begins ends : ℕ) (b : Bool) → length (cond b (part begins (ends - begins) ids) []) ≤ ends
+    go begins ends false = omega arith
+    go begins ends true = omega (arith, length-take (ends - begins) (drop begins ids))
 
 pub name_long : (text : List ℕ) (start size : ℕ) → length (name_bytes text (span start size)) ≤ size
 unfolding name_bytes bytes_of

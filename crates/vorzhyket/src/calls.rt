@@ -8,11 +8,12 @@ ghost use Rattle.succession.specs.Answers as succession;
 ghost use Rattle.reversal.specs.Answers as reversal;
 ghost use Rattle.vorzhyket.specs.Exported.{exported};
 
-use crate::answers::{listed, measured, repaired, reversed};
+use crate::answers::accepted;
 use gaps::call::link_gaps;
-use repair::call::repair;
-use reversal::call::reverse;
-use succession::call::succession;
+use repair::call::{RepairOutputs, repair};
+use reversal::call::{ReversalOutputs, reverse};
+use succession::call::{ListOutputs, succession};
+use words::map::MapTables;
 
 // The map repaired, and a warning for each link that it lacked.
 #[unsafe(no_mangle)]
@@ -42,20 +43,28 @@ pub extern "C" fn vz_repair(
         pairs_out.old warnings_out.old))
         written.old }
 {
-    let a = repair(
+    let map = MapTables {
         text,
         roads,
         sections,
         junctions,
         connections,
         pairs,
-        roads_out,
-        junctions_out,
-        connections_out,
-        pairs_out,
-        warnings_out,
-    );
-    repaired(a, written)
+    };
+    let mut out = RepairOutputs {
+        roads: roads_out,
+        junctions: junctions_out,
+        connections: connections_out,
+        pairs: pairs_out,
+        warnings: warnings_out,
+    };
+    match repair(&map, &mut out) {
+        Ok(n) => accepted(
+            [n.roads, n.junctions, n.connections, n.pairs, n.warnings],
+            written,
+        ),
+        Err(refusal) => refusal.number(),
+    }
 }
 
 // The lanes onward of every lane and the lanes before it, as offsets and packed identities.
@@ -86,20 +95,32 @@ pub extern "C" fn vz_succession(
         predecessor_offsets.old predecessor_ids.old))
         written.old }
 {
-    let a = succession(
+    let map = MapTables {
         text,
         roads,
         sections,
         junctions,
         connections,
         pairs,
-        lanes,
+    };
+    let mut out = ListOutputs {
         successor_offsets,
         successor_ids,
         predecessor_offsets,
         predecessor_ids,
-    );
-    listed(a, written)
+    };
+    match succession(&map, lanes, &mut out) {
+        Ok(n) => accepted(
+            [
+                n.successor_offsets,
+                n.successor_ids,
+                n.predecessor_offsets,
+                n.predecessor_ids,
+            ],
+            written,
+        ),
+        Err(refusal) => refusal.number(),
+    }
 }
 
 // The lane links whose ends do not meet: the lane's row, its successor's row, and the bits of the gap and of how far
@@ -126,20 +147,18 @@ pub extern "C" fn vz_gaps(
         offsets.now ids.now gaps_out.old)
         written.old }
 {
-    let a = link_gaps(
+    let map = MapTables {
         text,
         roads,
         sections,
         junctions,
         connections,
         pairs,
-        lanes,
-        edges,
-        offsets,
-        ids,
-        gaps_out,
-    );
-    measured(a, written)
+    };
+    match link_gaps(&map, lanes, edges, offsets, ids, gaps_out) {
+        Ok(n) => accepted([n], written),
+        Err(refusal) => refusal.number(),
+    }
 }
 
 // The map with its marked roads reversed.
@@ -175,22 +194,34 @@ pub extern "C" fn vz_reverse(
         pairs_out.old lanes_out.old edges_out.old))
         written.old }
 {
-    let a = reverse(
+    let map = MapTables {
         text,
         roads,
         sections,
         junctions,
         connections,
         pairs,
-        lanes,
-        edges,
-        marks,
-        roads_out,
-        sections_out,
-        connections_out,
-        pairs_out,
-        lanes_out,
-        edges_out,
-    );
-    reversed(a, written)
+    };
+    let mut out = ReversalOutputs {
+        roads: roads_out,
+        sections: sections_out,
+        connections: connections_out,
+        pairs: pairs_out,
+        lanes: lanes_out,
+        edges: edges_out,
+    };
+    match reverse(&map, lanes, edges, marks, &mut out) {
+        Ok(n) => accepted(
+            [
+                n.roads,
+                n.sections,
+                n.connections,
+                n.pairs,
+                n.lanes,
+                n.edges,
+            ],
+            written,
+        ),
+        Err(refusal) => refusal.number(),
+    }
 }

@@ -6,7 +6,7 @@ ghost use Rattle.model.specs.Gaps.{points_of};
 ghost use Rattle.vorzhyket.specs.Exported.{exported_closest, exported_root};
 
 use geometry::edges::point_at;
-use geometry::root::{SquareRoot, root};
+use geometry::root::{BelowZero, root};
 use geometry::segment::distance;
 
 // The f32 nearest to the root of x in `out`, and 0; or 15 below zero, and `out` stays.
@@ -16,11 +16,11 @@ pub extern "C" fn vz_root(x: f32, out: &mut f32) -> u32
 {
     let r = root(x);
     match r {
-        SquareRoot::Value(y) => {
+        Ok(y) => {
             *out = y;
             0
         }
-        SquareRoot::BelowZero => 15,
+        Err(BelowZero) => 15,
     }
 }
 

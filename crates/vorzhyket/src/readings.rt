@@ -7,60 +7,14 @@ ghost use Rattle.reading.specs.Answers as reading;
 ghost use Rattle.reading.specs.JunctionAnswers as junctions;
 ghost use Rattle.reading.specs.Laid.{raw_tables};
 ghost use Rattle.reading.specs.TargetAnswers as targets;
-ghost use Rattle.vorzhyket.specs.Exported.{Counted, answered, exported, exported_length};
+ghost use Rattle.vorzhyket.specs.Exported.{exported, exported_length};
 
-use reading::junctions::{ReadJunctions, read_junctions};
-use reading::lanes::{ReadLanes, read_lanes};
-use reading::length::{Length, check_length};
-use reading::targets::{ReadTargets, read_targets};
-use tables::check::number;
-
-// What the reading of lanes answers, as a number and the rows in `written`.
-fn lanes_read(a: ReadLanes, written: &mut [u32; 1]) -> u32
-    requires { Counted (reading.answer_of a) }
-    ensures { (result, written.new) ≡ answered (reading.answer_of a) written.old }
-{
-    match a {
-        ReadLanes::Written(n) => {
-            *written = [n as u32];
-            0
-        }
-        ReadLanes::Refused(v) => number(v),
-    }
-}
-
-// The same of the reading of targets.
-fn targets_read(a: ReadTargets, written: &mut [u32; 2]) -> u32
-    requires { Counted (targets.answer_of a) }
-    ensures { (result, written.new) ≡ answered (targets.answer_of a) written.old }
-{
-    match a {
-        ReadTargets::Written(n, w) => {
-            *written = [n as u32, w as u32];
-            0
-        }
-        ReadTargets::Refused(v) => number(v),
-    }
-}
-
-// The same of the reading of junctions.
-fn junctions_read(a: ReadJunctions, written: &mut [u32; 4]) -> u32
-    requires { Counted (junctions.answer_of a) }
-    ensures { (result, written.new) ≡ answered (junctions.answer_of a) written.old }
-{
-    match a {
-        ReadJunctions::Written(n) => {
-            *written = [
-                n.junctions as u32,
-                n.connections as u32,
-                n.pairs as u32,
-                n.warnings as u32,
-            ];
-            0
-        }
-        ReadJunctions::Refused(v) => number(v),
-    }
-}
+use crate::answers::accepted;
+use reading::junctions::{JunctionOutputs, read_junctions};
+use reading::lanes::read_lanes;
+use reading::length::{Uneven, check_length};
+use reading::raw::RawJunctions;
+use reading::targets::read_targets;
 
 // The target of each raw target, two to a road, and a warning for each contact point that is spelled loosely.
 #[unsafe(no_mangle)]
@@ -79,8 +33,10 @@ pub extern "C" fn vz_read_targets(
         (targets.outputs targets_out.old warnings_out.old))
         written.old }
 {
-    let a = read_targets(text, raw, targets_out, warnings_out);
-    targets_read(a, written)
+    match read_targets(text, raw, targets_out, warnings_out) {
+        Ok(n) => accepted([n.targets, n.warnings], written),
+        Err(refusal) => refusal.number(),
+    }
 }
 
 // The junctions, connections and pairs of the raw tables, and a warning for each connection or lane link that is
@@ -109,17 +65,22 @@ pub extern "C" fn vz_read_junctions(
         warnings_out.old))
         written.old }
 {
-    let a = read_junctions(
+    let raw = RawJunctions {
         text,
-        raw_junctions,
-        raw_connections,
-        raw_lane_links,
-        junctions_out,
-        connections_out,
-        pairs_out,
-        warnings_out,
-    );
-    junctions_read(a, written)
+        junctions: raw_junctions,
+        connections: raw_connections,
+        lane_links: raw_lane_links,
+    };
+    let mut out = JunctionOutputs {
+        junctions: junctions_out,
+        connections: connections_out,
+        pairs: pairs_out,
+        warnings: warnings_out,
+    };
+    match read_junctions(&raw, &mut out) {
+        Ok(n) => accepted([n.junctions, n.connections, n.pairs, n.warnings], written),
+        Err(refusal) => refusal.number(),
+    }
 }
 
 // The links of each raw lane: predecessor flag and number, then successor flag and number.
@@ -134,8 +95,10 @@ pub extern "C" fn vz_read_lanes(
         ≡ exported (read_lanes_call text.now raw.now links_out.old)
         written.old }
 {
-    let links = read_lanes(text, raw, links_out);
-    lanes_read(links, written)
+    match read_lanes(text, raw, links_out) {
+        Ok(n) => accepted([n], written),
+        Err(refusal) => refusal.number(),
+    }
 }
 
 // 1 and where the plan view ends in `sum`, if that is off the road's length; 0 if there is nothing to report, 16 if
@@ -145,13 +108,12 @@ pub extern "C" fn vz_length(starts: &[f64], lengths: &[f64], length: f64, sum: &
     ensures { (result, sum.new)
         ≡ exported_length (length_call starts.now lengths.now length) sum.old }
 {
-    let a = check_length(starts, lengths, length);
-    match a {
-        Length::Off(s) => {
+    match check_length(starts, lengths, length) {
+        Ok(Some(s)) => {
             *sum = s;
             1
         }
-        Length::Fine => 0,
-        Length::Uneven => 16,
+        Ok(None) => 0,
+        Err(Uneven) => 16,
     }
 }

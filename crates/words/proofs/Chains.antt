@@ -61,6 +61,12 @@ last_has (suc n) r p e =
     by_last (λ (k : ℕ). k ≡ suc r → p r ≡ true) n p
     (λ t q. let z : n ≡ r = omega arith in subst (λ (k : ℕ). p k ≡ true) z t) (λ t q. ih q) e
 
+-- two tests that agree below n
+pub last_same : (n : ℕ) (p q : ℕ → Bool) → ((r : ℕ) → r < n → p r ≡ q r) → last_of n p ≡ last_of n q
+unfolding last_of
+last_same zero p q h = refl
+last_same (suc n) p q h = rw (h n (le_refl (suc n)), last_same n p q (λ r lt. h r (le_step lt)))
+
 -- ---- THE law: where p holds only in the bucket B, the search for p goes by the rows of B alone
 pub chain_skip : (n : ℕ) (B p : ℕ → Bool) → ((q : ℕ) → q < n → p q ≡ true → B q ≡ true)
     → last_of (last_of n B) p ≡ last_of n p
@@ -138,6 +144,16 @@ module _ (hash : ℕ → ℕ) where
 
     pub head_in : (s : ℕ) → b < length heads → get_or heads b 0 ≡ suc s → hash s ≡ b
     head_in s h e = eqb-true (hash s) b (last_has n s (within hash b) (sym (c.head b h) ∙ e))
+
+-- chains say nothing of rows that are not linked
+pub chained_same : (n : ℕ) (hash other : ℕ → ℕ) {heads next : List ℕ} → ((r : ℕ) → r < n → hash r ≡ other r)
+    → Chained hash n heads next → Chained other n heads next
+chained_same n hash other same c = record {
+  head = λ b h. c.head b h ∙ last_same n (within hash b) (within other b) (λ q lt. ap (λ (k : ℕ). eqb k b) (same q lt));
+  link = λ r h. c.link r h
+      ∙ last_same r (within hash (hash r)) (within other (other r))
+      (λ q lt. rw (same q (le_trans lt (le_of_lt h)), same r h));
+}
 
 -- ---- the search's answer and whether there is one
 pub last_any : (n : ℕ) (p : ℕ → Bool) → last_of n p ≡ 0 → any n p ≡ false

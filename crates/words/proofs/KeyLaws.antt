@@ -3,21 +3,26 @@ use Prim.Native.Nat.{ℕ, zero, suc, ◌+◌, ◌*◌, ◌-◌, ◌/◌, ◌%◌
 use mathlib.Core.Path.{◌≡◌, refl, sym, ap, ap₂, ◌∙◌, subst}
 use mathlib.Core.List.{List, [], ◌∷◌}
 use mathlib.Core.Bool.{Bool, true, false, not, ◌&&◌, ◌||◌, false≢true, cond}
-use native.Mathlib.Numerals.{add-one}
 use native.Mathlib.Omega.{arith}
-use native.Mathlib.Nat.{div-add-mod', le_of_lt, le_trans, mul-le-mul_right}
+use native.Mathlib.Nat.{div-add-mod', le_of_lt}
 use lib.ListN.{length, get_or, take, drop, drop_of_length-le, length-drop}
-use lib.Seq.{drop-cons, take_all}
+use lib.Seq.{take_all}
 use lib.Dec.{eqb, ltb}
-use borrow.Author.Tests.{eq-eqb, eqb-true, eqb-false, ne_eqb, le-leb, lt-leb, ltb-true, ltb-false}
+use lib.Pointwise.{pointwise}
+use borrow.Author.Tests.{eq-eqb, eqb-true, eqb-false, le-leb, lt-leb, ltb-true, ltb-false}
+use Rattle.std.specs.Prelude.{Option, Some, None}
+use Rattle.std.specs.Option.{MatchOption, is_some, unwrap_or}
+use Rattle.std.specs.List.{fold, slice_range}
+use mathlib.Core.Logic.{◌⊎◌, ⊎_elim}
 use Rattle.model.specs.Records.{Span}
 use Rattle.model.specs.Text.{bytes_of, equal_bytes, name_bytes, placed, same_in}
-use Rattle.words.specs.Keys.{bears, hash_from, hash_name, id_hash, is_direct_of, is_id, is_key, key_hash}
+use Rattle.words.specs.Keys.{bears, hash_from, hash_name, id_hash, is_id, is_key, key_hash}
 use Rattle.words.specs.Keys.{lane_hash, name_hash}
+use Rattle.words.specs.Chain.{stored}
 use Rattle.words.specs.Rows.{any, last_of, name_at, span}
 use Rattle.words.proofs.Chains.{any_last, last_any}
 use Rattle.words.proofs.Laws.{any_more}
-use Rattle.words.proofs.Scans.{left_on, right_on, row_fits}
+use Rattle.words.proofs.Scans.{left_on, right_on}
 
 -- ---- bytes
 pub equal_refl : (a : List ℕ) → equal_bytes a a ≡ true
@@ -41,6 +46,18 @@ equal_off a b h = go (equal_bytes a b) refl
     go : (t : Bool) → equal_bytes a b ≡ t → equal_bytes a b ≡ false
     go true e = absurd (h (equal_sound a b e))
     go false e = e
+
+-- what `==` answers of two names' bytes
+pub pointwise_is : (a b : List ℕ) → pointwise eqb a b ≡ equal_bytes a b
+pointwise_is [] [] = refl
+pointwise_is [] (y ∷ ys) = refl
+pointwise_is (x ∷ xs) [] = refl
+pointwise_is (x ∷ xs) (y ∷ ys) = ap (λ t. eqb x y && t) (pointwise_is xs ys)
+
+pub same_is : (text : List ℕ) (m n : Span) {a b : List ℕ} {r : Bool} → r ≡ pointwise eqb a b → a ≡ bytes_of text m
+    → b ≡ bytes_of text n → r ≡ same_in text m n
+unfolding same_in
+same_is text m n {a} {b} is first second = is ∙ pointwise_is a b ∙ ap₂ equal_bytes first second
 
 -- a name's bytes, whatever its words are: as far as the text has them
 pub name_past : (text : List ℕ) (s n : ℕ) → length text < s
@@ -94,10 +111,10 @@ any_is i p = go (eqb (last_of i p) 0) refl
     go true e = last_any i p (eqb-true (last_of i p) 0 e)
     go false e = any_last i p (eqb-false (last_of i p) 0 e)
 
--- whether a lookup by key k found a row, where k is the key that is meant
-pub found_any : {K : Type 0} (p : K → ℕ → Bool) (n : ℕ) {k key : K} {found : ℕ} {r : Bool} → k ≡ key
-    → found ≡ last_of n (p k) → r ≡ not (eqb found 0) → r ≡ any n (p key)
-found_any p n {k} {key} is last tested = tested ∙ ap (λ (f : ℕ). not (eqb f 0)) last ∙ sym (any_is n (p k)) ∙ rw is
+-- a row that is found is one that has p
+pub found : (n : ℕ) (row : Option ℕ) (p : ℕ → Bool) → stored row ≡ last_of n p → is_some row ≡ any n p
+found n None p e = sym (last_any n p (sym e))
+found n (Some r) p e = sym (any_last n p (λ none. omega arith))
 
 -- a link loop's turn: whether two rows below i + 1 are alike
 pub met_more : (i : ℕ) (B p : ℕ → Bool) {r t : Bool} {f : ℕ} → r ≡ (t || not (eqb f 0)) → t ≡ any i B
@@ -105,14 +122,16 @@ pub met_more : (i : ℕ) (B p : ℕ → Bool) {r t : Bool} {f : ℕ} → r ≡ (
 met_more i B p e h g k =
     e ∙ ap₂ (λ a (m : ℕ). a || not (eqb m 0)) h g ∙ sym (any_more i B ∙ ap (λ b. any i B || b) (k ∙ any_is i p))
 
-pub hash_turn : (name : List ℕ) (i h : ℕ) → i < length name
-    → hash_from ((h * 31 + get_or name i 0) % 16384) (drop (i + 1) name) ≡ hash_from h (drop i name)
+-- the hash as a fold over the bytes
+pub hash_fold : (h : ℕ) (bytes : List ℕ) → fold (λ h b. (h * 31 + b) % 16384) h bytes ≡ hash_from h bytes
 unfolding hash_from
-hash_turn name i h lt = rw (add-one, drop-cons name i 0 lt)
+hash_fold h [] = refl
+hash_fold h (b ∷ bs) = hash_fold ((h * 31 + b) % 16384) bs
 
-pub hash_end : (name : List ℕ) (i h : ℕ) → length name ≤ i → h ≡ hash_from h (drop i name)
+pub hash_small : (h : ℕ) (bytes : List ℕ) → h < 16384 → hash_from h bytes < 16384
 unfolding hash_from
-hash_end name i h le = rw (drop_of_length-le name le)
+hash_small h [] small = small
+hash_small h (b ∷ bs) small = hash_small ((h * 31 + b) % 16384) bs (omega arith)
 
 -- ---- equal names have equal hashes
 pub same_hash : (text : List ℕ) (a b : Span) → same_in text a b ≡ true → hash_name text a ≡ hash_name text b
@@ -141,53 +160,26 @@ only_key lanes owner road s k q e =
     ∙ ap₂ (λ (x y : ℕ). key_hash road x y) (eqb-true (get_or lanes (q * 10 + 3) 0) s (right_on a b ab))
     (eqb-true (get_or lanes (q * 10 + 4) 0) k (right_on (a && b) d e))
 
-pub only_direct : (text junctions : List ℕ) (n : Span) (q : ℕ) → is_direct_of text junctions n q ≡ true
-    → name_hash text 5 0 junctions q ≡ hash_name text n
-unfolding is_direct_of name_hash
-only_direct text junctions n q e =
-    same_hash text (name_at 5 0 junctions q) n
-    (right_on (eqb (get_or junctions (q * 5 + 2) 0) 1) (same_in text (name_at 5 0 junctions q) n) e)
-
-pub row_in : (n w k i len : ℕ) → i < n → n * w ≤ len → k < w → i * w + k < len
-row_in n w k i len h l m = let a = row_fits n w i h in omega arith
-
 pub rows_in : (n w : ℕ) → n / w * w ≤ n
 rows_in n w = let b = div-add-mod' n w in omega arith
 
-pub rows_le : (i n w len : ℕ) → i ≤ n → n * w ≤ len → i * w ≤ len
-rows_le i n w len h l = le_trans (mul-le-mul_right w h) l
-
--- ---- a lane's key, test by test
-module _ (lanes owner : List ℕ) (w s k r : ℕ) where
-  pub key_other_road : (get_or owner r 0 ≡ w → ⊥) → false ≡ is_key lanes owner w s k r
-  unfolding is_key
-  key_other_road n =
-      sym (ap (λ b. b && eqb (get_or lanes (r * 10 + 3) 0) s && eqb (get_or lanes (r * 10 + 4) 0) k)
-      (ne_eqb (get_or owner r 0) w n))
-
-  pub key_other_section : get_or owner r 0 ≡ w → (get_or lanes (r * 10 + 3) 0 ≡ s → ⊥)
-      → false ≡ is_key lanes owner w s k r
-  unfolding is_key
-  key_other_section e n =
-      sym (ap₂ (λ a b. a && b && eqb (get_or lanes (r * 10 + 4) 0) k) (eq-eqb (get_or owner r 0) w e)
-      (ne_eqb (get_or lanes (r * 10 + 3) 0) s n))
-
-  pub key_number : get_or owner r 0 ≡ w → get_or lanes (r * 10 + 3) 0 ≡ s
-      → eqb (get_or lanes (r * 10 + 4) 0) k ≡ is_key lanes owner w s k r
-  unfolding is_key
-  key_number e f =
-      sym (ap₂ (λ a b. a && b && eqb (get_or lanes (r * 10 + 4) 0) k) (eq-eqb (get_or owner r 0) w e)
-      (eq-eqb (get_or lanes (r * 10 + 3) 0) s f))
-
 -- ---- a name's part of the text
-pub name_inside : (text : List ℕ) (s n : ℕ) → s + n ≤ length text
+name_inside : (text : List ℕ) (s n : ℕ) → s + n ≤ length text
     → take (s + n - s) (drop s text) ≡ name_bytes text (span s n)
 unfolding name_bytes placed bytes_of
 name_inside text s n h =
     ap (λ (k : ℕ). take k (drop s text)) (let e : s + n - s ≡ n = omega arith in e)
     ∙ sym (ap (λ b. cond b (take n (drop s text)) []) (le-leb (s + n) (length text) h))
 
-pub name_outside : (text : List ℕ) (s n : ℕ) → length text < s + n
-    → take (0 - 0) (drop 0 text) ≡ name_bytes text (span s n)
+name_outside : (text : List ℕ) (s n : ℕ) → length text < s + n → [] ≡ name_bytes text (span s n)
 unfolding name_bytes placed
 name_outside text s n h = sym (ap (λ b. cond b (bytes_of text (span s n)) []) (lt-leb (s + n) (length text) h))
+
+-- what the text has from s to s + n, or else the empty part
+pub name_got : {A : Type 0} (now : A → List ℕ) (text : List ℕ) (s n : ℕ) (got : Option A) (empty : A)
+    → MatchOption got ((s + n < s) ⊎ (length text < s + n))
+    (λ x. (s ≤ s + n) × (s + n ≤ length text) × (now x ≡ slice_range text s (s + n)) × (length (now x) + s ≡ s + n))
+    → now empty ≡ [] → now (unwrap_or got empty) ≡ name_bytes text (span s n)
+name_got now text s n None empty past none =
+    none ∙ name_outside text s n (⊎_elim (λ e. absurd (omega arith)) (λ e. e) past)
+name_got now text s n (Some part) empty has none = has.2 ∙ name_inside text s n has.1

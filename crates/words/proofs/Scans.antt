@@ -5,14 +5,16 @@ use mathlib.Core.Logic.{⊎_elim}
 use mathlib.Core.List.{List, [], ◌∷◌, ◌++◌, map}
 use mathlib.Core.Bool.{Bool, true, false, not, ◌&&◌, ◌||◌}
 use native.Mathlib.Nat.{le_of_suc-le-suc, not-suc-le-zero, eq-or-lt_of_le, le_refl, le_step, suc-mul}
-use native.Mathlib.Nat.{mul-le-mul_right}
+use native.Mathlib.Nat.{mul-le-mul_right, zero-mul}
 use native.Mathlib.Numerals.{add-one}
 use native.Mathlib.Omega.{arith}
 use lib.ListN.{length, get_or, take, drop}
-use lib.Seq.{get_or-take, ext_get_or}
+use lib.Seq.{drop-drop, get_or-take, ext_get_or}
 use lib.Dec.{ltb}
 use Rattle.model.specs.Lists.{distinct, every, some?}
+use Rattle.model.specs.Reading.{row_at}
 use Rattle.model.specs.Rows.{table}
+use Rattle.std.specs.Simd.{first_chunks}
 use Rattle.laws.proofs.Lay.{length_table}
 use Rattle.laws.proofs.RowTests.{table_at}
 use Rattle.words.specs.Rows.{all, any, from, tab}
@@ -49,9 +51,6 @@ pub all_more : (n : ℕ) (p : ℕ → Bool) → all (n + 1) p ≡ (all n p && p 
 unfolding all
 all_more n p = rw add-one
 
-pub all_step : (n : ℕ) (p : ℕ → Bool) → all n p ≡ true → p n ≡ true → all (n + 1) p ≡ true
-all_step n p e f = all_more n p ∙ and_step e f
-
 pub all_miss : (n i : ℕ) (p : ℕ → Bool) → i < n → p i ≡ false → all n p ≡ false
 unfolding all
 all_miss zero i p h e = absurd (not-suc-le-zero h)
@@ -73,27 +72,6 @@ pub all_same : (n : ℕ) (p q : ℕ → Bool) → ((i : ℕ) → i < n → p i �
 unfolding all
 all_same zero p q h = refl
 all_same (suc n) p q h = ap₂ ◌&&◌ (all_same n p q (λ i lt. h i (le_step lt))) (h n (le_refl (suc n)))
-
--- ---- a loop that tests one row after another and ends at the first that fails: what it keeps before turn i
-pub record Passing (p : ℕ → Bool) (n i : ℕ) : Type 0 where
-  pub below : i ≤ n
-  pub passed : all i p ≡ true
-
-module _ {p : ℕ → Bool} {n : ℕ} where
-  pub passing_none : Passing p n 0
-  passing_none = record { below = omega arith; passed = all_none p }
-
-  module _ {i : ℕ} (passing : Passing p n i) where
-    -- row i fails
-    pub one_fails : i < n → p i ≡ false → false ≡ all n p
-    one_fails less fails = sym (all_miss n i p less fails)
-
-    pub passing_more : i < n → p i ≡ true → Passing p n (i + 1)
-    passing_more less passes = record { below = omega arith; passed = all_step i p passing.passed passes }
-
-    -- the end
-    pub all_pass : n ≤ i → true ≡ all n p
-    all_pass past = let end : i ≡ n = omega (arith, passing.below) in rw end at (sym passing.passed)
 
 -- ---- lists that are tabs
 module _ {A : Type 0} where
@@ -181,15 +159,6 @@ module _ (w : ℕ) (ws : List ℕ) where
       ∙ all_same (length ws / w) (λ i. p (take w (drop (i * w) ws))) (λ i. p (drop (i * w) ws))
       (λ i lt. h (drop (i * w) ws))
 
-  -- a loop that tests the rows of a table
-  module _ {p : List ℕ → Bool} (local : Local w p) {i : ℕ}
-      (passing : Passing (λ k. p (from w ws k)) (length ws / w) i) where
-    pub row_fails : i < length ws / w → p (from w ws i) ≡ false → false ≡ every p (table w ws)
-    row_fails less fails = one_fails passing less fails ∙ sym (every_rows p local)
-
-    pub rows_pass : length ws / w ≤ i → true ≡ every p (table w ws)
-    rows_pass past = all_pass passing past ∙ sym (every_rows p local)
-
   -- the rows as records
   pub map_rows : {R : Type 0} (f : List ℕ → R) → Local w f
       → map f (table w ws) ≡ tab (length ws / w) (λ i. f (from w ws i))
@@ -202,3 +171,15 @@ module _ (w : ℕ) (ws : List ℕ) where
 -- the words of a row that code reads
 pub row_fits : (n w i : ℕ) → i < n → i * w + w ≤ n * w
 row_fits n w i h = subst (λ (m : ℕ). m ≤ n * w) (suc-mul i w) (mul-le-mul_right w h)
+
+-- row k, as the code has it of a table's chunks
+pub chunk_at : (w n : ℕ) (ws : List ℕ) (k : ℕ) (d : List ℕ) → k < n → get_or (first_chunks w n ws) k d ≡ row_at w ws k
+chunk_at w zero ws k d h = absurd (not-suc-le-zero h)
+chunk_at w (suc n) ws zero d h = ap (λ (m : ℕ). take w (drop m ws)) (sym (zero-mul w))
+chunk_at w (suc n) ws (suc k) d h =
+    chunk_at w n (drop w ws) k d (le_of_suc-le-suc h)
+    ∙ ap (take w)
+    (drop-drop (k * w) w ws
+    ∙ (let one-row-more = suc-mul k w in
+    let words : w + k * w ≡ suc k * w = omega arith in
+    ap (λ (m : ℕ). drop m ws) words))

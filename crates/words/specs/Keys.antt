@@ -1,7 +1,8 @@
 -- The keys that rows are found by, and the bucket that a key lies in. A bucket is no part of what a call
 -- promises. Definitions only.
 use Rattle.std.specs.Prelude.{ℕ, ◌+◌, ◌*◌, ◌%◌, List, [], ◌∷◌, Bool, ◌&&◌, get_or, eqb}
-use Rattle.model.specs.Records.{Span}
+use Rattle.model.specs.Records.{JunctionKind, Span}
+use Rattle.model.specs.Tables.{kind_of, kind_word}
 use Rattle.model.specs.Text.{bytes_of, same_in}
 use Rattle.words.specs.Rows.{any, name_at}
 
@@ -54,6 +55,10 @@ unfoldable pub key_before : (lanes owner : List ℕ) → ℕ → Bool
 key_before lanes owner r =
     any r (is_key lanes owner (get_or owner r 0) (get_or lanes (r * 10 + 3) 0) (get_or lanes (r * 10 + 4) 0))
 
--- ---- a direct junction of a name
-unfoldable pub is_direct_of : List ℕ → List ℕ → Span → ℕ → Bool
-is_direct_of text junctions n q = eqb (get_or junctions (q * 5 + 2) 0) 1 && same_in text (name_at 5 0 junctions q) n
+-- ---- a junction of a kind and a name
+abbrev pub is_kind : (kind of : JunctionKind) → Bool
+is_kind kind of = eqb (kind_word of) (kind_word kind)
+
+unfoldable pub is_kind_of : JunctionKind → List ℕ → List ℕ → Span → ℕ → Bool
+is_kind_of kind text junctions n q =
+    is_kind kind (kind_of (get_or junctions (q * 5 + 2) 0)) && same_in text (name_at 5 0 junctions q) n

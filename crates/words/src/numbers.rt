@@ -6,8 +6,5 @@ ghost use Rattle.model.specs.Reversal.{negated};
 pub fn negate(n: u32) -> u32
     ensures { result ≡ negated n }
 {
-    if n == 0 {
-        return 0;
-    }
-    4294967295 - n + 1
+    n.wrapping_neg()
 }

@@ -1,6 +1,9 @@
 // Rows of words: reading a word, and writing rows into an output.
-ghost use Rattle.std.specs.Prelude.{◌≡◌, ◌+◌, ◌≤◌, ◌<◌, length, get_or};
+ghost use Rattle.std.specs.Prelude.{◌≡◌, ◌+◌, ◌/◌, ◌≤◌, ◌<◌, length, get_or};
+ghost use Rattle.model.specs.Reading.{row_at};
 ghost use Rattle.model.specs.Rows.{written};
+ghost use Rattle.model.specs.Tables.{flag, link_of, link_words};
+ghost use Rattle.words.specs.Fields.{number_read};
 ghost use Rattle.words.specs.Rows.{spliced};
 
 // A word of a table, as an index.
@@ -11,28 +14,47 @@ pub fn word(table: &[u32], at: usize) -> usize
     table[at] as usize
 }
 
-// Writes a row into an output, from word `at` on.
-pub fn put(out: &mut [u32], at: usize, row: &[u32])
-    requires { at + length row.now ≤ length out.old }
-    ensures { out.new ≡ spliced at row.now out.old }
+// Whether a flag of a table is set.
+pub fn flag(table: &[u32], at: usize) -> bool
+    requires { at < length table.now }
+    ensures { result ≡ flag (get_or table.now at 0) }
 {
-    let mut k = 0;
-    while k < row.len() {
-        out[at + k] = row[k];
-        k += 1;
+    table[at] == 1
+}
+
+// The lane number of the link at words `at` and `at + 1` of a table; none where its flag is not set.
+pub fn link(table: &[u32], at: usize) -> Option<u32>
+    requires { at + 1 < length table.now }
+    ensures { number_read result ≡ link_of (get_or table.now at 0) (get_or table.now (at + 1) 0) }
+{
+    flag(table, at).then_some(table[at + 1])
+}
+
+// The two words of a link: its flag and its lane number; two zeros for none.
+pub fn link_words(link: Option<u32>) -> [u32; 2]
+    ensures { result ≡ link_words (number_read link) }
+{
+    match link {
+        Some(number) => [1, number],
+        None => [0, 0],
     }
 }
 
-// The same for floats.
-pub fn put_floats(out: &mut [f32], at: usize, row: &[f32])
+// Row k of a table with W words a row.
+pub fn row<const W: usize>(table: &[u32], k: usize) -> &[u32; W]
+    requires { (0 < W) × (k < length table.now / W) }
+    ensures { result.now ≡ row_at W table.now k }
+{
+    let (rows, _) = table.as_chunks::<W>();
+    &rows[k]
+}
+
+// Writes a row into an output, from word `at` on.
+pub fn put<T: Copy>(out: &mut [T], at: usize, row: &[T])
     requires { at + length row.now ≤ length out.old }
     ensures { out.new ≡ spliced at row.now out.old }
 {
-    let mut k = 0;
-    while k < row.len() {
-        out[at + k] = row[k];
-        k += 1;
-    }
+    out[at..at + row.len()].copy_from_slice(row);
 }
 
 // Copies a table to the front of an output.

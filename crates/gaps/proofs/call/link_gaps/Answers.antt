@@ -1,136 +1,86 @@
--- `link_gaps` is refused by its verdict, or writes its rows: the words by row numbers are the model's content.
-use lib.ListN.{length}
-use mathlib.Core.Bool.{true}
-use mathlib.Core.List.{List}
-use mathlib.Core.Option.{none}
-use mathlib.Core.Path.{◌≡◌, sym, ap, ◌∙◌}
-use native.Mathlib.Omega.{arith}
+-- `link_gaps` is refused by the first nine rules, by 11, or writes its rows: the words by row numbers are the model's.
 use Prim.Native.Nat.{ℕ, ◌/◌}
-use Rattle.model.specs.Calls.{gap_call, gap_content, gap_rules, gap_width, table_writing, written_or9}
-use Rattle.model.specs.Rules.{Rule, first_broken}
-use Rattle.model.specs.Tables.{Tables, all_tables}
-use Rattle.words.proofs.Chains.{fresh}
-use Rattle.tables.specs.Verdicts.{admits, refusal_of}
-use Rattle.tables.specs.declared.verdict.Verdict.{Verdict}
-use Rattle.tables.proofs.Called.{call_admitted, call_refused}
-use Rattle.tables.proofs.Order.{is_none}
+use mathlib.Core.List.{List}
+use mathlib.Core.Option.{some}
+use mathlib.Core.Path.{sym, ap, ◌∙◌}
+use lib.ListN.{length}
+use Rattle.laws.proofs.Basics.{no_some}
+use Rattle.laws.proofs.RulesReversed.{pass_all}
+use Rattle.model.specs.Calls.{gap_call, gap_content, gap_rules, gap_width, outcome, table_writing, written_or9}
+use Rattle.words.specs.Map.{all_read}
+use Rattle.tables.specs.Refusals.{number_of}
+use Rattle.tables.proofs.Called.{call_admitted, call_refused, err_is}
+use Rattle.tables.proofs.Order.{broken_at}
+use Rattle.gaps.specs.Answers.{answer_of}
 use Rattle.gaps.specs.Links.{lists_right, rows_below}
 use Rattle.gaps.proofs.Bridge.{content_is}
-use Rattle.gaps.proofs.CallLaws.{Kept, first_nine, gap_kept, gap_through}
-use Rattle.gaps.proofs.call.link_gaps.Tie as tie
-use Rattle.gaps.proofs.call.link_gaps.Lts as lts
-use Rattle.gaps.proofs.call.link_gaps.Reads as reads
+use Rattle.gaps.proofs.CallLaws.{gap_early, gap_kept, gap_later, last}
 use Rattle.gaps.proofs.call.link_gaps.Goals as goal
 
-abbrev After-admitted : Type 0
-After-admitted = lts.After-admitted tie.the-claims reads.Pre reads.Post tie.handed_clauses
-
-abbrev Else-not-admitted : Type 0
-Else-not-admitted = lts.Else1 tie.the-claims reads.Pre reads.Post tie.handed_clauses
-
-abbrev Start : Type 0
-Start = lts.Start tie.the-claims reads.Pre reads.Post tie.handed_clauses
-
-abbrev After-gap_verdict-v : Type 0
-After-gap_verdict-v = lts.After-gap_verdict tie.the-claims reads.Pre reads.Post tie.handed_clauses
-
--- ---- what the call is about
-module _ (start : Start) where
-  abbrev tables : Tables
-  tables =
-      all_tables start.args.text.now start.args.roads.now start.args.sections.now
-      start.args.junctions.now start.args.connections.now start.args.pairs.now
-      start.args.lanes.now start.args.edges.now
-
-  abbrev offsets : List ℕ
-  offsets = start.args.offsets.now
-
-  abbrev ids : List ℕ
-  ids = start.args.ids.now
-
-  abbrev rule_list : List Rule
-  rule_list = gap_rules tables offsets ids
-
-  abbrev content : List ℕ
-  content = gap_content tables offsets ids
-
--- ---- what the verdict says
-abbrev begin : After-gap_verdict-v → Start
-begin judged = search
-
-module _ (tried : After-admitted) where
-  abbrev judged : After-gap_verdict-v
-  judged = search
-
-  abbrev start : Start
-  start = begin judged
-
-  abbrev verdict : Verdict
-  verdict = judged.gap_verdict-v.result
-
-  -- it is the first refusal but 9
-  first : refusal_of verdict ≡ first_broken (rule_list start)
-  first = judged.gap_verdict-v.ensures.result_value
-
--- ---- what its admission leaves
-module _ (past : Else-not-admitted) where
-  abbrev tried : After-admitted
-  tried = search
-
-  abbrev begun : Start
-  begun = start tried
-
-  free : admits (verdict tried) ≡ true
-  free = sym tried.admitted.ensures ∙ past.if-not-admitted.false
-
-  admitted : refusal_of (verdict tried) ≡ none
-  admitted = is_none (refusal_of (verdict tried)) free
-
-  through : (none ≡ first_broken (first_nine (tables begun) (offsets begun) (ids begun)))
-      × (lists_right begun.args.lanes.now (offsets begun) (ids begun) ≡ true)
-  through = gap_through (tables begun) (offsets begun) (ids begun) (sym admitted ∙ first tried)
-
-  right : lists_right begun.args.lanes.now (offsets begun) (ids begun) ≡ true
-  right = through.1
-
-  kept : Kept (tables begun) (ids begun)
-  kept = gap_kept (tables begun) (offsets begun) (ids begun) through.0
-
-  -- the words by row numbers are the model's
-  content_same : rows_below begun.args.lanes.now begun.args.edges.now (offsets begun) (ids begun)
-      (length begun.args.lanes.now / 10) ≡ content begun
-  content_same = content_is (tables begun) (offsets begun) (ids begun) kept.even kept.once right
-
-pub gap_verdict-v-requires : goal.gap_verdict-v-requires
-gap_verdict-v-requires c = record { empty = fresh }
-
-pub returns-then-not-admitted : goal.returns-then-not-admitted
+pub returns-in_err-first_verdict : goal.returns-in_err-first_verdict
 unfolding gap_call
-returns-then-not-admitted c =
-    let tried : After-admitted = search in
-    let barred = sym tried.admitted.ensures ∙ c.if-not-admitted.true in
-    call_refused (table_writing gap_width) (rule_list (start tried)) (content (start tried)) _ (verdict tried) barred
-    (first tried)
+returns-in_err-first_verdict c =
+    let t = all_read c.args.map.now c.args.lanes.now c.args.edges.now in
+    let offsets = c.args.offsets.now in
+    let ids = c.args.ids.now in
+    let r = c.in_err-first_verdict.field-0.0 in
+    let first = gap_early t offsets ids (some (number_of r)) (λ e. no_some (number_of r) (sym e))
+    c.in_err-first_verdict.ensures in
+    ap (λ q. outcome (answer_of q) c.args.out.now) (err_is c.from_residual.result r c.from_residual.ensures.1)
+    ∙ call_refused (table_writing gap_width) (gap_rules t offsets ids) (gap_content t offsets ids) c.args.out.now
+    (number_of r) first
 
-pub write_rows-requires : goal.write_rows-requires
-write_rows-requires c =
-    let past : Else-not-admitted = search in
-    let tried : After-admitted = search in
-    record {
-      lent = (judged tried).gap_verdict-v.ensures.lent (admitted past);
-      ids_value = right past;
-    }
+pub link_ids-requires-clause-few : goal.link_ids-requires-clause-few
+link_ids-requires-clause-few c =
+    (gap_kept (all_read c.args.map.now c.args.lanes.now c.args.edges.now) c.args.offsets.now c.args.ids.now
+    c.in_ok-first_verdict.ensures).few
 
-pub shape_of-out : goal.shape_of-out
-shape_of-out c = omega (arith, c.write_rows.auto.out)
+pub over-by_id-requires-clause-few : goal.over-by_id-requires-clause-few
+over-by_id-requires-clause-few c =
+    (gap_kept (all_read c.args.map.now c.args.lanes.now c.args.edges.now) c.args.offsets.now c.args.ids.now
+    c.in_ok-first_verdict.ensures).few
+
+pub returns-then-not-fit : goal.returns-then-not-fit
+unfolding gap_call
+returns-then-not-fit c =
+    let t = all_read c.args.map.now c.args.lanes.now c.args.edges.now in
+    let offsets = c.args.offsets.now in
+    let ids = c.args.ids.now in
+    let wrong = ap (λ (l : List ℕ). lists_right l offsets ids) (sym c.over-by_id.ensures) ∙ sym c.fit.ensures
+    ∙ c.if-not-fit.true in
+    call_refused (table_writing gap_width) (gap_rules t offsets ids) (gap_content t offsets ids) c.args.out.now 11
+    (gap_later t offsets ids c.in_ok-first_verdict.ensures (broken_at 0 (last t offsets ids) tt wrong))
+
+pub over-requires-clause-few : goal.over-requires-clause-few
+over-requires-clause-few c =
+    let kept = gap_kept (all_read c.args.map.now c.args.lanes.now c.args.edges.now) c.args.offsets.now c.args.ids.now
+    c.in_ok-first_verdict.ensures in
+    (rw c.over-by_id.ensures kept.few, kept.short)
+
+pub over-requires-clause-even : goal.over-requires-clause-even
+over-requires-clause-even c =
+    let kept = gap_kept (all_read c.args.map.now c.args.lanes.now c.args.edges.now) c.args.offsets.now c.args.ids.now
+    c.in_ok-first_verdict.ensures in
+    rw c.over-by_id.ensures kept.even
 
 pub returns : goal.returns
 unfolding gap_call
 returns c =
-    let past : Else-not-admitted = search in
-    let tried : After-admitted = search in
-    let out = (begun past).args.out.now in
+    let t = all_read c.args.map.now c.args.lanes.now c.args.edges.now in
+    let offsets = c.args.offsets.now in
+    let ids = c.args.ids.now in
+    let out = c.args.out.now in
+    let pass = c.in_ok-first_verdict.ensures in
+    let kept = gap_kept t offsets ids pass in
+    let right = ap (λ (l : List ℕ). lists_right l offsets ids) (sym c.over-by_id.ensures) ∙ sym c.fit.ensures
+    ∙ c.if-not-fit.false in
+    let made = c.over.ensures in
+    let lanes_are = made.lanes_are ∙ c.over-by_id.ensures in
     c.write_rows.ensures
-    ∙ ap (λ (rows : List ℕ). written_or9 (table_writing gap_width) rows out) (content_same past)
-    ∙ call_admitted (table_writing gap_width) (rule_list (begun past)) (content (begun past)) out (verdict tried)
-    (free past) (first tried)
+    ∙ (λ j.
+    written_or9 (table_writing gap_width)
+    (rows_below (lanes_are j) (made.edges_are j) (made.offsets_are j) (made.ids_are j) (length (lanes_are j) / 10)) out)
+    ∙ ap (λ (rows : List ℕ). written_or9 (table_writing gap_width) rows out)
+    (content_is t offsets ids kept.even kept.once right)
+    ∙ call_admitted (table_writing gap_width) (gap_rules t offsets ids) (gap_content t offsets ids) out
+    (gap_later t offsets ids pass (sym (pass_all (last t offsets ids) (right, tt))))

@@ -1,46 +1,32 @@
-use lib.ListN.{length, drop}
-use mathlib.Core.Path.{sym, ap, ◌∙◌}
-use native.Mathlib.Omega.{arith}
-use Prim.Native.Nat.{ℕ, ◌+◌, ◌≤◌}
-use Rattle.model.specs.Rules.{climbs_to}
-use Rattle.gaps.proofs.Climbs.{climbs_begin, climbs_end, climbs_falls, climbs_none, climbs_off, climbs_on}
+use mathlib.Core.Path.{refl, sym, ◌∙◌}
+use Rattle.std.proofs.Common.{rules, tests}
+use Rattle.std.proofs.lemmas.List.Sorted.{non_decreasing_from_is_sorted}
+use Rattle.gaps.proofs.Climbs.{begins_is, climbs_falls, climbs_off, climbs_on, ends_is}
+use Rattle.gaps.proofs.lists.offsets_climb.Goals.{then-eq, else-eq}
 use Rattle.gaps.proofs.lists.offsets_climb.Goals as goal
 
-pub returns-then-offsets-eq0 : goal.returns-then-offsets-eq0
-returns-then-offsets-eq0 c = climbs_none c.args.end c.args.offsets.now c.if-offsets-eq0.true
+pub returns-then-is_sorted : goal.returns-then-is_sorted
+returns-then-is_sorted c =
+    let os = c.args.offsets.now in
+    let first = begins_is os c.first.result _ refl c.first.ensures.value c.eq.ensures in
+    let last = ends_is c.args.end os c.last.result c.last.ensures.value
+    (λ e. rw e at c.is_some_and.ensures) (λ x e. let at = rw e at c.is_some_and.ensures in search (rules, tests)) in
+    elim c.if-eq.branch [
+      | then-eq w ↦
+          let sorted = non_decreasing_from_is_sorted os w.is_sorted.result w.is_sorted.ensures.cases in
+          let up = rw (sym w.value-is ∙ c.if-is_sorted.true) at sorted in
+          last ∙ climbs_on c.args.end os (sym first ∙ w.if-eq.true) up
+      | else-eq w ↦ absurd (cc)
+    ]
 
-pub bounds-offsets-0 : goal.bounds-offsets-0
-bounds-offsets-0 c = omega (arith, c.if-offsets-eq0.false)
-
-pub returns-then-offsets-ne0 : goal.returns-then-offsets-ne0
-returns-then-offsets-ne0 c = climbs_off c.args.end c.args.offsets.now c.if-offsets-eq0.false c.if-offsets-ne0.true
-
-pub loop-i-init : goal.loop-i-init
-loop-i-init c = (omega arith, climbs_begin c.args.end c.args.offsets.now c.if-offsets-eq0.false c.if-offsets-ne0.false)
-
-pub word-o-requires : goal.word-o-requires
-word-o-requires c = omega (arith, c.loop-i-test.true)
-
-pub returns-then-o-last : goal.returns-then-o-last
-returns-then-o-last c = sym (c.loop-i.invariant.1
-    ∙ climbs_falls _ _ _ _ c.loop-i-test.true (omega (arith, c.if-o-last.true, c.word-o.ensures.0)))
-
-pub overflow_add-i : goal.overflow_add-i
-overflow_add-i c = omega (arith, c.loop-i-test.true)
-
-pub loop-i-smaller : goal.loop-i-smaller
-loop-i-smaller c = omega (arith, c.loop-i-test.true)
-
-pub loop-i-preserved : goal.loop-i-preserved
-loop-i-preserved c = let word-is = c.word-o.ensures.0 in (
-  omega (arith, c.loop-i.invariant.0),
-  c.loop-i.invariant.1
-      ∙ climbs_on _ _ _ _ c.loop-i-test.true (omega (arith, c.if-o-last.false, word-is))
-      ∙ ap (λ (w : ℕ). climbs_to c.args.end w (drop (c.loop-i.i + 1) c.args.offsets.now))
-      (sym word-is),
-)
-
-pub returns : goal.returns
-returns c =
-    let past : length c.args.offsets.now ≤ c.loop-i.i = omega (arith, c.loop-i-test.false) in
-    sym (c.loop-i.invariant.1 ∙ climbs_end _ _ _ _ past)
+pub returns-else-is_sorted : goal.returns-else-is_sorted
+returns-else-is_sorted c =
+    let os = c.args.offsets.now in
+    let first = begins_is os c.first.result _ refl c.first.ensures.value c.eq.ensures in
+    elim c.if-eq.branch [
+      | then-eq w ↦
+          let sorted = non_decreasing_from_is_sorted os w.is_sorted.result w.is_sorted.ensures.cases in
+          let down = rw (sym w.value-is ∙ c.if-is_sorted.false) at sorted in
+          c.if-is_sorted.false ∙ climbs_falls c.args.end os down.0 down.1 (down.2 0)
+      | else-eq w ↦ c.if-is_sorted.false ∙ climbs_off c.args.end os (sym first ∙ w.if-eq.false)
+    ]

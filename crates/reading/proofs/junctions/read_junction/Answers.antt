@@ -1,181 +1,84 @@
 -- `read_junction` drops the connections of a junction without a name, with warning 1 each, or reads them and puts the
 -- junction.
-use lib.ListN.{length}
-use Prim.Native.Nat.{◌+◌, ◌*◌, ◌-◌, ◌/◌, ◌≤◌}
-use mathlib.Core.Path.{sym, ◌∙◌}
-use native.Mathlib.Omega.{arith}
-use Rattle.words.proofs.KeyLaws.{rows_in}
-use Rattle.words.proofs.Scans.{row_fits}
-use Rattle.reading.proofs.JunctionLaws.{kind_word_lem, read_named, read_unnamed}
-use Rattle.reading.proofs.RoomLaws.{Ground, ground, low_at, low_dropped}
-use Rattle.reading.proofs.junctions.read_junction.Tie as tie
-use Rattle.reading.proofs.junctions.read_junction.Lts as lts
-use Rattle.reading.proofs.junctions.read_junction.Reads as reads
+use Rattle.std.proofs.Common.{◌≡◌, ◌-◌, ◌∷◌, [], ap, arith, refl, ◌∙◌}
+use Rattle.model.specs.Reading.{kind_read}
+use Rattle.model.specs.Tables.{kind_word, name_in}
+use Rattle.words.specs.Fields.{junction_kind}
+use Rattle.reading.specs.Read.{tables_read}
+use Rattle.reading.proofs.JunctionLaws.{read_named, read_unnamed}
+use Rattle.reading.proofs.RoomLaws.{ground, low_at, low_dropped}
+use Rattle.reading.proofs.RunLaws.{run_as}
 use Rattle.reading.proofs.junctions.read_junction.Goals as goal
 
-abbrev Start : Type 0
-Start = lts.Start tie.the-claims reads.Pre reads.Post tie.handed_clauses
-
-abbrev After-word-count : Type 0
-After-word-count = lts.After-word2 tie.the-claims reads.Pre reads.Post tie.handed_clauses
-
-abbrev After-word-first : Type 0
-After-word-first = lts.After-word tie.the-claims reads.Pre reads.Post tie.handed_clauses
-
--- ---- row j of the junctions
-module _ (start : Start) where
-  row_there : start.args.j * 8 + 8 ≤ length start.args.junctions.now
-  row_there =
-      let fits = row_fits (length start.args.junctions.now / 8) 8 start.args.j start.requires.j_in_bounds.0 in
-      omega (arith, rows_in (length start.args.junctions.now) 8)
-
--- ---- its part of the connections, and what the rows before it leave
-module _ (count : After-word-count) where
-  abbrev first : After-word-first
-  first = search
-
-  abbrev start : Start
-  start = search
-
-  on : Ground start.args.junctions.now start.args.connections.now start.args.j first.word-first.result
-      count.word-count.result start.args.n start.args.p start.args.w
-  on =
-      ground start.requires.ready start.requires.j_in_bounds.0 start.requires.j_in_bounds.1.low
-      first.word-first.ensures.0 count.word-count.ensures.0
-
-  -- at most j junctions before it
-  junctions_few : start.args.m ≤ 16384
-  junctions_few = omega (arith, start.requires.j_in_bounds.1.junctions_low, on.small)
-
-pub overflow_mul-at : goal.overflow_mul-at
-overflow_mul-at c = let start : Start = search in omega (arith, row_there start)
-
-pub overflow_add-at : goal.overflow_add-at
-overflow_add-at c = let start : Start = search in omega (arith, row_there start)
-
-pub word-first-requires : goal.word-first-requires
-word-first-requires c = let start : Start = search in omega (arith, row_there start)
-
-pub overflow_add-at-2 : goal.overflow_add-at-2
-overflow_add-at-2 c = let start : Start = search in omega (arith, row_there start)
-
-pub word-count-requires : goal.word-count-requires
-word-count-requires c = let start : Start = search in omega (arith, row_there start)
-
-pub absent_at-requires : goal.absent_at-requires
-absent_at-requires c = let start : Start = search in omega (arith, row_there start)
+pub drop_all-requires : goal.drop_all-requires
+drop_all-requires c =
+    let on = ground c.args.tables.now.ready c.requires.0 c.requires.1.low c.junction-row.ensures c.word-first.ensures.0
+    c.word-count.ensures.0 in
+    (on.few, on.warnings)
 
 -- ---- it has no name
-pub overflow_cast-j : goal.overflow_cast-j
-overflow_cast-j c = let count : After-word-count = search in omega (arith, (on count).small)
+pub returns-in_default-clause-read : goal.returns-in_default-clause-read
+returns-in_default-clause-read c =
+    read_unnamed (tables_read c.args.tables.now.raw) c.args.j c.junction-row.ensures c.word-first.ensures.0
+    c.word-count.ensures.0 c.in_default.ensures c.drop_all.ensures.put
 
-pub drop_all-requires : goal.drop_all-requires
-drop_all-requires c = let count : After-word-count = search in ((on count).few, (on count).warnings)
-
-pub overflow_add-result : goal.overflow_add-result
-overflow_add-result c = let count : After-word-count = search in omega (arith, (on count).warnings)
-
-pub shape_of-wo-then-absent_at : goal.shape_of-wo-then-absent_at
-shape_of-wo-then-absent_at c = c.drop_all.ensures.kept
-
-pub returns-then-absent_at : goal.returns-then-absent_at
-returns-then-absent_at c =
-    let count : After-word-count = search in
-    let args = (start count).args in
-    let absent = sym c.absent_at.ensures ∙ c.if-absent_at.true in (
-      read_unnamed args.text.now args.junctions.now args.connections.now args.links.now args.j
-          (first count).word-first.ensures.0 count.word-count.ensures.0 absent c.drop_all.ensures,
-      record {
-        junctions_low = omega (arith, (start count).requires.j_in_bounds.1.junctions_low);
-        low = low_at (on count).next (low_dropped count.word-count.result (on count).start);
-      },
-    )
-
--- ---- it has one
-pub overflow_add-at-3 : goal.overflow_add-at-3
-overflow_add-at-3 c = let start : Start = search in omega (arith, row_there start)
-
-pub kind_at-kind-requires : goal.kind_at-kind-requires
-kind_at-kind-requires c = let start : Start = search in omega (arith, row_there start)
-
-pub read_connections-q-requires : goal.read_connections-q-requires
-read_connections-q-requires c =
-    let count : After-word-count = search in
-    let args = (start count).args in
+pub returns-in_default-clause-low : goal.returns-in_default-clause-low
+returns-in_default-clause-low c =
+    let on = ground c.args.tables.now.ready c.requires.0 c.requires.1.low c.junction-row.ensures c.word-first.ensures.0
+    c.word-count.ensures.0 in
     record {
-      at = record {
-        ready = (start count).requires.ready;
-        junction_there = (start count).requires.j_in_bounds.0;
-        kind_is = kind_word_lem args.text.now args.junctions.now args.connections.now args.links.now
-            args.j c.kind_at-kind.ensures;
-      };
-      count_in_bounds = ((on count).part, (on count).start);
+      junctions_low = omega (arith, c.requires.1.junctions_low);
+      low = rw c.drop_all.ensures.put.count (low_at on.next (low_dropped c.word-count.result on.start));
     }
 
-pub overflow_sub-size : goal.overflow_sub-size
-overflow_sub-size c = omega (arith, c.read_connections-q.ensures.0.rows.count)
+-- ---- it has one
+pub invariant_of-junction : goal.invariant_of-junction
+invariant_of-junction c =
+    let text = c.args.tables.now.raw.text.now in record {
+      there = c.requires.0;
+      kind_is = c.kind_read-kind.ensures
+          ∙ ap (kind_read text) c.attribute-2.ensures
+          ∙ ap (λ row. kind_read text (name_in row 2)) c.junction-row.ensures;
+    }
+
+pub read_connections-requires : goal.read_connections-requires
+read_connections-requires c =
+    let on = ground c.args.tables.now.ready c.requires.0 c.requires.1.low c.junction-row.ensures c.word-first.ensures.0
+    c.word-count.ensures.0 in
+    (on.part, on.start)
+
+pub overflow_cast-start : goal.overflow_cast-start
+overflow_cast-start c =
+    let on = ground c.args.tables.now.ready c.requires.0 c.requires.1.low c.junction-row.ensures c.word-first.ensures.0
+    c.word-count.ensures.0 in
+    omega (arith, on.kept, on.few)
 
 pub overflow_cast-size : goal.overflow_cast-size
 overflow_cast-size c =
-    let count : After-word-count = search in
-    omega (arith, c.read_connections-q.ensures.1.connections_low, (on count).few)
+    let on = ground c.args.tables.now.ready c.requires.0 c.requires.1.low c.junction-row.ensures c.word-first.ensures.0
+    c.word-count.ensures.0 in
+    omega (arith, c.read_connections.ensures.low.connections_low, on.few)
 
-pub overflow_mul-m : goal.overflow_mul-m
-overflow_mul-m c = let count : After-word-count = search in omega (arith, junctions_few count)
+pub returns-clause-read : goal.returns-clause-read
+returns-clause-read c =
+    let raw = c.args.tables.now.raw in
+    let kind = c.kind_read-kind.ensures
+    ∙ ap (kind_read raw.text.now) c.attribute-2.ensures
+    ∙ ap (λ row. kind_read raw.text.now (name_in row 2)) c.junction-row.ensures in
+    let word : c.from.result ≡ kind_word (junction_kind c.kind_read-kind.result) = c.from.ensures in
+    let n = c.in-Some.name in
+    let start = c.args.connections.now.rows in
+    let size = c.read_connections.new.connections.rows - start in
+    let read = c.read_connections.ensures.read in
+    read_named (tables_read raw) c.args.j c.junction-row.ensures c.word-first.ensures.0 c.word-count.ensures.0 size
+    c.in-Some.ensures kind read (omega (arith, read.rows.count))
+    (run_as c.put.ensures.put (λ z. n.start ∷ n.size ∷ word z ∷ start ∷ size ∷ []) refl)
 
-pub offset_bounds-junctions-at : goal.offset_bounds-junctions-at
-offset_bounds-junctions-at c = let count : After-word-count = search in omega (arith, (on count).small)
-
-pub bounds-junctions-at : goal.bounds-junctions-at
-bounds-junctions-at c = let count : After-word-count = search in omega (arith, (on count).row)
-
-pub overflow_add-at-4 : goal.overflow_add-at-4
-overflow_add-at-4 c = let count : After-word-count = search in omega (arith, (on count).small)
-
-pub offset_bounds-junctions-at-2 : goal.offset_bounds-junctions-at-2
-offset_bounds-junctions-at-2 c = let count : After-word-count = search in omega (arith, (on count).small)
-
-pub bounds-junctions-at-2 : goal.bounds-junctions-at-2
-bounds-junctions-at-2 c = let count : After-word-count = search in omega (arith, (on count).row)
-
-pub overflow_cast-n : goal.overflow_cast-n
-overflow_cast-n c = let count : After-word-count = search in omega (arith, (on count).kept, (on count).few)
-
-pub put_if-requires : goal.put_if-requires
-put_if-requires c = let count : After-word-count = search in (omega (arith, junctions_few count), omega arith)
-
-pub overflow_add-result-2 : goal.overflow_add-result-2
-overflow_add-result-2 c = let count : After-word-count = search in omega (arith, junctions_few count)
-
-pub shape_of-jo : goal.shape_of-jo
-shape_of-jo c = c.put_if.auto.out
-
-pub shape_of-co : goal.shape_of-co
-shape_of-co c = c.read_connections-q.ensures.0.rows.kept
-
-pub shape_of-po : goal.shape_of-po
-shape_of-po c = c.read_connections-q.ensures.0.rest.pairs.kept
-
-pub shape_of-wo : goal.shape_of-wo
-shape_of-wo c = c.read_connections-q.ensures.0.rest.warnings.kept
-
-pub returns : goal.returns
-returns c =
-    let count : After-word-count = search in
-    let args = (start count).args in
-    let text = args.text.now in
-    let junctions = args.junctions.now in
-    let connections = args.connections.now in
-    let links = args.links.now in
-    let there = sym c.absent_at.ensures ∙ c.if-absent_at.false in
-    let kind_is = kind_word_lem text junctions connections links args.j c.kind_at-kind.ensures in
-    let connections-read = c.read_connections-q.ensures.0 in (
-      read_named text junctions connections links args.j (first count).word-first.ensures.0
-          count.word-count.ensures.0 (c.read_connections-q.result.connections - args.n) there kind_is
-          connections-read (omega (arith, connections-read.rows.count)) c.put_if.ensures
-          c.put_if.auto.out,
-      record {
-        junctions_low = omega (arith, (start count).requires.j_in_bounds.1.junctions_low);
-        low = low_at (on count).next c.read_connections-q.ensures.1;
-      },
-    )
+pub returns-clause-low : goal.returns-clause-low
+returns-clause-low c =
+    let on = ground c.args.tables.now.ready c.requires.0 c.requires.1.low c.junction-row.ensures c.word-first.ensures.0
+    c.word-count.ensures.0 in
+    record {
+      junctions_low = omega (arith, c.requires.1.junctions_low, c.put.ensures.put.count);
+      low = low_at on.next c.read_connections.ensures.low;
+    }

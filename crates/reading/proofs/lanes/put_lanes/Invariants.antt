@@ -1,7 +1,5 @@
--- `put_lanes` writes a row for each raw row. Before turn `i` the rows below `i` are written.
-use lib.ListN.{length}
-use mathlib.Core.Path.{◌≡◌}
-use Prim.Native.Nat.{◌-◌, ◌≤◌}
+-- `put_lanes`: before turn `i` the rows below `i` are written.
+use Rattle.std.proofs.Common.{◌≡◌}
 use Rattle.model.specs.Lists.{gather}
 use Rattle.model.specs.Reading.{part_rows}
 use Rattle.model.specs.Rows.{written}
@@ -9,9 +7,4 @@ use Rattle.reading.proofs.LaneLaws.{lane_at}
 use Rattle.reading.proofs.lanes.put_lanes.Given as goal
 
 abbrev pub invariant-loop-i : goal.invariant-loop-i
-invariant-loop-i l = (l.i ≤ l.n)
-    × (l.out ≡ written (gather (lane_at l.text l.raw) (part_rows 0 l.i)) l.initial.out)
-    × (length l.out ≡ length l.initial.out)
-
-abbrev pub decreases-loop-i : goal.decreases-loop-i
-decreases-loop-i l = l.n - l.i
+invariant-loop-i l = l.out ≡ written (gather (lane_at l.text l.raw) (part_rows 0 l.i)) l.initial.out

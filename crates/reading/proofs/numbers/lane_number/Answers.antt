@@ -1,29 +1,28 @@
--- `lane_number`: nothing, `-` and digits, `+` and digits, or digits.
-use lib.ListN.{drop}
-use mathlib.Core.Path.{ap, ◌∙◌}
-use Rattle.model.specs.Reading.{digits, up_to}
+use Rattle.std.proofs.Common.{◌∙◌, ap, arith}
+use Rattle.std.proofs.Math.Option.{some}
+use Rattle.model.specs.Lists.{map_o}
 use Rattle.model.specs.Reversal.{negated}
-use Rattle.reading.specs.Read.{link_read}
-use Rattle.reading.proofs.NumberLaws.{link_negated, number_minus, number_none, number_plain, number_plus}
+use Rattle.reading.proofs.NumberLaws.{number_minus, number_none, number_plain, number_plus}
 use Rattle.reading.proofs.numbers.lane_number.Goals as goal
 
-pub returns-then-bytes-eq0 : goal.returns-then-bytes-eq0
-returns-then-bytes-eq0 c = c.no_link.ensures ∙ number_none c.args.bytes.now c.if-bytes-eq0.true
+pub returns-in_err-sign : goal.returns-in_err-sign
+returns-in_err-sign c = rw c.from_residual.ensures (number_none c.args.bytes.now c.in_err-sign.ensures.cases)
 
-pub returns-then-bytes-eq45 : goal.returns-then-bytes-eq45
-returns-then-bytes-eq45 c =
-    let bytes = c.args.bytes.now in
-    let digits_are = c.digits_from-q.ensures in
-    link_negated (up_to 2147483648 (digits (drop 1 bytes))) (ap (λ q. q.flag) digits_are)
-    (c.negate.ensures ∙ ap (λ q. negated q.number) digits_are)
-    ∙ ap link_read (number_minus bytes c.if-bytes-eq0.false c.if-bytes-eq45.true)
+pub returns-in-43 : goal.returns-in-43
+returns-in-43 c = c.digits-in-43.ensures ∙ number_plus c.in_ok-sign.ensures.cases.0 c.in-43.is
 
-pub returns-then-bytes-eq43 : goal.returns-then-bytes-eq43
-returns-then-bytes-eq43 c = c.digits_from.ensures
-    ∙ ap link_read
-    (number_plus c.args.bytes.now c.if-bytes-eq0.false c.if-bytes-eq45.false c.if-bytes-eq43.true)
+pub returns-in_default : goal.returns-in_default
+returns-in_default c =
+    c.digits-in_default.ensures
+    ∙ number_plain c.in_ok-sign.ensures.cases.0 (λ e. omega arith) (λ e. omega arith)
 
-pub returns : goal.returns
-returns c = c.digits_from-2.ensures
-    ∙ ap link_read
-    (number_plain c.args.bytes.now c.if-bytes-eq0.false c.if-bytes-eq45.false c.if-bytes-eq43.false)
+pub returns-in_err-digits-in-45 : goal.returns-in_err-digits-in-45
+returns-in_err-digits-in-45 c =
+    rw c.from_residual-in_err-digits-in-45.ensures
+    (ap (map_o negated) c.in_err-digits-in-45.ensures ∙ number_minus c.in_ok-sign.ensures.cases.0 c.in-45.is)
+
+pub returns-in_ok-digits-in-45 : goal.returns-in_ok-digits-in-45
+returns-in_ok-digits-in-45 c =
+    ap some c.negate.ensures
+    ∙ ap (map_o negated) c.in_ok-digits-in-45.ensures
+    ∙ number_minus c.in_ok-sign.ensures.cases.0 c.in-45.is

@@ -1,33 +1,21 @@
--- `in_virtual` reads the name, and looks for a virtual junction of that name.
-use Rattle.repair.specs.Along.{virtual_row, is_virtual_of}
-use Rattle.words.specs.Rows.{any, span}
-use Rattle.model.specs.Tables.{is_absent}
-use mathlib.Core.Bool.{not, ◌&&◌}
-use lib.ListN.{length}
-use Prim.Native.Nat.{ℕ, ◌/◌}
-use mathlib.Core.Path.{ap₂, ◌∙◌}
-use Rattle.repair.proofs.along.in_virtual.Tie as tie
-use Rattle.repair.proofs.along.in_virtual.Lts as lts
-use Rattle.repair.proofs.along.in_virtual.Reads as reads
+use Rattle.std.proofs.Common.{◌/◌, Bool, ◌∙◌, ◌&&◌, ap, length, not, refl, sym}
+use Rattle.model.specs.Records.{virtual}
+use Rattle.repair.proofs.Virtual.{virtual_by}
+use Rattle.words.specs.Keys.{is_kind_of}
+use Rattle.words.specs.Name.{place_of}
+use Rattle.words.specs.Rows.{any}
 use Rattle.repair.proofs.along.in_virtual.Goals as goal
 
-abbrev After-index_at-s : Type 0
-After-index_at-s = lts.After-index_at tie.the-claims reads.Pre reads.Post
+pub returns-then-not-is_absent : goal.returns-then-not-is_absent
+returns-then-not-is_absent c =
+    sym (ap (λ b. not b && c.has_kind.result) c.if-not-is_absent.true)
+    ∙ virtual_by _ c.args.roads.now _ c.args.road.0 c.at-name.ensures c.is_absent.ensures c.has_kind.ensures
 
-abbrev Start : Type 0
-Start = lts.Start tie.the-claims reads.Pre reads.Post
-
-module _ (read : After-index_at-s) where
-  abbrev start : Start
-  start = search
-
-pub returns : goal.returns
-unfolding virtual_row
-returns c =
-    let first : After-index_at-s = search in
-    let text = (start first).args.text.now in
-    let junctions = (start first).args.junctions.now in
-    c.both.ensures
-    ∙ ap₂ (λ a b. not a && b) c.both-absent.ensures c.any_virtual.ensures
-    ∙ ap₂ (λ (a b : ℕ). not (is_absent a b) && any (length junctions / 5) (is_virtual_of text junctions (span a b)))
-    first.index_at-s.ensures.0 c.index_at-l.ensures.0
+pub returns-else-not-is_absent : goal.returns-else-not-is_absent
+returns-else-not-is_absent c =
+    let junctions = c.args.junctions.now in
+    let met : Bool = any (length junctions.rows.now / 5)
+    (is_kind_of virtual junctions.text.now junctions.rows.now (place_of c.at-name.result)) in
+    ap not c.if-not-is_absent.false
+    ∙ sym (ap (λ b. not b && met) c.if-not-is_absent.false)
+    ∙ virtual_by _ c.args.roads.now _ c.args.road.0 c.at-name.ensures c.is_absent.ensures refl

@@ -1,14 +1,15 @@
--- `pair_row` is the pair as read, or the other way.
+use Rattle.std.proofs.Common.{◌∙◌, ap, sym}
+use Rattle.model.specs.Tables.{pair_row}
+use Rattle.repair.specs.Laying.{pair_at, turned_pair}
 use Rattle.repair.proofs.Piles.{pair_plain, pair_turned}
-use mathlib.Core.List.{[], ◌∷◌}
-use Prim.Native.Nat.{ℕ}
-use mathlib.Core.Path.{ap₂, ◌∙◌}
 use Rattle.repair.proofs.laying.pair_row.Goals as goal
 
-pub returns-then-b-eq0 : goal.returns-then-b-eq0
-returns-then-b-eq0 c = ap₂ (λ (x y : ℕ). x ∷ y ∷ []) c.at-x.ensures c.at-y.ensures
-    ∙ pair_plain c.args.pairs.now c.args.q c.args.b c.if-b-eq0.true
+pub returns-in-None : goal.returns-in-None
+returns-in-None c =
+    pair_plain c.args.pairs.now c.args.q
+    ∙ ap (λ b. pair_row (turned_pair b (pair_at c.args.pairs.now c.args.q))) (sym c.in-None.is)
 
-pub returns : goal.returns
-returns c = ap₂ (λ (x y : ℕ). y ∷ x ∷ []) c.at-x.ensures c.at-y.ensures
-    ∙ pair_turned c.args.pairs.now c.args.q c.args.b c.if-b-eq0.false
+pub returns-in-Some : goal.returns-in-Some
+returns-in-Some c =
+    pair_turned c.args.pairs.now c.args.q
+    ∙ ap (λ b. pair_row (turned_pair b (pair_at c.args.pairs.now c.args.q))) (sym c.in-Some.is)

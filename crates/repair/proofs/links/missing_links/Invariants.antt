@@ -1,28 +1,17 @@
--- `missing_links` goes through one connection a turn.
 use Rattle.repair.specs.Laying.{Linked}
-use Rattle.repair.specs.Now.{row_connection}
-use Rattle.words.specs.Rows.{tab}
-use Rattle.model.specs.Tables.{Tables, map_tables}
-use lib.ListN.{length}
-use mathlib.Core.List.{List}
-use Prim.Native.Nat.{ℕ, ◌+◌, ◌-◌, ◌≤◌}
-use mathlib.Core.Path.{◌≡◌}
+use Rattle.repair.specs.Now.{row_connection, run}
+use Rattle.repair.specs.declared.laid.LaidRows.{LaidRows}
+use Rattle.model.specs.Tables.{Tables}
+use Rattle.words.specs.Map.{map_read}
+use Rattle.std.proofs.Common.{ℕ, List, ◌≤◌, ◌+◌}
 use Rattle.repair.proofs.links.missing_links.Given as goal
 
--- before turn i the first i connections are gone through, and there are `at` warnings
-pub record Held (t : (ss ps : List ℕ) → Tables) (k first m w : ℕ) (ends₀ ends warn₀ warn : List ℕ) (at i : ℕ) : Type 0
-  where
-    pub turns : i ≤ m
-    pub warnings : at ≤ w + i
-    pub ends_long : length ends ≡ 32768
-    pub warnings_long : length warn ≡ 32768
-    pub linked : (ss ps : List ℕ)
-        → Linked (t ss ps) k (tab i (λ j. row_connection (t ss ps) (first + j))) ends₀ ends w at warn₀ warn
+-- before turn i the links that the first i connections show are given
+pub record Held (t : Tables) (k first i : ℕ) (ends₀ ends : List ℕ) (before after : LaidRows 4 32768) : Type 0 where
+  pub at_most : after.rows ≤ before.rows + i
+  pub linked : Linked t k (run (row_connection t) first i) ends₀ ends before after
 
 abbrev pub invariant-loop-i : goal.invariant-loop-i
 invariant-loop-i l =
-    Held (λ ss ps. map_tables l.text l.roads ss l.junctions l.connections ps) l.k l.first l.m l.w l.initial.ends l.ends
-    l.initial.warn l.warn l.at l.i
-
-abbrev pub decreases-loop-i : goal.decreases-loop-i
-decreases-loop-i l = l.m - l.i
+    Held (map_read l.junction.reads.map) l.junction.row l.junction.first l.i l.initial.ends.words l.ends.words
+    l.initial.warnings l.warnings

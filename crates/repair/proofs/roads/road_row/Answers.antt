@@ -1,10 +1,10 @@
--- `road_row` reads the row's words, and its two targets as they are now.
+use Rattle.std.proofs.Common.{◌∙◌, ap, refl}
+use Rattle.model.specs.Tables.{target_words}
 use Rattle.repair.proofs.RoadWords.{row_words_lem}
 use Rattle.repair.proofs.roads.road_row.Goals as goal
 
 pub returns : goal.returns
 returns c =
-    let args = c.args in
-    row_words_lem args.roads.now args.junctions.now args.ends.now args.road.0 _ _ c.at-w0.ensures
-    c.at-w1.ensures c.at-w2.ensures c.at-w3.ensures c.target-a.ensures.value
-    c.target-b.ensures.value c.at-w18.ensures c.at-w19.ensures
+    row_words_lem _ _ c.requires _ _ _ refl c.put.ensures c.put-2.ensures c.put-3.ensures c.put-4.ensures
+    (c.words-predecessor.ensures ∙ ap target_words c.target.ensures)
+    (c.words-successor.ensures ∙ ap target_words c.target-2.ensures)

@@ -1,152 +1,122 @@
--- Refused by the verdict, or for room, or written: each by a law of calls.
+-- `reverse` is refused by its verdict or by 9, or writes: the rows by row numbers are the model's content.
 use Prim.Native.Nat.{ℕ}
-use mathlib.Core.Bool.{true}
+use mathlib.Core.Bool.{Bool}
 use mathlib.Core.List.{List}
 use mathlib.Core.Option.{none}
 use mathlib.Core.Path.{◌≡◌, sym, ap, ◌∙◌}
 use native.Mathlib.Omega.{arith}
-use lib.ListN.{length-replicate}
-use Rattle.model.specs.Calls.{ReversalOutputs, put_reversed, reversal_call, reversal_content, reversal_lengths}
-use Rattle.model.specs.Calls.{reversal_rules, reversal_writing, written_or9}
-use Rattle.model.specs.Rules.{Rule, first_broken, fits}
-use Rattle.model.specs.Tables.{Tables, all_tables}
 use Rattle.laws.proofs.WordsReversed.{six_lengths}
-use Rattle.words.proofs.Chains.{fresh}
-use Rattle.tables.specs.Verdicts.{admits, refusal_of}
-use Rattle.tables.specs.declared.verdict.Verdict.{Verdict}
-use Rattle.tables.proofs.Called.{all_written, call_admitted, call_refused, too_short}
-use Rattle.tables.proofs.Order.{is_none}
-use Rattle.reversal.specs.Answers.{outputs}
-use Rattle.reversal.proofs.CallLaws.{content_is, counted, facts, room, room_is, writable}
-use Rattle.reversal.proofs.call.reverse.Tie as tie
-use Rattle.reversal.proofs.call.reverse.Lts as lts
-use Rattle.reversal.proofs.call.reverse.Reads as reads
+use Rattle.model.specs.Calls.{ReversalOutputs, outcome, put_reversed, reversal_call, reversal_content}
+use Rattle.model.specs.Calls.{reversal_lengths, reversal_rules, reversal_writing}
+use Rattle.model.specs.Rules.{first_broken, fits}
+use Rattle.model.specs.Tables.{Tables}
+use Rattle.words.specs.Map.{all_read}
+use Rattle.tables.specs.Refusals.{number_of}
+use Rattle.tables.proofs.Called.{all_written, call_admitted, call_refused, err_is, too_short}
+use Rattle.reversal.specs.Answers.{answer_of, long_enough, outputs, outputs_of}
+use Rattle.reversal.specs.Turned.{reversed_tables}
+use Rattle.reversal.proofs.CallLaws.{content_is, counted, enough_is, facts, kept, room_is}
 use Rattle.reversal.proofs.call.reverse.Goals as goal
 
-abbrev After-admitted : Type 0
-After-admitted = lts.After-admitted tie.the-claims reads.Pre reads.Post tie.handed_clauses
+-- whether the outputs are long enough for what has to be written
+room_for : (t : Tables) (marks : List ℕ) (outs : ReversalOutputs) → none ≡ first_broken (reversal_rules t marks)
+    → {b : Bool} → b ≡ long_enough (outputs t.roads t.sections t.connections t.pairs t.lanes t.edges) outs
+    → b ≡ fits (reversal_lengths (reversal_content t marks)) (reversal_lengths outs)
+unfolding reversal_lengths six_lengths
+room_for t marks outs clear e =
+    room_is t marks clear (reversal_lengths outs)
+    (e ∙ enough_is (outputs t.roads t.sections t.connections t.pairs t.lanes t.edges) outs)
 
-abbrev After-reversal_verdict-v : Type 0
-After-reversal_verdict-v = lts.After-reversal_verdict tie.the-claims reads.Pre reads.Post tie.handed_clauses
-
-abbrev After-enough : Type 0
-After-enough = lts.After-enough tie.the-claims reads.Pre reads.Post tie.handed_clauses
-
-abbrev Start : Type 0
-Start = lts.Start tie.the-claims reads.Pre reads.Post tie.handed_clauses
-
-abbrev Else-not-admitted : Type 0
-Else-not-admitted = lts.Else1 tie.the-claims reads.Pre reads.Post tie.handed_clauses
-
--- ---- what is lent: the tables, the marks, the outputs; and the verdict on them
-module _ (judged : After-reversal_verdict-v) where
-  abbrev start : Start
-  start = search
-
-  abbrev tables : Tables
-  tables = let a = start.args in
-      all_tables a.text.now a.roads.now a.sections.now a.junctions.now a.connections.now
-      a.pairs.now a.lanes.now a.edges.now
-
-  abbrev marks : List ℕ
-  marks = start.args.marks.now
-
-  abbrev rule_list : List Rule
-  rule_list = reversal_rules tables marks
-
-  abbrev content : ReversalOutputs
-  content = reversal_content tables marks
-
-  abbrev lent : ReversalOutputs
-  lent = let a = start.args in
-      outputs a.outroads.now a.outsections.now a.outconnections.now a.outpairs.now
-      a.outlanes.now a.outedges.now
-
-  abbrev verdict : Verdict
-  verdict = judged.reversal_verdict-v.result
-
-  first_rule : refusal_of verdict ≡ first_broken rule_list
-  first_rule = judged.reversal_verdict-v.ensures.result_value
-
--- ---- an admitted call
-module _ (past : Else-not-admitted) where
-  abbrev judged : After-reversal_verdict-v
-  judged = search
-
-  free : admits (verdict judged) ≡ true
-  free = let asked : After-admitted = search in sym asked.admitted.ensures ∙ past.if-not-admitted.false
-
-  no_rule : none ≡ first_broken (rule_list judged)
-  no_rule = sym (is_none (refusal_of (verdict judged)) free) ∙ first_rule judged
-
-  -- is what is left
-  written_or_9 : written_or9 reversal_writing (content judged) (lent judged)
-      ≡ reversal_call (tables judged) (marks judged) (lent judged)
-  unfolding reversal_call
-  written_or_9 =
-      call_admitted reversal_writing (rule_list judged) (content judged) (lent judged) (verdict judged) free
-      (first_rule judged)
-
--- ---- whether the outputs are long enough for what has to be written
-module _ (measured : After-enough) where
-  abbrev past : Else-not-admitted
-  past = search
-
-  room_for : measured.enough.result
-      ≡ fits (reversal_lengths (content (judged past))) (reversal_lengths (lent (judged past)))
-  unfolding reversal_lengths six_lengths
-  room_for =
-      room_is (tables (judged past)) (marks (judged past)) (no_rule past) (reversal_lengths (lent (judged past)))
-      measured.enough.ensures
-
-pub reversal_verdict-v-requires : goal.reversal_verdict-v-requires
-reversal_verdict-v-requires c = record {
-  empty = fresh;
-  owner_len = length-replicate {A = ℕ} 16384 0;
-  empty_2 = fresh;
-}
-
--- refused by the verdict
-pub returns-then-not-admitted : goal.returns-then-not-admitted
+pub returns-in_err-reversal_verdict-clause-outcome : goal.returns-in_err-reversal_verdict-clause-outcome
 unfolding reversal_call
-returns-then-not-admitted c =
-    let met : After-reversal_verdict-v = search in
-    let barred = sym c.admitted.ensures ∙ c.if-not-admitted.true in
-    call_refused reversal_writing (rule_list met) (content met) (lent met) (verdict met) barred (first_rule met)
+returns-in_err-reversal_verdict-clause-outcome c =
+    let t = all_read c.args.map.now c.args.lanes.now c.args.edges.now in
+    let marks = c.args.marks.now in
+    let outs = outputs_of c.args.out.now in
+    let r = c.in_err-reversal_verdict.field-0.0 in
+    ap (λ q. outcome (answer_of q) outs) (err_is c.from_residual.result r c.from_residual.ensures.1)
+    ∙ call_refused reversal_writing (reversal_rules t marks) (reversal_content t marks) outs (number_of r)
+    c.in_err-reversal_verdict.ensures.refusal
 
--- 9
-pub returns-then-not-enough : goal.returns-then-not-enough
-returns-then-not-enough c =
-    let measured : After-enough = search in
-    let met = judged (past measured) in
-    too_short reversal_writing (content met) (lent met) (sym (room_for measured) ∙ c.if-not-enough.true)
-    ∙ written_or_9 (past measured)
+pub returns-then-not-enough-clause-outcome : goal.returns-then-not-enough-clause-outcome
+unfolding reversal_call
+returns-then-not-enough-clause-outcome c =
+    let t = all_read c.args.map.now c.args.lanes.now c.args.edges.now in
+    let marks = c.args.marks.now in
+    let outs = outputs_of c.args.out.now in
+    let clear = c.in_ok-reversal_verdict.ensures.refusal in
+    too_short reversal_writing (reversal_content t marks) outs
+    (sym (room_for t marks outs clear c.enough.ensures) ∙ c.if-not-enough.true)
+    ∙ call_admitted reversal_writing (reversal_rules t marks) (reversal_content t marks) outs clear
 
-pub write_all-requires : goal.write_all-requires
-unfolding reversal_lengths
-write_all-requires c =
-    let measured : After-enough = search in
-    let met = judged (past measured) in
-    let known = facts (tables met) (marks met) (no_rule (past measured)) in
-    let linked = met.reversal_verdict-v.ensures.linked (is_none _ (free (past measured))) in
-    let kept = met.reversal_verdict-v.auto in
-    let full = length-replicate {A = ℕ} 16384 0 in
-    record {
-      writable = writable (tables met) (marks met) known linked
-          (omega (arith, full, kept.heads)) (omega (arith, full, kept.next)) (omega (arith, full, kept.owner));
-      room = room _ _ (sym measured.enough.ensures ∙ c.if-not-enough.false);
-    }
+pub over-roads-requires : goal.over-roads-requires
+over-roads-requires c =
+    let t = all_read c.args.map.now c.args.lanes.now c.args.edges.now in
+    let known = facts t c.args.marks.now c.in_ok-reversal_verdict.ensures.refusal in
+    (omega arith, ((omega arith, omega arith, known.few_roads), c.in_ok-reversal_verdict.ensures.linked.named))
 
--- written
-pub returns : goal.returns
-returns c =
-    let measured : After-enough = search in
-    let met = judged (past measured) in
-    let clear = no_rule (past measured) in
-    let linked = met.reversal_verdict-v.ensures.linked (is_none _ (free (past measured))) in
-    let turned = content_is (tables met) (marks met) (facts (tables met) (marks met) clear) linked in
-    let written = c.write_all.ensures
-    ∙ ap (λ (new : ReversalOutputs). put_reversed new (lent met)) (sym turned) in
-    all_written reversal_writing (content met) (lent met) (sym (room_for measured) ∙ c.if-not-enough.false)
-    (counted (tables met) (marks met) clear) written
-    ∙ written_or_9 (past measured)
+pub over-requires : goal.over-requires
+over-requires c =
+    (facts (all_read c.args.map.now c.args.lanes.now c.args.edges.now) c.args.marks.now
+    c.in_ok-reversal_verdict.ensures.refusal).parts
+
+pub over-turning-requires-clause-up : goal.over-turning-requires-clause-up
+over-turning-requires-clause-up c =
+    let known = facts (all_read c.args.map.now c.args.lanes.now c.args.edges.now) c.args.marks.now
+    c.in_ok-reversal_verdict.ensures.refusal in
+    rw (c.over-roads.ensures.1, c.over.ensures.1) known.up
+
+pub over-turning-requires-clause-even : goal.over-turning-requires-clause-even
+over-turning-requires-clause-even c =
+    let known = facts (all_read c.args.map.now c.args.lanes.now c.args.edges.now) c.args.marks.now
+    c.in_ok-reversal_verdict.ensures.refusal in
+    rw c.over-roads.ensures.1 known.even_marks
+
+pub over-owned-requires-clause-owned : goal.over-owned-requires-clause-owned
+over-owned-requires-clause-owned c =
+    let known = facts (all_read c.args.map.now c.args.lanes.now c.args.edges.now) c.args.marks.now
+    c.in_ok-reversal_verdict.ensures.refusal in
+    omega (arith, known.few_lanes)
+
+pub over-owned-requires-clause-kept : goal.over-owned-requires-clause-kept
+over-owned-requires-clause-kept c =
+    let t = all_read c.args.map.now c.args.lanes.now c.args.edges.now in
+    let marks = c.args.marks.now in
+    let known = facts t marks c.in_ok-reversal_verdict.ensures.refusal in
+    λ i h.
+    rw (c.over-turning.ensures.roads.1 ∙ c.over-roads.ensures.1, c.over-turning.ensures.sections ∙ c.over.ensures.1)
+    (kept t marks known c.in_ok-reversal_verdict.ensures.linked i h)
+
+pub write_all-requires-clause-links : goal.write_all-requires-clause-links
+write_all-requires-clause-links c =
+    (facts (all_read c.args.map.now c.args.lanes.now c.args.edges.now) c.args.marks.now
+    c.in_ok-reversal_verdict.ensures.refusal).links
+
+pub write_all-requires-clause-even : goal.write_all-requires-clause-even
+write_all-requires-clause-even c =
+    rw c.over-owned.ensures.lanes.0 (facts (all_read c.args.map.now c.args.lanes.now c.args.edges.now) c.args.marks.now
+    c.in_ok-reversal_verdict.ensures.refusal).even_edges
+
+pub returns-clause-outcome : goal.returns-clause-outcome
+unfolding reversal_call
+returns-clause-outcome c =
+    let map = c.args.map.now in
+    let t = all_read map c.args.lanes.now c.args.edges.now in
+    let marks = c.args.marks.now in
+    let outs = outputs_of c.args.out.now in
+    let clear = c.in_ok-reversal_verdict.ensures.refusal in
+    let text = c.over-owned.ensures.roads.0 ∙ c.over-turning.ensures.roads.0 ∙ c.over-roads.ensures.0 in
+    let roads = c.over-owned.ensures.roads.1 ∙ c.over-turning.ensures.roads.1 ∙ c.over-roads.ensures.1 in
+    let sections = c.over-owned.ensures.turning.0 ∙ c.over-turning.ensures.sections ∙ c.over.ensures.1 in
+    let by_row = c.over-owned.ensures.turning.1 ∙ c.over-turning.ensures.marks in
+    let lanes = c.over-owned.ensures.lanes.0 in
+    let owner = c.over-owned.ensures.lanes.1 in
+    let written = c.write_all.ensures.content
+    ∙ (λ j.
+    put_reversed (reversed_tables (text j) (roads j) (sections j) map.connections.now map.pairs.now (lanes j)
+    c.args.edges.now (by_row j) (owner j)) outs)
+    ∙ ap (λ (new : ReversalOutputs). put_reversed new outs)
+    (sym (content_is t marks (facts t marks clear) c.in_ok-reversal_verdict.ensures.linked)) in
+    all_written reversal_writing (reversal_content t marks) outs
+    (sym (room_for t marks outs clear c.enough.ensures) ∙ c.if-not-enough.false) (counted t marks clear) written
+    ∙ call_admitted reversal_writing (reversal_rules t marks) (reversal_content t marks) outs clear

@@ -1,4 +1,3 @@
-use native.Mathlib.Omega.{arith}
 use Rattle.reversal.proofs.Leaves.{connection_7}
 use Rattle.reversal.proofs.Writers.{row_fits, wrote_all, wrote_none, wrote_row}
 use Rattle.reversal.proofs.links.put_connections.Goals as goal
@@ -6,28 +5,14 @@ use Rattle.reversal.proofs.links.put_connections.Goals as goal
 pub loop-i-init : goal.loop-i-init
 loop-i-init c = wrote_none
 
-pub turned_connection-row-requires : goal.turned_connection-row-requires
-turned_connection-row-requires c = record {
-  ready = c.requires.ready;
-  i_in_bounds = c.loop-i-test.true;
-}
-
 pub put-requires : goal.put-requires
-put-requires c = row_fits 7 (connection_7 _ _ _ _) c.requires.connections_in_bounds c.loop-i.invariant
-    c.loop-i-test.true c.turned_connection-row.ensures
-
-pub overflow_add-i : goal.overflow_add-i
-overflow_add-i c = omega (arith, c.loop-i-test.true)
-
-pub loop-i-smaller : goal.loop-i-smaller
-loop-i-smaller c = omega (arith, c.loop-i-test.true)
+put-requires c =
+    row_fits 7 (connection_7 _ _ _ _) c.requires c.loop-i.invariant c.loop-i-test.true c.turned_connection.ensures
 
 pub loop-i-preserved : goal.loop-i-preserved
-loop-i-preserved c = wrote_row 7 (connection_7 _ _ _ _) c.requires.connections_in_bounds c.loop-i.invariant
-    c.loop-i-test.true c.turned_connection-row.ensures c.put.ensures c.put.auto.out
-
-pub shape_of-out : goal.shape_of-out
-shape_of-out c = c.loop-i.invariant.as_long
+loop-i-preserved c =
+    wrote_row 7 (connection_7 _ _ _ _) c.requires c.loop-i.invariant c.loop-i-test.true c.turned_connection.ensures
+    c.put.ensures c.put.auto.out
 
 pub returns : goal.returns
 returns c = wrote_all c.loop-i.invariant c.loop-i-test.false

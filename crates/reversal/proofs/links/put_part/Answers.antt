@@ -1,65 +1,44 @@
-use Prim.Native.Nat.{ℕ, ◌+◌, ◌*◌, ◌<◌, ◌≤◌}
 use native.Mathlib.Omega.{arith}
-use lib.ListN.{length}
-use Rattle.reversal.specs.Turned.{pairs_from}
+use mathlib.Core.Path.{refl, ◌∙◌}
+use Rattle.reversal.specs.Turned.{pairs_turned}
 use Rattle.reversal.proofs.Leaves.{pair_2, pair_is}
-use Rattle.reversal.proofs.Places.{div_mul_le}
-use Rattle.reversal.proofs.Writers.{wrote_at_all, wrote_at_none, wrote_at_row}
-use Rattle.reversal.proofs.links.put_part.Tie as tie
-use Rattle.reversal.proofs.links.put_part.Lts as lts
-use Rattle.reversal.proofs.links.put_part.Reads as reads
+use Rattle.reversal.proofs.Writers.{pair_next, pairs_end, wrote_at_all, wrote_at_none, wrote_at_row}
 use Rattle.reversal.proofs.links.put_part.Goals as goal
 
-abbrev Start : Type 0
-Start = lts.Start tie.the-claims reads.Pre reads.Post
-    goal.the-invariant-loop-k goal.the-decreases-loop-k tie.handed_clauses
-
--- pair k of the part, in words
-module _ (start : Start) (k : ℕ) (turn : k < start.args.count) where
-  in_table : (start.args.first + k) * 2 + 2 ≤ length start.args.pairs.now
-  in_table = omega (arith, start.requires.count_in_bounds, div_mul_le (length start.args.pairs.now))
-
-  in_out : start.args.first * 2 + k * 2 + 2 ≤ length start.args.out.now
-  in_out = omega (arith, in_table, start.requires.pairs_in_bounds)
-
 pub loop-k-init : goal.loop-k-init
-loop-k-init c = wrote_at_none
-
-pub overflow_add-at : goal.overflow_add-at
-overflow_add-at c = omega (arith, in_table (search) _ c.loop-k-test.true)
-
-pub overflow_mul-at : goal.overflow_mul-at
-overflow_mul-at c = omega (arith, in_table (search) _ c.loop-k-test.true)
-
-pub bounds-pairs-at : goal.bounds-pairs-at
-bounds-pairs-at c = omega (arith, in_table (search) _ c.loop-k-test.true)
-
-pub overflow_add-at-in-loop-k : goal.overflow_add-at-in-loop-k
-overflow_add-at-in-loop-k c = omega (arith, in_table (search) _ c.loop-k-test.true)
-
-pub bounds-pairs-at-in-loop-k : goal.bounds-pairs-at-in-loop-k
-bounds-pairs-at-in-loop-k c = omega (arith, in_table (search) _ c.loop-k-test.true)
+loop-k-init c =
+    let none = c.enumerate-k-items.ensures.count in
+    let same = c.into_iter-k-iterator.ensures.into_iter_gives in
+    let source = c.enumerate-k-items.ensures.source in
+    rw (same, none, source, c.chunks_exact.ensures.size, c.chunks_exact.ensures.rest) (wrote_at_none, refl, refl)
 
 pub put-requires : goal.put-requires
-put-requires c = omega (arith, in_out (search) _ c.loop-k-test.true, c.loop-k.invariant.as_long)
-
-pub overflow_add-k : goal.overflow_add-k
-overflow_add-k c = omega (arith, c.loop-k-test.true)
-
-pub loop-k-smaller : goal.loop-k-smaller
-loop-k-smaller c = omega (arith, c.loop-k-test.true)
+put-requires c =
+    let steps = c.in-Some.ensures.steps in
+    let pair =
+    pair_next c.args.part.now c.loop-k.k-iterator.count c.in-Some.pair.now c.loop-k.invariant.2 steps.0.1.0
+    (steps.0.1.1 ∙ c.loop-k.invariant.1) in
+    omega (arith, pair.0, steps.1, c.requires, c.loop-k.invariant.0.as_long)
 
 pub loop-k-preserved : goal.loop-k-preserved
 loop-k-preserved c =
-    let start : Start = search in
-    let here = c.loop-k-test.true in
-    let pair = pair_is _ _ _ _ c.signed_by-from.ensures c.signed_by-to.ensures in
-    wrote_at_row 2 (λ j. pair_2 _ _ _ _) c.loop-k.invariant here pair (omega arith) c.put.ensures
-    (in_out start _ here) c.put.auto.out
-
-pub shape_of-out : goal.shape_of-out
-shape_of-out c = c.loop-k.invariant.as_long
+    let steps = c.in-Some.ensures.steps in
+    let pair =
+    pair_next c.args.part.now c.loop-k.k-iterator.count c.in-Some.pair.now c.loop-k.invariant.2 steps.0.1.0
+    (steps.0.1.1 ∙ c.loop-k.invariant.1) in
+    let from = rw pair.1 at c.signed_by-from.ensures in
+    let to = rw pair.2 at c.signed_by-to.ensures in
+    let put = rw steps.1 at c.put.ensures in
+    rw steps.2 (
+      wrote_at_row 2 (λ j. pair_2 _ _ _ _) c.loop-k.invariant.0 pair.0 (pair_is _ _ _ _ from to) refl put
+          (omega (arith, pair.0, c.requires)) c.put.auto.out,
+      steps.0.0 ∙ c.loop-k.invariant.1,
+      pair.3,
+    )
 
 pub returns : goal.returns
-unfolding pairs_from
-returns c = wrote_at_all c.loop-k.invariant c.loop-k-test.false
+unfolding pairs_turned
+returns c =
+    let steps = c.in-None.ensures.steps in
+    wrote_at_all c.loop-k.invariant.0
+    (pairs_end c.args.part.now c.loop-k.k-iterator.count c.loop-k.invariant.2 (rw c.loop-k.invariant.1 at steps.0.1.0))

@@ -1,46 +1,50 @@
-use mathlib.Core.Path.{sym, ◌∙◌}
+use mathlib.Core.Path.{sym, subst, ◌∙◌}
+use mathlib.Core.List.{reverse}
 use native.Mathlib.Omega.{arith}
-use Rattle.reversal.proofs.Places.{between, mirrored_at, mirrored_length}
+use lib.ListN.{length-append, length-reverse}
+use Rattle.std.proofs.Common.{length}
+use Rattle.std.proofs.lemmas.Iterator.Adapters.{YieldsList-from_rev_slice}
+use Rattle.std.proofs.lemmas.Iterator.Consumers.{YieldsList-at, YieldsList-end, YieldsList-from_enumerate}
+use Rattle.std.proofs.lemmas.Iterator.Consumers.{YieldsList-turn}
+use Rattle.std.proofs.lemmas.List.FromFn.{length-enumerate_from}
+use Rattle.reversal.specs.Turned.{Within}
+use Rattle.reversal.proofs.Places.{between, from_last, mirrored_at, mirrored_length}
 use Rattle.reversal.proofs.Writers.{pasted_all, pasted_none, pasted_word}
 use Rattle.reversal.proofs.roads.put_mirrored.Goals as goal
 
 pub loop-k-init : goal.loop-k-init
 loop-k-init c = pasted_none
 
-pub overflow_sub-part : goal.overflow_sub-part
-overflow_sub-part c = omega (arith, c.loop-k-test.true)
-
-pub overflow_sub-part-in-loop-k : goal.overflow_sub-part-in-loop-k
-overflow_sub-part-in-loop-k c = omega (arith, c.loop-k-test.true)
-
-pub bounds-part-part : goal.bounds-part-part
-bounds-part-part c = omega (arith, c.loop-k-test.true)
-
 pub mirror_of-requires : goal.mirror_of-requires
-mirror_of-requires c = between _ _ c.requires.1 (omega (arith, c.loop-k-test.true))
-
-pub overflow_add-out : goal.overflow_add-out
-overflow_add-out c = omega (arith, c.loop-k-test.true, c.requires.0)
-
-pub bounds-out-at : goal.bounds-out-at
-bounds-out-at c = omega (arith, c.loop-k-test.true, c.requires.0, c.loop-k.invariant.as_long)
-
-pub overflow_add-k : goal.overflow_add-k
-overflow_add-k c = omega (arith, c.loop-k-test.true)
-
-pub loop-k-smaller : goal.loop-k-smaller
-loop-k-smaller c = omega (arith, c.loop-k-test.true)
+mirror_of-requires c =
+    let part = c.args.part.now in
+    let road = YieldsList-at c.into_iter-k-iterator.ensures.into_iter_gives
+    (YieldsList-from_enumerate (YieldsList-at c.enumerate-k-items.ensures.source
+    (YieldsList-from_rev_slice c.args.part.now cc)) c.enumerate-k-items.ensures.count) in
+    let turn = YieldsList-turn road c.loop-k.yielded _ c.loop-k.yielded_by _ _ _ c.in-Some.is c.next.ensures.steps in
+    let now = from_last part (length c.loop-k.yielded) _ _ turn.0 turn.1 in
+    subst (Within part) (sym now.2) (between part _ c.requires.1 (omega (arith, now.1)))
 
 pub loop-k-preserved : goal.loop-k-preserved
 loop-k-preserved c =
-    let here = c.loop-k-test.true in
     let part = c.args.part.now in
-    let number_is = c.mirror_of.ensures ∙ sym (mirrored_at part c.loop-k.k here) in
-    pasted_word c.loop-k.invariant (omega (arith, here, mirrored_length part)) number_is
-    (omega (arith, here, c.requires.0))
-
-pub shape_of-out : goal.shape_of-out
-shape_of-out c = c.loop-k.invariant.as_long
+    let road = YieldsList-at c.into_iter-k-iterator.ensures.into_iter_gives
+    (YieldsList-from_enumerate (YieldsList-at c.enumerate-k-items.ensures.source
+    (YieldsList-from_rev_slice c.args.part.now cc)) c.enumerate-k-items.ensures.count) in
+    let turn = YieldsList-turn road c.loop-k.yielded _ c.loop-k.yielded_by _ _ _ c.in-Some.is c.next.ensures.steps in
+    let n = length c.loop-k.yielded in
+    let now = from_last part n _ _ turn.0 turn.1 in
+    let number_is = rw now.2 at c.mirror_of.ensures ∙ sym (mirrored_at part n now.1) in
+    let done = pasted_word c.loop-k.invariant (omega (arith, now.1, mirrored_length part)) number_is
+    (omega (arith, now.1, c.requires.0)) in
+    rw (length-append c.loop-k.yielded _, now.0) done
 
 pub returns : goal.returns
-returns c = pasted_all c.loop-k.invariant (omega (arith, c.loop-k-test.false, mirrored_length c.args.part.now))
+returns c =
+    let part = c.args.part.now in
+    let road = YieldsList-at c.into_iter-k-iterator.ensures.into_iter_gives
+    (YieldsList-from_enumerate (YieldsList-at c.enumerate-k-items.ensures.source
+    (YieldsList-from_rev_slice c.args.part.now cc)) c.enumerate-k-items.ensures.count) in
+    let all = YieldsList-end road c.loop-k.yielded _ c.loop-k.yielded_by _ _ c.in-None.is c.next.ensures.steps in
+    pasted_all c.loop-k.invariant
+    (omega (arith, all.1, length-enumerate_from 0 (reverse part), length-reverse part, mirrored_length part))

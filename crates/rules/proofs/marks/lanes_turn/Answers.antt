@@ -1,31 +1,13 @@
-use native.Mathlib.Omega.{arith}
-use borrow.Author.Tests.{not-true, not-false}
-use mathlib.Core.Path.{sym, ◌∙◌}
-use Rattle.words.proofs.Scans.{all_pass, one_fails, passing_more, passing_none}
-use Rattle.rules.proofs.Turning.{lanes_fine_form}
+use Rattle.std.proofs.Common.{◌∙◌, arith, rules, sym, tests}
+use Rattle.model.specs.Rows.{table}
+use Rattle.model.specs.Rules.{lane_fine}
+use Rattle.model.specs.Tables.{lane_in}
+use Rattle.rules.proofs.Every.{every_map, every_row}
 use Rattle.rules.proofs.marks.lanes_turn.Goals as goal
 
-pub loop-i-init : goal.loop-i-init
-loop-i-init c = passing_none
-
-pub lane_turns-requires : goal.lane_turns-requires
-lane_turns-requires c = omega arith
-
-pub returns-then-not-lane_turns : goal.returns-then-not-lane_turns
-returns-then-not-lane_turns c =
-    let fails = sym c.lane_turns.ensures ∙ not-true _ c.if-not-lane_turns.true-raw in
-    one_fails c.loop-i.invariant c.loop-i-test.true fails ∙ sym (lanes_fine_form _)
-
-pub overflow_add-i : goal.overflow_add-i
-overflow_add-i c = omega arith
-
-pub loop-i-smaller : goal.loop-i-smaller
-loop-i-smaller c = omega arith
-
-pub loop-i-preserved : goal.loop-i-preserved
-loop-i-preserved c =
-    let passes = sym c.lane_turns.ensures ∙ not-false _ c.if-not-lane_turns.false-raw in
-    passing_more c.loop-i.invariant c.loop-i-test.true passes
-
 pub returns : goal.returns
-returns c = all_pass c.loop-i.invariant c.loop-i-test.false ∙ sym (lanes_fine_form _)
+returns c =
+    let lanes = c.args.lanes.now in
+    every_row 10 lanes (λ row. lane_fine (lane_in row)) c.all.ensures.ran c.chunks_exact.ensures.rest
+    c.chunks_exact.ensures.size (omega arith) (λ x b q k. search (rules, tests))
+    ∙ sym (every_map lane_fine lane_in (table 10 lanes))

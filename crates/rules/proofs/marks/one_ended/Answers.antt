@@ -1,24 +1,13 @@
--- The junctions are linked by name in new arrays, and then `none_twice` judges.
-use native.Mathlib.Omega.{arith}
-use mathlib.Core.Path.{◌∙◌}
-use Rattle.words.proofs.Chains.{fresh}
-use Rattle.words.proofs.KeyLaws.{rows_in}
+use Rattle.std.proofs.Common.{◌∙◌, ap, length, refl, rules, sym, tests}
+use Rattle.words.specs.Rows.{all}
+use Rattle.rules.specs.ByRow.{turns_twice}
+use Rattle.rules.proofs.Every.{all_numbers}
 use Rattle.rules.proofs.marks.one_ended.Goals as goal
 
-pub link_names-requires : goal.link_names-requires
-link_names-requires c = record {
-  w_bound = (omega arith, omega arith, rows_in _ 5, c.requires.1);
-  empty = fresh;
-}
-
-pub none_twice-requires : goal.none_twice-requires
-none_twice-requires c =
-    record {
-      roads_len = c.requires.0;
-      by_name = record {
-        few = c.requires.1;
-        buckets = c.link_names.auto.heads ∙ fresh.buckets;
-        rows = c.link_names.auto.next ∙ fresh.rows;
-        chains = c.link_names.ensures.chained;
-      };
-    }
+pub returns : goal.returns
+unfolding turns_twice
+returns c =
+    let m = c.args.map.now in
+    all_numbers (length c.args.marks.now) (turns_twice m.text.now m.roads.now m.junctions.now c.args.marks.now)
+    c.all.ensures.ran refl (λ x b q k. search (rules, tests))
+    ∙ ap (λ n. all n (turns_twice m.text.now m.roads.now m.junctions.now c.args.marks.now)) (sym c.requires.marked)

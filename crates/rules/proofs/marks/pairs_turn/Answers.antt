@@ -1,31 +1,14 @@
-use native.Mathlib.Omega.{arith}
-use borrow.Author.Tests.{not-true, not-false}
-use mathlib.Core.Path.{sym, ◌∙◌}
-use Rattle.words.proofs.Scans.{all_pass, one_fails, passing_more, passing_none}
-use Rattle.rules.proofs.Turning.{pairs_fine_form}
+use Rattle.std.proofs.Common.{◌∙◌, arith, rules, sym, tests}
+use Rattle.model.specs.Rows.{table}
+use Rattle.model.specs.Rules.{pair_fine}
+use Rattle.model.specs.Tables.{pair_in}
+use Rattle.rules.proofs.Every.{every_map, every_row}
 use Rattle.rules.proofs.marks.pairs_turn.Goals as goal
 
-pub loop-i-init : goal.loop-i-init
-loop-i-init c = passing_none
-
-pub pair_turns-requires : goal.pair_turns-requires
-pair_turns-requires c = omega arith
-
-pub returns-then-not-pair_turns : goal.returns-then-not-pair_turns
-returns-then-not-pair_turns c =
-    let fails = sym c.pair_turns.ensures ∙ not-true _ c.if-not-pair_turns.true-raw in
-    one_fails c.loop-i.invariant c.loop-i-test.true fails ∙ sym (pairs_fine_form _)
-
-pub overflow_add-i : goal.overflow_add-i
-overflow_add-i c = omega arith
-
-pub loop-i-smaller : goal.loop-i-smaller
-loop-i-smaller c = omega arith
-
-pub loop-i-preserved : goal.loop-i-preserved
-loop-i-preserved c =
-    let passes = sym c.pair_turns.ensures ∙ not-false _ c.if-not-pair_turns.false-raw in
-    passing_more c.loop-i.invariant c.loop-i-test.true passes
-
 pub returns : goal.returns
-returns c = all_pass c.loop-i.invariant c.loop-i-test.false ∙ sym (pairs_fine_form _)
+unfolding pair_fine pair_in
+returns c =
+    let pairs = c.args.pairs.now in
+    every_row 2 pairs (λ row. pair_fine (pair_in row)) c.all.ensures.ran c.chunks_exact.ensures.rest
+    c.chunks_exact.ensures.size (omega arith) (λ x b q k. search (rules, tests))
+    ∙ sym (every_map pair_fine pair_in (table 2 pairs))

@@ -1,11 +1,7 @@
--- Row after row: each part begins where the one before it ends, and none ends past row `n`. `Reached` says how far that
--- has been seen before turn `i`.
-use Prim.Native.Nat.{◌-◌}
-use Rattle.rules.proofs.Fits.{Reached}
+use Rattle.std.specs.Slice.Iter.{chunks_exact_rest, chunks_exact_size}
+use Rattle.rules.proofs.Fits.{PartsLeft}
 use Rattle.rules.proofs.parts.parts_fit.Given as goal
 
-abbrev pub invariant-loop-i : goal.invariant-loop-i
-invariant-loop-i l = Reached l.w l.kf l.kc l.n l.ws l.at l.i
-
-abbrev pub decreases-loop-i : goal.decreases-loop-i
-decreases-loop-i l = l.rows - l.i
+abbrev pub invariant-loop-row : goal.invariant-loop-row
+invariant-loop-row l = PartsLeft l.w l.kf l.kc l.n l.ws l.at (chunks_exact_size l.row-iterator)
+    (chunks_exact_rest l.row-iterator)

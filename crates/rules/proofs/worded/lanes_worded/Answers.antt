@@ -1,31 +1,9 @@
-use native.Mathlib.Omega.{arith}
-use borrow.Author.Tests.{not-true, not-false}
-use mathlib.Core.Path.{sym, ◌∙◌}
-use Rattle.words.proofs.Scans.{passing_more, passing_none, row_fails, rows_pass}
-use Rattle.rules.proofs.Locals.{lane_local}
+use Rattle.std.proofs.Common.{arith, rules, tests}
+use Rattle.model.specs.Rules.{lane_worded}
+use Rattle.rules.proofs.Every.{every_row}
 use Rattle.rules.proofs.worded.lanes_worded.Goals as goal
 
-pub loop-i-init : goal.loop-i-init
-loop-i-init c = passing_none
-
-pub lane_worded-requires : goal.lane_worded-requires
-lane_worded-requires c = omega arith
-
-pub returns-then-not-lane_worded : goal.returns-then-not-lane_worded
-returns-then-not-lane_worded c =
-    let fails = sym c.lane_worded.ensures ∙ not-true _ c.if-not-lane_worded.true-raw in
-    row_fails 10 _ (lane_local _) c.loop-i.invariant c.loop-i-test.true fails
-
-pub overflow_add-i : goal.overflow_add-i
-overflow_add-i c = omega arith
-
-pub loop-i-smaller : goal.loop-i-smaller
-loop-i-smaller c = omega arith
-
-pub loop-i-preserved : goal.loop-i-preserved
-loop-i-preserved c =
-    let passes = sym c.lane_worded.ensures ∙ not-false _ c.if-not-lane_worded.false-raw in
-    passing_more c.loop-i.invariant c.loop-i-test.true passes
-
 pub returns : goal.returns
-returns c = rows_pass 10 _ (lane_local _) c.loop-i.invariant c.loop-i-test.false
+returns c =
+    every_row 10 c.args.lanes.now (lane_worded c.args.text.now) c.all.ensures.ran c.chunks_exact.ensures.rest
+    c.chunks_exact.ensures.size (omega arith) (λ x b q k. search (rules, tests))

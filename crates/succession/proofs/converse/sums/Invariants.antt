@@ -3,16 +3,9 @@
 use Rattle.succession.specs.Packs.{sum_of_first}
 use Rattle.words.specs.Rows.{tab}
 use Rattle.model.specs.Rows.{written}
-use lib.ListN.{length}
-use Prim.Native.Nat.{◌-◌, ◌≤◌}
 use mathlib.Core.Path.{◌≡◌}
 use Rattle.succession.proofs.converse.sums.Given as goal
 
 abbrev pub invariant-loop-i : goal.invariant-loop-i
-invariant-loop-i l = (l.i ≤ l.n)
-    × (l.at ≡ sum_of_first l.counts l.i)
-    × (length l.offsets ≡ length l.initial.offsets)
+invariant-loop-i l = (l.at ≡ sum_of_first l.counts l.i)
     × (l.offsets ≡ written (tab l.i (sum_of_first l.counts)) l.initial.offsets)
-
-abbrev pub decreases-loop-i : goal.decreases-loop-i
-decreases-loop-i l = l.n - l.i

@@ -1,9 +1,8 @@
-use native.Mathlib.Omega.{arith}
-use Rattle.succession.proofs.RunLaws.{member_at, member_past}
+use mathlib.Core.Path.{◌∙◌}
+use Rattle.std.proofs.lemmas.List.Sorted.{searched}
+use Rattle.succession.proofs.RunLaws.{searched_member}
 use Rattle.succession.proofs.list.has.Goals as goal
 
-pub returns-then-k-xs : goal.returns-then-k-xs
-returns-then-k-xs c = member_at _ _ _ c.requires c.below-k.ensures (omega arith)
-
 pub returns : goal.returns
-returns c = member_past _ _ _ c.below-k.ensures (omega arith)
+returns c = c.is_ok.ensures.value
+    ∙ searched_member _ _ _ (searched _ _ _ c.binary_search.ensures.position c.requires)

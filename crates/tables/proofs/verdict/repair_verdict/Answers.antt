@@ -1,45 +1,30 @@
--- `repair_verdict` is `map_verdict` with its own answers of rules 1 and 2.
-use mathlib.Core.Path.{sym, ap₂, ◌∙◌}
-use native.Mathlib.Omega.{arith}
+-- `repair_verdict` asks rules 1 and 2, and then those of `map_verdict`.
+use Rattle.std.proofs.Common.{sym, ap₂, ◌∙◌, arith}
 use Rattle.model.specs.Calls.{repair_rules, rules_to5}
-use Rattle.model.specs.Rules.{first_broken, map_worded}
-use Rattle.model.specs.Tables.{Tables, map_tables}
+use Rattle.model.specs.Rules.{first_broken}
+use Rattle.words.specs.Map.{map_read}
 use Rattle.rules.proofs.Counts.{few}
-use Rattle.tables.proofs.verdict.repair_verdict.Tie as tie
-use Rattle.tables.proofs.verdict.repair_verdict.Lts as lts
-use Rattle.tables.proofs.verdict.repair_verdict.Reads as reads
+use Rattle.tables.proofs.Order.{broken_at}
 use Rattle.tables.proofs.verdict.repair_verdict.Goals as goal
 
-abbrev After-map_sized-sizes : Type 0
-After-map_sized-sizes = lts.After-map_sized tie.the-claims reads.Pre reads.Post tie.handed_clauses
+pub returns-then-not-map_sized-clause-refusal : goal.returns-then-not-map_sized-clause-refusal
+unfolding repair_rules rules_to5
+returns-then-not-map_sized-clause-refusal c =
+    broken_at 0 (repair_rules (map_read c.args.map.now)) tt (sym c.map_sized.ensures ∙ c.if-not-map_sized.true)
 
-abbrev Start : Type 0
-Start = lts.Start tie.the-claims reads.Pre reads.Post tie.handed_clauses
+pub returns-then-not-map_worded-clause-refusal : goal.returns-then-not-map_worded-clause-refusal
+unfolding repair_rules rules_to5
+returns-then-not-map_worded-clause-refusal c =
+    broken_at 1 (repair_rules (map_read c.args.map.now)) (sym c.map_sized.ensures ∙ c.if-not-map_sized.false, tt)
+    (sym c.map_worded.ensures ∙ c.if-not-map_worded.true)
 
-module _ (sized : After-map_sized-sizes) where
-  abbrev start : Start
-  start = search
+pub map_verdict-requires-clause-few : goal.map_verdict-requires-clause-few
+map_verdict-requires-clause-few c =
+    few 8192 (map_read c.args.map.now) (omega arith) (sym c.map_sized.ensures ∙ c.if-not-map_sized.false)
 
-  abbrev tables : Tables
-  tables =
-      map_tables start.args.text.now start.args.roads.now start.args.sections.now
-      start.args.junctions.now start.args.connections.now start.args.pairs.now
-
-pub map_verdict-requires : goal.map_verdict-requires
-map_verdict-requires c =
-    let sized : After-map_sized-sizes = search in
-    record {
-      few = λ passes. few 8192 (tables sized) (omega arith) (sym sized.map_sized-sizes.ensures ∙ passes);
-      empty = (start sized).requires.empty;
-    }
-
-pub returns : goal.returns
-unfolding repair_rules map_worded
-returns c =
-    let sized : After-map_sized-sizes = search in
-    record {
-      result_value = c.map_verdict.ensures.result_value
-          ∙ ap₂ (λ sizes words. first_broken (rules_to5 sizes words (tables sized)))
-          sized.map_sized-sizes.ensures c.map_worded-words.ensures;
-      chained = c.map_verdict.ensures.chained;
-    }
+pub returns-clause-refusal : goal.returns-clause-refusal
+unfolding repair_rules
+returns-clause-refusal c =
+    c.map_verdict.ensures.refusal
+    ∙ ap₂ (λ sizes words. first_broken (rules_to5 sizes words (map_read c.args.map.now)))
+    (sym c.if-not-map_sized.false ∙ c.map_sized.ensures) (sym c.if-not-map_worded.false ∙ c.map_worded.ensures)

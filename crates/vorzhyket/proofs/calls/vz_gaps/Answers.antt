@@ -1,10 +1,16 @@
 -- `vz_gaps`: what the call answers, as a number and the rows in `written`.
+use Rattle.std.proofs.Common.{ℕ, ap, arith}
 use Rattle.vorzhyket.proofs.CountsFit.{gaps_counted}
 use Rattle.vorzhyket.proofs.Left.{leaves}
 use Rattle.vorzhyket.proofs.calls.vz_gaps.Goals as goal
 
-pub measured-requires : goal.measured-requires
-measured-requires c = gaps_counted _ _ _ _ c.link_gaps-a.ensures
+pub accepted-requires : goal.accepted-requires
+accepted-requires c = (omega arith, (omega arith, rw c.in-Ok.is at (gaps_counted _ _ _ _ c.link_gaps.ensures)))
 
-pub returns : goal.returns
-returns c = leaves c.link_gaps-a.ensures _ c.measured.ensures
+pub returns-in-Ok : goal.returns-in-Ok
+returns-in-Ok c =
+    leaves c.link_gaps.ensures _ (rw c.in-Ok.is c.accepted.ensures)
+
+pub returns-in-Err : goal.returns-in-Err
+returns-in-Err c =
+    leaves c.link_gaps.ensures _ (rw c.in-Err.is (ap (λ (k : ℕ). (k, c.args.written.now)) c.number.ensures))

@@ -1,10 +1,17 @@
 -- `vz_repair`: what the call answers, as a number and the rows in `written`.
+use Rattle.std.proofs.Common.{ℕ, ap, arith}
 use Rattle.vorzhyket.proofs.CountsFit.{repair_counted}
-use Rattle.vorzhyket.proofs.Left.{leaves}
+use Rattle.vorzhyket.proofs.Left.{leaves_given}
 use Rattle.vorzhyket.proofs.calls.vz_repair.Goals as goal
 
-pub repaired-requires : goal.repaired-requires
-repaired-requires c = repair_counted _ _ c.repair-a.ensures
+pub accepted-requires : goal.accepted-requires
+accepted-requires c = (omega arith, (omega arith, rw c.in-Ok.is at (repair_counted _ _ c.repair.ensures.outcome)))
 
-pub returns : goal.returns
-returns c = leaves c.repair-a.ensures _ c.repaired.ensures
+pub returns-in-Ok : goal.returns-in-Ok
+returns-in-Ok c =
+    leaves_given c.repair.ensures.outcome c.args.written.now (rw c.in-Ok.is c.accepted.ensures) (search arith)
+
+pub returns-in-Err : goal.returns-in-Err
+returns-in-Err c =
+    leaves_given c.repair.ensures.outcome c.args.written.now
+    (rw c.in-Err.is (ap (λ (k : ℕ). (k, c.args.written.now)) c.number.ensures)) (search arith)

@@ -1,10 +1,17 @@
 -- `vz_reverse`: what the call answers, as a number and the rows in `written`.
+use Rattle.std.proofs.Common.{ℕ, ap, arith}
 use Rattle.vorzhyket.proofs.CountsFit.{reversal_counted}
-use Rattle.vorzhyket.proofs.Left.{leaves}
+use Rattle.vorzhyket.proofs.Left.{leaves_given}
 use Rattle.vorzhyket.proofs.calls.vz_reverse.Goals as goal
 
-pub reversed-requires : goal.reversed-requires
-reversed-requires c = reversal_counted _ _ _ c.reverse-a.ensures
+pub accepted-requires : goal.accepted-requires
+accepted-requires c = (omega arith, (omega arith, rw c.in-Ok.is at (reversal_counted _ _ _ c.reverse.ensures.outcome)))
 
-pub returns : goal.returns
-returns c = leaves c.reverse-a.ensures _ c.reversed.ensures
+pub returns-in-Ok : goal.returns-in-Ok
+returns-in-Ok c =
+    leaves_given c.reverse.ensures.outcome c.args.written.now (rw c.in-Ok.is c.accepted.ensures) (search arith)
+
+pub returns-in-Err : goal.returns-in-Err
+returns-in-Err c =
+    leaves_given c.reverse.ensures.outcome c.args.written.now
+    (rw c.in-Err.is (ap (λ (k : ℕ). (k, c.args.written.now)) c.number.ensures)) (search arith)

@@ -2,8 +2,8 @@
 use Rattle.vorzhyket.proofs.Left.{root_as}
 use Rattle.vorzhyket.proofs.measures.vz_root.Goals as goal
 
-pub returns-in-Value : goal.returns-in-Value
-returns-in-Value c = root_as _ c.root-r.ensures c.in-Value.is
+pub returns-in-Ok : goal.returns-in-Ok
+returns-in-Ok c = root_as _ c.root-r.ensures c.in-Ok.is
 
-pub returns-in-BelowZero : goal.returns-in-BelowZero
-returns-in-BelowZero c = root_as _ c.root-r.ensures c.in-BelowZero.is
+pub returns-in-Err : goal.returns-in-Err
+returns-in-Err c = root_as _ c.root-r.ensures c.in-Err.is

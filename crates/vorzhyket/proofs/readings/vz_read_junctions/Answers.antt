@@ -1,10 +1,18 @@
 -- `vz_read_junctions`: what the call answers, as a number and the rows in `written`.
+use Rattle.std.proofs.Common.{ℕ, ap, arith}
 use Rattle.vorzhyket.proofs.ReadingFits.{junctions_counted}
-use Rattle.vorzhyket.proofs.Left.{leaves}
+use Rattle.vorzhyket.proofs.Left.{leaves_given}
 use Rattle.vorzhyket.proofs.readings.vz_read_junctions.Goals as goal
 
-pub junctions_read-requires : goal.junctions_read-requires
-junctions_read-requires c = junctions_counted _ _ c.read_junctions-a.ensures
+pub accepted-requires : goal.accepted-requires
+accepted-requires c =
+    (omega arith, (omega arith, rw c.in-Ok.is at (junctions_counted _ _ c.read_junctions.ensures.outcome)))
 
-pub returns : goal.returns
-returns c = leaves c.read_junctions-a.ensures _ c.junctions_read.ensures
+pub returns-in-Ok : goal.returns-in-Ok
+returns-in-Ok c =
+    leaves_given c.read_junctions.ensures.outcome c.args.written.now (rw c.in-Ok.is c.accepted.ensures) (search arith)
+
+pub returns-in-Err : goal.returns-in-Err
+returns-in-Err c =
+    leaves_given c.read_junctions.ensures.outcome c.args.written.now
+    (rw c.in-Err.is (ap (λ (k : ℕ). (k, c.args.written.now)) c.number.ensures)) (search arith)

@@ -1,4 +1,0 @@
-use Rattle.reading.proofs.numbers.is_digit.Goals as goal
-
-pub returns : goal.returns
-returns c = c.both.ensures

@@ -1,6 +1,0 @@
--- Each call's answer is one part of the row's test, and `both` joins them.
-use Rattle.rules.proofs.Locals.{connection_words_lem}
-use Rattle.rules.proofs.worded.connection_worded.Goals as goal
-
-pub returns : goal.returns
-returns c = cc (connection_words_lem c.args.text.now c.args.ws.now c.args.at)
