@@ -10,7 +10,7 @@ use lib.Seq.{get_or-drop, get_or-set_same, get_or-set_other}
 use lib.Dec.{eqb}
 use borrow.Author.Tests.{eqb-true, eqb-false}
 use Rattle.model.specs.Lists.{pick, is_some, first, some?, bind_o}
-use Rattle.model.specs.Records.{JunctionKind, Span, Target, common, direct, virtual}
+use Rattle.model.specs.Records.{JunctionKind, Road, Span, Target, common, direct, virtual}
 use Rattle.model.specs.Repair.{drop_along, in_virtual, is_virtual, linked, without_along}
 use Rattle.model.specs.Rows.{part, word}
 use Rattle.model.specs.Tables.{bit, is_absent, map_tables, name_in, road_in, span_in, target_in, target_of}
@@ -151,6 +151,21 @@ module _ (text roads junctions ends : List ℕ) (n : ℕ) (m : Marked text roads
       cond (x && eqb (get_or roads (r * 20 + pick b 10 17) 0) 1) none (target_in (from 20 roads r) (pick b 4 11)))
       v
 
+  -- the road of this row, with those targets at its ends
+  abbrev with_ends : List ℕ → Option Target → Option Target → Road
+  with_ends ss before after = record {
+    name = span_in (from 20 roads r) 0;
+    junction = name_in (from 20 roads r) 2;
+    predecessor = before;
+    successor = after;
+    sections = part (word (from 20 roads r) 18) (word (from 20 roads r) 19) ss;
+  }
+
+  -- its along links dropped
+  abbrev dropped : List ℕ → Road
+  dropped ss =
+      with_ends ss (drop_along (target_in (from 20 roads r) 4)) (drop_along (target_in (from 20 roads r) 11))
+
   road_start : (ss ps cs : List ℕ)
       → road_now ss roads junctions ends r
       ≡ without_along (same_in text) (tab (length junctions / 5) (junction_at ps cs junctions))
@@ -158,44 +173,21 @@ module _ (text roads junctions ends : List ℕ) (n : ℕ) (m : Marked text roads
   unfolding road_now without_along road_in
   road_start ss ps cs = go (virtual_row text roads junctions r) refl
     where
-      go : (v : Bool) → virtual_row text roads junctions r ≡ v
+      -- as the model has it: dropped where it is in a virtual junction
+      meant : (b : Bool) → virtual_row text roads junctions r ≡ b
+          → cond b (dropped ss) (road_in ss (from 20 roads r))
+          ≡ without_along (same_in text) (tab (length junctions / 5) (junction_at ps cs junctions))
+          (road_in ss (from 20 roads r))
+      meant b v =
+          sym (ap (λ x. cond x (dropped ss) (road_in ss (from 20 roads r)))
+          (in_virtual_is text roads junctions ss ps cs r ∙ v))
+
+      go : (b : Bool) → virtual_row text roads junctions r ≡ b
           → road_now ss roads junctions ends r
           ≡ without_along (same_in text) (tab (length junctions / 5) (junction_at ps cs junctions))
           (road_in ss (from 20 roads r))
-      go true v =
-          (λ i.
-          record {
-            name = span_in (from 20 roads r) 0;
-            junction = name_in (from 20 roads r) 2;
-            predecessor = end_dropped false v i;
-            successor = end_dropped true v i;
-            sections = part (word (from 20 roads r) 18) (word (from 20 roads r) 19) ss;
-          })
-          ∙ sym (ap (λ b.
-          cond b (record {
-            name = span_in (from 20 roads r) 0;
-            junction = name_in (from 20 roads r) 2;
-            predecessor = drop_along (target_in (from 20 roads r) 4);
-            successor = drop_along (target_in (from 20 roads r) 11);
-            sections = part (word (from 20 roads r) 18) (word (from 20 roads r) 19) ss;
-          }) (road_in ss (from 20 roads r))) (in_virtual_is text roads junctions ss ps cs r ∙ v))
-      go false v =
-          (λ i.
-          record {
-            name = span_in (from 20 roads r) 0;
-            junction = name_in (from 20 roads r) 2;
-            predecessor = end_kept false v i;
-            successor = end_kept true v i;
-            sections = part (word (from 20 roads r) 18) (word (from 20 roads r) 19) ss;
-          })
-          ∙ sym (ap (λ b.
-          cond b (record {
-            name = span_in (from 20 roads r) 0;
-            junction = name_in (from 20 roads r) 2;
-            predecessor = drop_along (target_in (from 20 roads r) 4);
-            successor = drop_along (target_in (from 20 roads r) 11);
-            sections = part (word (from 20 roads r) 18) (word (from 20 roads r) 19) ss;
-          }) (road_in ss (from 20 roads r))) (in_virtual_is text roads junctions ss ps cs r ∙ v))
+      go true v = (λ i. with_ends ss (end_dropped false v i) (end_dropped true v i)) ∙ meant true v
+      go false v = (λ i. with_ends ss (end_kept false v i) (end_kept true v i)) ∙ meant false v
 
 pub roads_start : (text roads junctions ends : List ℕ) → Marked text roads junctions (length roads / 20) ends
     → (ss ps cs : List ℕ) → roads_now ss roads junctions ends ≡ roads_begun (map_tables text roads ss junctions cs ps)
