@@ -1,13 +1,16 @@
 // Recorded calls on a map, run again. Beside the answer a record has what else the call takes, then the outputs.
 use crate::compare::{Outputs, Record};
 use crate::convert::floats;
-use crate::stream::Lists;
+use crate::stream::{Lists, front};
 use gaps::call::link_gaps;
 use repair::call::{RepairOutputs, repair};
 use reversal::call::{ReversalOutputs, reverse};
 use std::alloc::AllocError;
 use succession::call::{ListOutputs, succession};
 use words::map::MapTables;
+
+// How many floats of the edges are lent at most.
+const MOST: usize = 256;
 
 // The tables of a map: eight lists. Of its edges the bits.
 #[derive(Clone, Copy)]
@@ -31,15 +34,15 @@ impl<'a> Map<'a> {
                 pairs: lists.list(),
             },
             lanes: lists.list(),
-            edges: lists.list(),
+            edges: front(lists.list(), MOST),
         }
     }
 
     // Repair again. Does it come out as recorded?
     #[inline(never)]
     pub fn repair(&self, mut record: Record) -> Result<bool, AllocError> {
-        let Outputs(mut roads, mut junctions, mut connections, mut pairs, mut warnings) =
-            record.outputs()?;
+        let Outputs(mut roads, mut junctions, mut connections, mut pairs) = record.outputs()?;
+        let mut warnings = record.output()?;
         let mut out = RepairOutputs {
             roads: roads.entries.as_mut_slice(),
             junctions: junctions.entries.as_mut_slice(),
@@ -54,17 +57,16 @@ impl<'a> Map<'a> {
             n.pairs,
             n.warnings,
         ]);
-        Ok(record.tells(
-            answer,
-            Outputs(roads, junctions, connections, pairs, warnings),
-        ))
+        Ok(
+            record.tells(answer, Outputs(roads, junctions, connections, pairs))
+                && warnings.is_recorded(),
+        )
     }
 
     // The same of succession.
     #[inline(never)]
     pub fn succession(&self, mut record: Record) -> Result<bool, AllocError> {
-        let Outputs(mut onward, mut onward_ids, mut before, mut before_ids, others) =
-            record.outputs()?;
+        let Outputs(mut onward, mut onward_ids, mut before, mut before_ids) = record.outputs()?;
         let mut out = ListOutputs {
             successor_offsets: onward.entries.as_mut_slice(),
             successor_ids: onward_ids.entries.as_mut_slice(),
@@ -79,10 +81,7 @@ impl<'a> Map<'a> {
                 n.predecessor_ids,
             ]
         });
-        Ok(record.tells(
-            answer,
-            Outputs(onward, onward_ids, before, before_ids, others),
-        ))
+        Ok(record.tells(answer, Outputs(onward, onward_ids, before, before_ids)))
     }
 
     // The same of the gap check, which takes offsets and identities too.
@@ -108,8 +107,8 @@ impl<'a> Map<'a> {
     pub fn reverse(&self, mut record: Record) -> Result<bool, AllocError> {
         let marks = record.list();
         let lent = floats(record.alloc, self.edges)?;
-        let Outputs(mut roads, mut sections, mut connections, mut pairs, mut lanes) =
-            record.outputs()?;
+        let Outputs(mut roads, mut sections, mut connections, mut pairs) = record.outputs()?;
+        let mut lanes = record.output()?;
         let mut edges = record.output()?;
         let mut out = ReversalOutputs {
             roads: roads.entries.as_mut_slice(),
@@ -130,7 +129,8 @@ impl<'a> Map<'a> {
             ]
         });
         Ok(
-            record.tells(answer, Outputs(roads, sections, connections, pairs, lanes))
+            record.tells(answer, Outputs(roads, sections, connections, pairs))
+                && lanes.is_recorded()
                 && edges.is_recorded(),
         )
     }

@@ -1,7 +1,7 @@
 // Recorded readings of attributes, and length checks, run again. Beside the answer a record has the outputs.
 use crate::compare::{Outputs, Record};
 use crate::convert::{lengths, thousandths};
-use crate::stream::Lists;
+use crate::stream::{Lists, front, word_at};
 use reading::junctions::{JunctionOutputs, read_junctions};
 use reading::lanes::read_lanes;
 use reading::length::{Uneven, check_length};
@@ -55,8 +55,7 @@ impl<'a> Raw<'a> {
 
     // The same of junctions.
     pub fn junctions(&self, mut record: Record) -> Result<bool, AllocError> {
-        let Outputs(mut junctions, mut connections, mut pairs, mut warnings, others) =
-            record.outputs()?;
+        let Outputs(mut junctions, mut connections, mut pairs, mut warnings) = record.outputs()?;
         let mut out = JunctionOutputs {
             junctions: junctions.entries.as_mut_slice(),
             connections: connections.entries.as_mut_slice(),
@@ -69,35 +68,29 @@ impl<'a> Raw<'a> {
             n.pairs,
             n.warnings,
         ]);
-        Ok(record.tells(
-            answer,
-            Outputs(junctions, connections, pairs, warnings, others),
-        ))
+        Ok(record.tells(answer, Outputs(junctions, connections, pairs, warnings)))
     }
 }
 
 // Are these the two halves of a float's bits, the high one first?
 fn has_bits(x: f64, halves: &[u32]) -> bool {
-    match halves {
-        [high, low] if !x.is_nan() => { x.to_bits() == (u64::from(*high) << 32 | u64::from(*low)) }
-        _ => false,
-    }
+    let (high, low) = (word_at(halves, 0), word_at(halves, 1));
+    !x.is_nan() && x.to_bits() == (u64::from(high) << 32 | u64::from(low))
 }
+
+// How many starts and how many lengths are lent at most.
+const MOST: usize = 3;
 
 // A length check takes starts, lengths, and the road's length, all in thousandths. 16 is the refusal; a 1 after the
 // refusal says that the length is off, and the last list then has the sum's bits.
 pub fn length_again(mut record: Record) -> Result<bool, AllocError> {
-    let starts = record.list();
-    let road = record.list();
-    let Some(length) = record.list().first() else {
-        return Ok(false);
-    };
-    let starts = lengths(record.alloc, starts)?;
-    let road = lengths(record.alloc, road)?;
-    let checked = check_length(starts.as_slice(), road.as_slice(), thousandths(*length));
+    let starts = lengths(record.alloc, front(record.list(), MOST))?;
+    let road = lengths(record.alloc, front(record.list(), MOST))?;
+    let length = thousandths(word_at(record.list(), 0));
+    let checked = check_length(starts.as_slice(), road.as_slice(), length);
     Ok(match checked {
-        Ok(None) => record.answer == [0, 0].as_slice(),
-        Ok(Some(sum)) => record.answer == [0, 1].as_slice() && has_bits(sum, record.list()),
-        Err(Uneven) => record.answer == [16, 0].as_slice(),
+        Ok(None) => record.has(0, &[]),
+        Ok(Some(sum)) => record.has(0, &[1]) && has_bits(sum, record.list()),
+        Err(Uneven) => record.has(16, &[]),
     })
 }

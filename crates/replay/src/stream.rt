@@ -1,20 +1,41 @@
-// The recorded answers: a stream of words in decimal, with white space between. A list is its length and then its
-// words. A step is its kind and a list, which holds the step's own lists.
+// The recorded answers: a stream of words in decimal, one byte after each. A list is its length and then its words. A
+// step is its kind and a list, which holds the step's own lists.
 ghost use Rattle.std.specs.Prelude.{◌<◌, ◌≤◌, length, IfSome};
 ghost use Rattle.std.specs.Iterator.{at_most};
 
 use crate::outcome::{Kind, UnknownKind};
-use std::alloc::Global;
-use std::io;
+use std::alloc::{AllocError, Global};
 
-// The words of a text.
-pub fn words(alloc: Global, text: &str) -> io::Result<Vec<u32>> {
-    text.split_whitespace()
-        .map(|word| -> io::Result<u32> {
-            word.parse::<u32>()
-                .map_err(|_| io::Error::from(io::ErrorKind::InvalidData))
-        })
-        .try_collect(alloc)
+// How many words are read at most.
+const MOST: usize = 262144;
+
+// The words of a text. A byte below '0' ends one, and any other is a digit of it, which is taken modulo 2 ^ 32.
+pub fn words(alloc: Global, text: &[u8]) -> Result<Vec<u32>, AllocError> {
+    let mut words = Vec::new(alloc);
+    let mut word = 0u32;
+    for b in text {
+        if words.len() == MOST {
+            break;
+        }
+        match b.checked_sub(b'0') {
+            Some(digit) => word = word.wrapping_mul(10).wrapping_add(u32::from(digit)),
+            None => {
+                words.push(word)?;
+                word = 0;
+            }
+        }
+    }
+    Ok(words)
+}
+
+// The word at a place, and 0 past the end.
+pub fn word_at(words: &[u32], at: usize) -> u32 {
+    words.get(at).copied().unwrap_or(0)
+}
+
+// The first n words of a list, or all where it has fewer.
+pub fn front(list: &[u32], n: usize) -> &[u32] {
+    &list[..list.len().min(n)]
 }
 
 // The list that the words begin with, and the words after it.

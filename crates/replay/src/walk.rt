@@ -4,8 +4,8 @@ use crate::compare::Record;
 use crate::convert::bytes;
 use crate::outcome::{Call, Kind, Outcome, UnknownKind};
 use crate::readings::{Raw, length_again};
-use crate::stream::{Lists, Step, Steps};
-use std::alloc::AllocError;
+use crate::stream::{Lists, Step, Steps, front};
+use std::alloc::{AllocError, Global};
 use std::io;
 
 // Runs a call again, over a text and the tables after it.
@@ -31,6 +31,9 @@ fn print_other(rt: &impl Print, step: Step) -> io::Result<()> {
     println!(rt; "not as recorded: the step at word {}", step.at)
 }
 
+// How many bytes of a text are lent at most.
+const MOST: usize = 512;
+
 // What the steps so far came to, and over what calls are run after them.
 #[derive(Drop)]
 struct Replay<'a> {
@@ -40,12 +43,18 @@ struct Replay<'a> {
 }
 
 impl<'a> Replay<'a> {
+    // The text and the tables for the calls that follow.
+    fn set_tables(&mut self, alloc: Global, lists: Lists<'a>) -> Result<(), AllocError> {
+        self.tables = lists;
+        self.text = bytes(alloc, front(self.tables.list(), MOST))?;
+        Ok(())
+    }
+
     // Takes the text and the tables of a step, or runs its call again and says where it is not as recorded.
     fn take<R: Print + AllocGlobal>(&mut self, rt: &R, step: Step<'a>) -> io::Result<()> {
         match step.kind {
             Ok(Kind::Tables) => {
-                self.tables = step.lists;
-                self.text = bytes(rt.alloc(), self.tables.list())?;
+                self.set_tables(rt.alloc(), step.lists)?;
                 Ok(())
             }
             Ok(Kind::Call(call)) => {
@@ -62,13 +71,16 @@ impl<'a> Replay<'a> {
     }
 }
 
-// Runs each call again over the tables of the last step that has some.
+// Runs each call again over the tables of the last step that has some, or before one those of the list that the stream
+// begins with.
 pub fn walk<R: Print + AllocGlobal>(rt: &R, words: &[u32]) -> io::Result<Vec<(Call, Outcome)>> {
     let mut replay = Replay {
         outcomes: Vec::new(rt.alloc()),
         text: Vec::new(rt.alloc()),
         tables: Lists(&[]),
     };
+    let mut all = Lists(words);
+    replay.set_tables(rt.alloc(), Lists(all.list()))?;
     for step in Steps::over(words) {
         replay.take(rt, step)?;
     }
