@@ -37,23 +37,23 @@ module _ (lanes : List ℕ) (edges : List Float) where
 
   -- ---- a lane's links
   module _ (ids : List ℕ) (i a : ℕ) where
-    lane_none : [] ≡ lane_rows lanes edges ids i a 0
+    pub lane_none : [] ≡ lane_rows lanes edges ids i a 0
     unfolding lane_rows
     lane_none = sym (joined_none (λ k. link_row lanes edges i (get_or ids (a + k) 0)))
 
-    lane_most : (n : ℕ) → length (lane_rows lanes edges ids i a n) ≤ gap_width * n
+    pub lane_most : (n : ℕ) → length (lane_rows lanes edges ids i a n) ≤ gap_width * n
     unfolding lane_rows
     lane_most n =
         joined_most gap_width n (λ k. link_row lanes edges i (get_or ids (a + k) 0))
         (λ k. link_most i (get_or ids (a + k) 0))
 
-    lane_le : (n m : ℕ) → n ≤ m
+    pub lane_le : (n m : ℕ) → n ≤ m
         → length (lane_rows lanes edges ids i a n) ≤ length (lane_rows lanes edges ids i a m)
     unfolding lane_rows
     lane_le n m h = joined_le n m (λ k. link_row lanes edges i (get_or ids (a + k) 0)) h
 
     -- the row that a turn puts
-    lane_more : (k : ℕ) {id : ℕ} → id ≡ get_or ids (a + k) 0
+    pub lane_more : (k : ℕ) {id : ℕ} → id ≡ get_or ids (a + k) 0
         → lane_rows lanes edges ids i a (k + 1) ≡ lane_rows lanes edges ids i a k ++ link_row lanes edges i id
     unfolding lane_rows
     lane_more k e =
@@ -63,16 +63,16 @@ module _ (lanes : List ℕ) (edges : List Float) where
 
   -- ---- all lanes' links
   module _ (offsets ids : List ℕ) where
-    below_none : [] ≡ rows_below lanes edges offsets ids 0
+    pub below_none : [] ≡ rows_below lanes edges offsets ids 0
     unfolding rows_below
     below_none = sym (joined_none (rows_at lanes edges offsets ids))
 
-    below_le : (n m : ℕ) → n ≤ m
+    pub below_le : (n m : ℕ) → n ≤ m
         → length (rows_below lanes edges offsets ids n) ≤ length (rows_below lanes edges offsets ids m)
     unfolding rows_below
     below_le n m h = joined_le n m (rows_at lanes edges offsets ids) h
 
-    below_more : (i : ℕ)
+    pub below_more : (i : ℕ)
         → rows_below lanes edges offsets ids (i + 1)
         ≡ rows_below lanes edges offsets ids i ++ rows_at lanes edges offsets ids i
     unfolding rows_below
@@ -91,7 +91,7 @@ module _ (lanes : List ℕ) (edges : List Float) where
     at_most i = lane_most ids i (get_or offsets i 0) (get_or offsets (i + 1) 0 - get_or offsets i 0)
 
     module _ (right : lists_right lanes offsets ids ≡ true) where
-      below_most : (i : ℕ) → i ≤ length lanes / 10
+      pub below_most : (i : ℕ) → i ≤ length lanes / 10
           → length (rows_below lanes edges offsets ids i) ≤ gap_width * get_or offsets i 0
       below_most zero h =
           let empty : length (rows_below lanes edges offsets ids 0) ≡ 0 = ap length (sym below_none) in omega arith

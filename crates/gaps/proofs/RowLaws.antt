@@ -43,6 +43,9 @@ link_seen {s} {a} {b} {c} {d} {p} {q} {r} {t} seen from leaves to enters =
     seen ∙ (λ i. seen_of (closest_ends (from i) (leaves i) (to i) (enters i))) in
     (same, subst Numbers (sym same) (ends_numbers b r d t))
 
+pub wide_number : {s : Seen} {w : Float} → s.decision ≡ Wide w → Numbers s → T (not (is_nan w))
+wide_number wide numbers = subst (λ (d : Decision). T (is_number d)) wide numbers.width
+
 -- ---- its row
 -- what is given has the words of one row, or none
 pub gives_some : (r : Option (List ℕ)) (ws : List ℕ) {b : Bool} → b ≡ is_some r → b ≡ true → Gives r ws

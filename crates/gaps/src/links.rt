@@ -6,6 +6,7 @@ ghost use Rattle.gaps.specs.Links.{row_of, lists_right};
 use crate::lists::Packed;
 use geometry::gap::{Decision, Seen, Way};
 use geometry::{edges, gap};
+use tables::lookup;
 use tables::lookup::LaneId;
 use words::by_key::ById;
 use words::kinds::direction;
@@ -152,7 +153,7 @@ impl<'a> Lane<'a> {
         requires { is_borne self.now.links.lanes.lanes.now id.0 }
         ensures { Gives result (link_words self.now.links self.now.row id.0) }
     {
-        self.row_of(self.links.lanes.find(id.0)?)
+        self.row_of(lookup::lane_row(&self.links.lanes, id)?)
     }
 
     // The identities of its successors.

@@ -5,7 +5,7 @@ use mathlib.Core.Logic.{◌⊎◌, inl, inr}
 use Prim.Native.Nat.{ℕ, zero, suc, ◌+◌, ◌*◌}
 use native.Mathlib.Nat.{add_comm, le_of_lt}
 use native.Mathlib.Omega.{arith}
-use mathlib.Core.Bool.{Bool, true, false, not, ◌&&◌, ◌||◌, and-true, and-false, and_comm, true≢false}
+use mathlib.Core.Bool.{Bool, true, false, not, ◌&&◌, ◌||◌, and-true, and-false, and_comm, true≢false, or-true}
 use lib.Dec.{T, ltb, eqb, eqb-zero-suc, eqb-suc-zero}
 use lib.Ieee.{Float, nan, inf, fin, up, down, below, level, lt, le, eq, is_nan}
 use borrow.Author.Tests.{ltb-true, ltb-false, lt-ltb, le-ltb, eq-eqb, ne_eqb}
@@ -110,6 +110,17 @@ eq_comm x y = go (nan_or_not x) (nan_or_not y)
         eq_is x y x-number y-number
         ∙ and_comm (not (lt x y)) (not (lt y x))
         ∙ sym (eq_is y x y-number x-number)
+
+-- what is equal is not below
+pub equal_not_below : (x y : Float) → eq x y ≡ true → lt x y ≡ false
+unfolding le
+equal_not_below x y equal =
+    let numbers = compared_numbers x y (rw (equal, or-true)) in
+    go (lt x y) (lt y x) (sym (eq_is x y numbers.0 numbers.1) ∙ equal)
+  where
+    go : (p q : Bool) → not p && not q ≡ true → p ≡ false
+    go true q neither = absurd (true≢false (sym neither))
+    go false q neither = refl
 
 pub lt_once : (x y : Float) → lt x y ≡ true → lt y x ≡ false
 unfolding lt

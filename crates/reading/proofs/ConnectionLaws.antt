@@ -15,6 +15,7 @@ use Rattle.model.specs.Records.{Connection, JunctionKind, Pair, Span}
 use Rattle.model.specs.Rules.{is_direct}
 use Rattle.model.specs.Tables.{bit, connection_row, name_in}
 use Rattle.reading.specs.Laid.{ConnectionOuts, ConnectionsRead, LinksRead, Output, Run, Warned, drops_at, pairs_at}
+use Rattle.reading.specs.Laid.{raw_tables}
 use Rattle.reading.specs.Read.{both_of}
 use Rattle.reading.proofs.RunLaws.{connections_as, connections_none, links_as, links_join, run_as, run_none}
 
@@ -34,6 +35,13 @@ by_both : (text : List ℕ) (a b o : Option Span) (ps : List Pair)
 by_both text none b o ps = refl
 by_both text (some x) none o ps = refl
 by_both text (some x) (some y) o ps = refl
+
+-- lane links do not matter to whether it is passed over
+pub passed_any : (text junctions connections links : List ℕ) (j c : ℕ)
+    → passed_over (raw_tables text junctions connections []) j c
+    ≡ passed_over (raw_tables text junctions connections links) j c
+unfolding passed_over
+passed_any text junctions connections links j c = refl
 
 module _ (t : RawTables) (j c : ℕ) where
   -- the warnings of a connection that is not passed over, by what it reads as

@@ -1,6 +1,6 @@
 -- A junction read: dropped with a warning for each connection, or kept with those that it keeps.
-use Prim.Native.Nat.{ℕ, ◌+◌}
-use mathlib.Core.Path.{◌≡◌, refl, sym, ap, ◌∙◌}
+use Prim.Native.Nat.{ℕ, ◌+◌, ◌*◌}
+use mathlib.Core.Path.{◌≡◌, refl, sym, ap, ◌∙◌, subst}
 use mathlib.Core.List.{List, [], ◌∷◌, append-nil, map}
 use mathlib.Core.Bool.{cond}
 use mathlib.Core.Option.{Option, none, some}
@@ -9,21 +9,36 @@ use lib.ListN.{length, get_or, length-map}
 use Rattle.model.specs.Lists.{gather, is_some, map_o}
 use Rattle.model.specs.Reading.{RawTables, ReadWarning, connection_dropped, connection_warnings, junction_warnings}
 use Rattle.model.specs.Reading.{connections_at, kept_connections, kind_at, part_rows, raw_junction, read_junction}
-use Rattle.model.specs.Reading.{read_warning_row, to_list}
+use Rattle.model.specs.Reading.{read_warning_row, to_list, kind_read}
 use Rattle.model.specs.Records.{Junction, JunctionKind, Span}
 use Rattle.model.specs.Tables.{junction_row, kind_word, name_in}
 use Rattle.laws.proofs.Basics.{gather_map}
 use Rattle.reading.specs.Laid.{ConnectionOuts, ConnectionsRead, JunctionOuts, JunctionsRead, Output, Run}
+use Rattle.reading.specs.Laid.{output, raw_tables}
 use Rattle.reading.proofs.RowLaws.{part_length, part_more}
 use Rattle.reading.proofs.RunLaws.{connections_as, junctions_as, run_as, run_join, run_none}
+use native.Mathlib.Nat.{add-zero}
+use Rattle.reading.proofs.NameLaws.{name_of}
 
 -- the words of warning 1
 abbrev pub dropped : ℕ → ℕ → List ℕ
 dropped j c = read_warning_row (connection_dropped j c)
 
+pub drop_begin : (j first w : ℕ) (wo : List ℕ)
+    → Run 4 (gather (dropped j) (part_rows first 0)) 0 (output wo w) (output wo (w + 0))
+drop_begin j first w wo =
+    subst (λ (m : ℕ). Run 4 [] 0 (output wo w) (output wo m)) (sym (add-zero w)) (run_none 4 (output wo w))
+
 pub drop_turn : (j first k : ℕ) {x y z : Output} → Run 4 (gather (dropped j) (part_rows first k)) k x y
     → Run 4 (dropped j (first + k)) 1 y z → Run 4 (gather (dropped j) (part_rows first (k + 1))) (k + 1) x z
 drop_turn j first k r s = run_as (run_join r s) (sym (part_more (dropped j) first k)) refl
+
+-- its kind, by the words of the table
+pub kind_word_lem : (text junctions connections links : List ℕ) (j : ℕ) {kind : ℕ}
+    → kind ≡ kind_word (kind_read text (name_in junctions (j * 8 + 2)))
+    → kind ≡ kind_word (kind_at (raw_tables text junctions connections links) j)
+kind_word_lem text junctions connections links j e =
+    e ∙ sym (ap (λ (n : Option Span). kind_word (kind_read text n)) (name_of 8 j junctions 2 (omega arith)))
 
 module _ (t : RawTables) (j : ℕ) {row : List ℕ} (row_is : row ≡ raw_junction t j) {first count : ℕ}
     (first_is : first ≡ get_or row 6 0) (count_is : count ≡ get_or row 7 0) where

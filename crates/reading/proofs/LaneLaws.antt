@@ -1,18 +1,19 @@
--- The reading of lanes: its rows, and what an admission says.
+-- The reading of lanes: its rows, its refusals in their order, and what an admission says.
 use Prim.Native.Nat.{ℕ, ◌*◌, ◌/◌, ◌≤◌}
 use mathlib.Core.Path.{◌≡◌, refl, sym, ap, ◌∙◌}
 use mathlib.Core.List.{List}
-use mathlib.Core.Option.{none}
+use mathlib.Core.Option.{none, some}
 use lib.Dec.{leb}
 use lib.ListN.{length}
 use Rattle.model.specs.Lists.{gather}
 use Rattle.model.specs.Reading.{part_rows, read_lane, row_at}
-use Rattle.model.specs.ReadingCalls.{raw_lane_content, raw_lane_rules, raw_sized}
+use Rattle.model.specs.ReadingCalls.{raw_lane_content, raw_lane_rules, raw_sized, rows_named}
 use Rattle.model.specs.Rules.{first_broken, sized}
 use Rattle.laws.proofs.RulesReversed.{all_pass}
 use Rattle.rules.proofs.Counts.{sized_few}
 use Rattle.words.proofs.Scans.{right_on}
 use Rattle.reading.proofs.RowLaws.{numbered_rows, part_even}
+use mathlib.Core.Bool.{true, false}
 
 -- the row of lane k
 abbrev pub lane_at : (text raw : List ℕ) → ℕ → List ℕ
@@ -33,6 +34,20 @@ lanes_length text raw =
 
 -- ---- refusals
 module _ (text raw : List ℕ) where
+  pub lanes_1 : raw_sized text 4 (length raw) ≡ false → some 1 ≡ first_broken (raw_lane_rules text raw)
+  unfolding raw_lane_rules
+  lanes_1 a = rw a
+
+  pub lanes_2 : raw_sized text 4 (length raw) ≡ true → rows_named text 4 2 raw ≡ false
+      → some 2 ≡ first_broken (raw_lane_rules text raw)
+  unfolding raw_lane_rules
+  lanes_2 a b = rw (a, b)
+
+  pub lanes_0 : raw_sized text 4 (length raw) ≡ true → rows_named text 4 2 raw ≡ true
+      → none ≡ first_broken (raw_lane_rules text raw)
+  unfolding raw_lane_rules
+  lanes_0 a b = rw (a, b)
+
   pub lanes_few : none ≡ first_broken (raw_lane_rules text raw) → length raw / 4 ≤ 16384
   unfolding raw_lane_rules raw_sized
   lanes_few e =

@@ -1,8 +1,8 @@
 -- A lane link read: a pair, or warning 2.
 use Prim.Native.Nat.{ℕ}
-use mathlib.Core.Path.{◌≡◌, ap, ◌∙◌}
+use mathlib.Core.Path.{◌≡◌, ap, ◌∙◌, refl}
 use mathlib.Core.List.{List, [], ◌∷◌}
-use mathlib.Core.Bool.{cond}
+use mathlib.Core.Bool.{cond, false, true≢false}
 use mathlib.Core.Option.{Option, none, some}
 use Rattle.model.specs.Lists.{is_some}
 use Rattle.model.specs.Reading.{lane_link_dropped, number_of, pair_of, read_pair, row_at, to_list}
@@ -10,6 +10,10 @@ use Rattle.model.specs.Records.{Pair}
 use Rattle.model.specs.Tables.{name_in, pair_row}
 use Rattle.reading.specs.Laid.{LinkOuts, LinksRead, Output, Run, drops_at, pairs_at}
 use Rattle.reading.proofs.RunLaws.{links_as, run_none}
+
+pub nothing : {A : Type 0} (o : Option A) → is_some o ≡ false → o ≡ none
+nothing none e = refl
+nothing (some a) e = absurd (true≢false e)
 
 module _ (text links : List ℕ) (l : ℕ) {row : List ℕ} (row_is : row ≡ row_at 4 links l) where
   -- the pair of a raw lane link

@@ -2,7 +2,7 @@
 use Prim.Native.Nat.{ℕ, zero, suc, ◌+◌, ◌*◌, ◌<◌}
 use mathlib.Core.Path.{◌≡◌, refl, sym, ap, ap₂, ◌∙◌}
 use mathlib.Core.List.{List}
-use mathlib.Core.Bool.{Bool, ◌&&◌, and-true, and_assoc}
+use mathlib.Core.Bool.{Bool, ◌&&◌, and-true, and_assoc, cond}
 use native.Mathlib.Omega.{arith}
 use lib.Dec.{eqb}
 use lib.ListN.{get_or, drop}
@@ -12,13 +12,22 @@ use Rattle.model.specs.Reading.{row_at}
 use Rattle.model.specs.ReadingCalls.{name_worded, names_worded}
 use Rattle.model.specs.Records.{Span}
 use Rattle.model.specs.Text.{bytes_of, equal_bytes}
-use Rattle.words.specs.Rows.{all}
+use Rattle.words.specs.Rows.{all, span}
 use Rattle.words.proofs.KeyLaws.{pointwise_is}
 use Rattle.words.proofs.Scans.{all_same}
+use mathlib.Core.Option.{none, some}
+use native.Mathlib.Nat.{add_assoc}
+use Rattle.model.specs.Tables.{is_absent, name_in}
 
 -- a row's words are the table's
 pub word_of : (w k : ℕ) (ws : List ℕ) (j : ℕ) → j < w → get_or (row_at w ws k) j 0 ≡ get_or ws (k * w + j) 0
 word_of w k ws j h = get_or-take w (drop (k * w) ws) j 0 h ∙ get_or-drop (k * w) ws j 0
+
+-- and its names
+pub name_of : (w k : ℕ) (ws : List ℕ) (j : ℕ) → j + 1 < w → name_in (row_at w ws k) j ≡ name_in ws (k * w + j)
+name_of w k ws j h =
+    ap₂ (λ (s n : ℕ). cond (is_absent s n) none (some (span s n))) (word_of w k ws j (omega arith))
+    (word_of w k ws (j + 1) h ∙ ap (λ (m : ℕ). get_or ws m 0) (sym (add_assoc (k * w) j 1)))
 
 -- and a word of the row, as it is read
 pub word_at : (w k : ℕ) (ws : List ℕ) (j : ℕ) {row : List ℕ} {n : ℕ} → j < w → row ≡ row_at w ws k

@@ -14,7 +14,7 @@ use Rattle.model.specs.Reversal.{negated}
 use Rattle.model.specs.Reading.{digits, digits_from, is_digit, lane_number, up_to}
 
 -- ---- digits
-digits_step : (v i : ℕ) (bytes : List ℕ) → i < length bytes
+pub digits_step : (v i : ℕ) (bytes : List ℕ) → i < length bytes
     → digits_from v (drop i bytes)
     ≡ cond (is_digit (get_or bytes i 0)) (digits_from (v * 10 + (get_or bytes i 0 - 48)) (drop (i + 1) bytes)) none
 digits_step v i bytes h =
@@ -24,10 +24,10 @@ digits_step v i bytes h =
     (sym (add-one i))
 
 -- one digit more
-digits_on : (v i : ℕ) (bytes : List ℕ) {v' : ℕ} → i < length bytes → digits bytes ≡ digits_from v (drop i bytes)
-    → is_digit (get_or bytes i 0) ≡ true → v' ≡ v * 10 + (get_or bytes i 0 - 48)
-    → digits bytes ≡ digits_from v' (drop (i + 1) bytes)
-digits_on v i bytes h e d f =
+pub digits_on : (start v i : ℕ) (bytes : List ℕ) {v' : ℕ} → i < length bytes
+    → digits (drop start bytes) ≡ digits_from v (drop i bytes) → is_digit (get_or bytes i 0) ≡ true
+    → v' ≡ v * 10 + (get_or bytes i 0 - 48) → digits (drop start bytes) ≡ digits_from v' (drop (i + 1) bytes)
+digits_on start v i bytes h e d f =
     e
     ∙ digits_step v i bytes h
     ∙ ap (λ (b : Bool). cond b (digits_from (v * 10 + (get_or bytes i 0 - 48)) (drop (i + 1) bytes)) none) d
@@ -52,7 +52,13 @@ pub digits_over : (most v i : ℕ) (bytes : List ℕ) → i < length bytes → d
     → is_digit (get_or bytes i 0) ≡ true → most < v * 10 + (get_or bytes i 0 - 48)
     → none ≡ up_to most (digits bytes)
 digits_over most v i bytes h e digit over =
-    digits_past most (v * 10 + (get_or bytes i 0 - 48)) (i + 1) bytes (digits_on v i bytes h e digit refl) over
+    digits_past most (v * 10 + (get_or bytes i 0 - 48)) (i + 1) bytes (digits_on 0 v i bytes h e digit refl) over
+
+-- "one or more"
+pub digits_begin : (start : ℕ) (bytes : List ℕ) → start < length bytes
+    → digits (drop start bytes) ≡ digits_from 0 (drop start bytes)
+digits_begin start bytes h =
+    ap digits (drop-cons bytes start 0 h) ∙ sym (ap (digits_from 0) (drop-cons bytes start 0 h))
 
 -- ---- the sign
 pub number_none : (bytes : List ℕ) → length bytes ≡ 0 → none ≡ lane_number bytes

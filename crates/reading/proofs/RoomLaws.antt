@@ -11,7 +11,7 @@ use Rattle.words.proofs.Laws.{total_le, total_more}
 use Rattle.words.proofs.Scans.{row_fits}
 use Rattle.rules.specs.Parts.{counts}
 use Rattle.rules.proofs.Fits.{fit_in}
-use Rattle.reading.specs.Laid.{Low, Ready}
+use Rattle.reading.specs.Laid.{Low, Ready, Before}
 use Rattle.reading.proofs.NameLaws.{word_at}
 
 -- connection c, after n connections, p pairs and w warnings
@@ -92,4 +92,12 @@ ground {junctions} {connections} {links} {j} {first} {count} {row} {n} {p} {w} r
       kept = low.connections_low;
       warnings = omega (arith, low.warnings_low, ready.few_connections, ready.few_links);
       next = omega (arith, total_more j (counts 8 7 junctions));
+    }
+
+-- before the first junction
+pub before_all : (junctions connections : List ℕ) → Before junctions connections 0 0 0 0 0
+before_all junctions connections =
+    record {
+      junctions_low = omega arith;
+      low = record { connections_low = omega arith; pairs_low = omega arith; warnings_low = omega arith };
     }

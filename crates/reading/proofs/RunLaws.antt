@@ -10,7 +10,7 @@ use Rattle.model.specs.Lists.{gather}
 use Rattle.model.specs.Reading.{ReadWarning, part_rows, read_warning_row}
 use Rattle.model.specs.Records.{Connection, Junction, Pair}
 use Rattle.model.specs.Rows.{rows_from, written}
-use Rattle.model.specs.Tables.{connection_row, junction_row, pair_row}
+use Rattle.model.specs.Tables.{connection_row, junction_row, pair_row, bit}
 use Rattle.laws.proofs.WordsReversed.{gather_append}
 use Rattle.words.specs.Rows.{spliced}
 use Rattle.words.proofs.Laws.{put_all, spliced_twice}
@@ -72,6 +72,10 @@ rows_join : {A : Type 0} (row : A → List ℕ) (xs ys : List A) {w : ℕ} {x y 
     → Run w (gather row xs) (length xs) x y → Run w (gather row ys) (length ys) y z
     → Run w (gather row (xs ++ ys)) (length (xs ++ ys)) x z
 rows_join row xs ys r s = run_as (run_join r s) (sym (gather_append row xs ys)) (sym (length-append xs ys))
+
+pub bit_most : (b : Bool) → bit b ≤ 1
+bit_most true = omega arith
+bit_most false = omega arith
 
 -- a warning that is given where a test holds
 pub warned_on : {holds : Bool} (v : ReadWarning) {x y : Output} → holds ≡ true → Run 4 (read_warning_row v) 1 x y

@@ -24,11 +24,16 @@ use Rattle.laws.proofs.RulesReversed.{all_pass}
 use Rattle.rules.proofs.Counts.{sized_few}
 use Rattle.rules.proofs.Locals.{short}
 use Rattle.tables.proofs.Called.{all_written, too_short}
-use Rattle.words.proofs.Scans.{left_on, right_on}
+use Rattle.words.proofs.Scans.{left_on, right_on, Local}
 use Rattle.reading.specs.Laid.{Warned, output}
 use Rattle.reading.specs.TargetAnswers.{outputs}
 use Rattle.reading.proofs.RowLaws.{numbered_rows, part_even, part_length}
 use Rattle.reading.proofs.RunLaws.{run_rows, run_wide, run_written}
+
+-- ---- 2
+pub target_local : (text : List ℕ) → Local 9 (raw_target_worded text)
+unfolding raw_target_worded
+target_local text l = simp (short 9 l)
 
 -- ---- rows
 -- the row of target k
@@ -51,7 +56,7 @@ targets_length text raw =
 -- ---- refusals
 module _ (text raw : List ℕ) where
   -- 1: a whole number of roads
-  abbrev sizes : Bool
+  abbrev pub sizes : Bool
   sizes = raw_sized text 9 (length raw) && two_to_a_road (length raw)
 
   pub targets_1 : sizes ≡ false → some 1 ≡ first_broken (target_rules text raw)

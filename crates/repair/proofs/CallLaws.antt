@@ -9,7 +9,7 @@ use native.Mathlib.Omega.{arith}
 use lib.ListN.{length, get_or, take}
 use lib.Seq.{get_or-drop}
 use lib.Dec.{leb}
-use borrow.Author.Tests.{le-leb, lt-leb, not-true}
+use borrow.Author.Tests.{le-leb, lt-leb, not-true, leb-true}
 use Rattle.model.specs.Calls.{RepairOutputs, put_repaired, repair_content, repair_counts, repair_lengths}
 use Rattle.model.specs.Calls.{repair_rules, rules_to5, warning_row}
 use Rattle.model.specs.Lists.{gather}
@@ -142,21 +142,28 @@ junctions_tab pairs connections junctions joined =
     (junction_at pairs connections junctions) (junction_one pairs connections junctions joined)
 
 -- ---- what is written is what repair has to write
-module _ (t : Tables) (ready : Ready t) where
+module _ (t : Tables) (joined : Joined t.junctions t.connections) where
   list : tab (length t.junctions / 5) (row_junction t) ≡ (map_of t).junctions
   unfolding map_of
-  list = sym (junctions_tab t.pairs t.connections t.junctions ready.joined)
+  list = sym (junctions_tab t.pairs t.connections t.junctions joined)
 
+  pub start_is : {rs : List Road} → rs ≡ roads_begun t → rs ≡ start_roads (same t) (map_of t)
+  unfolding start_roads map_of
+  start_is begun = begun ∙ ap (λ (js : List Junction). map (without_along (same t) js) (roads_of t)) list
+
+module _ (t : Tables) (ready : Ready t) where
   module _ {before after : State} (blank : Blank before) (begun : roads_with t before.ends.words ≡ roads_begun t)
       (over : Over t (length t.junctions / 5) before after) where
-    start_is : roads_with t before.ends.words ≡ start_roads (same t) (map_of t)
-    unfolding start_roads map_of
-    start_is = begun ∙ ap (λ (js : List Junction). map (without_along (same t) js) (roads_of t)) list
+    listed : tab (length t.junctions / 5) (row_junction t) ≡ (map_of t).junctions
+    listed = list t ready.joined
+
+    started : roads_with t before.ends.words ≡ start_roads (same t) (map_of t)
+    started = start_is t ready.joined begun
 
     repaired : junctions_over (same t) (tab (length t.junctions / 5) (row_junction t))
         (roads_with t before.ends.words)
         ≡ junctions_over (same t) (map_of t).junctions (start_roads (same t) (map_of t))
-    repaired = ap₂ (junctions_over (same t)) list start_is
+    repaired = ap₂ (junctions_over (same t)) listed started
 
     pub content_is : content_now t after ≡ repair_content t
     unfolding repair_content repair warnings junction_words connection_words pair_words all_connections all_pairs
@@ -167,7 +174,7 @@ module _ (t : Tables) (ready : Ready t) where
         (junctions_over (same t) (tab (length t.junctions / 5) (row_junction t)) (roads_with t before.ends.words)) in
         let roads =
         sym (words_now_lem t.sections t.roads t.junctions after.ends.words ready.fit)
-        ∙ ap road_words (over.roads ∙ ap₂ (roads_over (same t)) list start_is) in
+        ∙ ap road_words (over.roads ∙ ap₂ (roads_over (same t)) listed started) in
         let junctions = over.rows ∙ ap (rows_from junction_row (λ (x : Junction). x.connections) 0) repaired in
         let connections =
         over.laid.words
@@ -184,8 +191,8 @@ module _ (t : Tables) (ready : Ready t) where
         (gather (λ (x : Connection). x.pairs) (gather (λ (x : Junction). x.connections) l))) repaired in
         let warned =
         over.warned
-        ∙ ap₂ (λ (l : List Junction) (rs : List Road). gather (warning_row t) (warn_over (same t) 0 l rs)) list
-        start_is in
+        ∙ ap₂ (λ (l : List Junction) (rs : List Road). gather (warning_row t) (warn_over (same t) 0 l rs)) listed
+        started in
         λ i. outputs (roads i) (junctions i) (connections i) (pairs i) (warned i)
 
 -- ---- what an admission says
@@ -248,3 +255,23 @@ one_over (k ∷ ks) [] i inside over = refl
 one_over (k ∷ ks) (n ∷ ns) zero inside over = and_off_left _ (fits ks ns) (lt-leb k n over)
 one_over (k ∷ ks) (n ∷ ns) (suc i) inside over =
     and_off (leb k n) (fits ks ns) (one_over ks ns i (le_of_suc-le-suc inside) over)
+
+-- five contents that fit do so one by one
+pub fits_five : (a b c d e roads junctions connections pairs warnings : ℕ)
+    → fits (a ∷ b ∷ c ∷ d ∷ e ∷ []) (roads ∷ junctions ∷ connections ∷ pairs ∷ warnings ∷ []) ≡ true
+    → (a ≤ roads) × (b ≤ junctions) × (c ≤ connections) × (d ≤ pairs) × (e ≤ warnings)
+fits_five a b c d e roads junctions connections pairs warnings all =
+    let from-warnings = leb e warnings && true in
+    let from-pairs = leb d pairs && from-warnings in
+    let from-connections = leb c connections && from-pairs in
+    let from-junctions = leb b junctions && from-connections in
+    let rest-1 = right_on (leb a roads) from-junctions all in
+    let rest-2 = right_on (leb b junctions) from-connections rest-1 in
+    let rest-3 = right_on (leb c connections) from-pairs rest-2 in
+    let rest-4 = right_on (leb d pairs) from-warnings rest-3 in (
+      leb-true a roads (left_on (leb a roads) from-junctions all),
+      leb-true b junctions (left_on (leb b junctions) from-connections rest-1),
+      leb-true c connections (left_on (leb c connections) from-pairs rest-2),
+      leb-true d pairs (left_on (leb d pairs) from-warnings rest-3),
+      leb-true e warnings (left_on (leb e warnings) true rest-4),
+    )

@@ -1,6 +1,6 @@
 -- One connection of a common junction: the link that it shows to be missing, and its warning.
 use mathlib.Core.Path.{◌≡◌, refl, sym, ap, ap₂, ◌∙◌}
-use mathlib.Core.Bool.{Bool, false, cond}
+use mathlib.Core.Bool.{Bool, false, cond, true}
 use mathlib.Core.Option.{Option, none, some}
 use mathlib.Core.List.{List, [], ◌∷◌, ◌++◌, append-nil, append_assoc}
 use Prim.Native.Nat.{ℕ, suc, ◌+◌, ◌*◌, ◌/◌, ◌<◌}
@@ -43,6 +43,9 @@ module _ (same : Span → Span → Bool) (rs : List Road) (j : Span) (c : Connec
   shown_by met o = cond met none
       (bind_o (bind_o (bind_o o (target_at c.contact)) (back_end same c.incoming)) (vacant_end R))
 
+  pub met_already : meets same j R ≡ true → none ≡ shown_end same rs j c R
+  met_already met = sym (ap (λ b. shown_by b (road_of same rs c.connecting)) met)
+
   pub no_connecting : meets same j R ≡ false → road_of same rs c.connecting ≡ none → none ≡ shown_end same rs j c R
   no_connecting apart unknown = sym (ap₂ shown_by apart unknown)
 
@@ -58,7 +61,7 @@ module _ (same : Span → Span → Bool) (rs : List Road) (j : Span) (c : Connec
 module _ (t : Tables) (ends : List ℕ)
     (once : any (length t.roads / 20) (name_before t.text 20 0 t.roads) ≡ false) where
   -- a road by its name's row plus 1
-  road_is : (n : Span) (f : ℕ) → f ≡ road_row_of t.text t.roads n
+  pub road_is : (n : Span) (f : ℕ) → f ≡ road_row_of t.text t.roads n
       → road_of (same t) (roads_with t ends) n ≡ found_road (road_with t ends) f
   unfolding roads_now road_row_of
   road_is n f e =

@@ -15,13 +15,24 @@ use Rattle.model.specs.Repair.{back_at, back_of, meeting_end, reversed, road_of,
 use Rattle.model.specs.Text.{same_in}
 use Rattle.laws.proofs.Basics.{bool_ext}
 use Rattle.laws.proofs.ListTests.{and_swap}
-use Rattle.words.specs.Keys.{bears}
+use Rattle.words.specs.Keys.{bears, hash_name, name_hash}
 use Rattle.words.specs.Rows.{any, name_at, name_from}
 use Rattle.words.proofs.Laws.{any_hit, any_same}
 use Rattle.words.proofs.Scans.{and_step, left_on, right_on, some_tab}
 use Rattle.repair.specs.Now.{run, connection_at}
 use Rattle.repair.specs.Laying.{turned_at}
 use Rattle.repair.proofs.TargetWords.{incoming_is, connecting_is}
+use Rattle.words.proofs.KeyLaws.{same_hash}
+
+-- a connection that runs the other way lies in the bucket of the connecting road's name
+pub only_turned : (text connections : List ℕ) (first last c q : ℕ)
+    → turned_at text connections first last c q ≡ true
+    → name_hash text 7 0 connections q ≡ hash_name text (name_at 7 2 connections c)
+unfolding turned_at name_hash
+only_turned text connections first last c q e =
+    same_hash text (name_at 7 0 connections q) (name_at 7 2 connections c)
+    (right_on (leb first q && ltb q last) _
+    (left_on _ (same_in text (name_at 7 2 connections q) (name_at 7 0 connections c)) e))
 
 -- the connections that run the other way of c, by its names
 pub by_names : (text cs : List ℕ) (first last c : ℕ) {incoming connecting : Span} → incoming ≡ name_from cs (c * 7)

@@ -53,7 +53,7 @@ pub fn without_along(map: &MapTables, chain: &mut Chain, ends: &mut Ends)
     requires empty { Empty chain.old.heads chain.old.next }
     ensures { roads_with (map_read map.now) ends.new.words ≡ roads_begun (map_read map.now) }
 {
-    by_key::link_names::<5>(chain, map.text, map.junctions);
+    by_key::link_names::<5, 0>(chain, map.text, map.junctions);
     let junctions = ByName::<5>::over(map.text, map.junctions, chain);
     mark_roads(map.roads, &junctions, ends);
 }

@@ -104,7 +104,7 @@ fn mend(map: &MapTables, roads: ByName<20>, out: &mut RepairOutputs) -> Result<R
     };
     without_along(map, &mut chain, &mut state.ends);
     chain.clear();
-    by_key::link_names::<7>(&mut chain, map.text, map.connections);
+    by_key::link_names::<7, 0>(&mut chain, map.text, map.connections);
     let connections = ByName::<7>::over(map.text, map.connections, &chain);
     let reads = Reads::over(map, roads, connections);
     state.junctions(&reads);

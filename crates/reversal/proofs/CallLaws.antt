@@ -1,12 +1,12 @@
 -- The call's outcome, and what its admission says.
-use Prim.Native.Nat.{ℕ, ◌*◌, ◌/◌, ◌%◌, ◌<◌, ◌≤◌}
-use mathlib.Core.Bool.{Bool, true, false, ◌&&◌}
+use Prim.Native.Nat.{ℕ, ◌*◌, ◌/◌, ◌%◌, ◌<◌, ◌≤◌, zero, suc}
+use mathlib.Core.Bool.{Bool, true, false, ◌&&◌, false≢true}
 use mathlib.Core.List.{List, [], ◌∷◌, map}
 use mathlib.Core.Option.{none}
 use mathlib.Core.Path.{◌≡◌, refl, sym, ap, ◌∙◌, subst, fun_ext}
 use lib.Dec.{leb}
 use lib.ListN.{length, get_or}
-use borrow.Author.Tests.{eqb-true, not-true}
+use borrow.Author.Tests.{eqb-true, not-true, leb-true}
 use Rattle.model.specs.Calls.{ReversalOutputs, mark_rules, marked_by, reversal_content, reversal_counts}
 use Rattle.model.specs.Calls.{reversal_lengths, reversal_rules, table_rules}
 use Rattle.model.specs.Lists.{ascends, every, gather}
@@ -33,12 +33,13 @@ use Rattle.rules.proofs.Counts.{few, sized_few}
 use Rattle.rules.proofs.Forms.{lanes_listed_lem, roads_once_lem, sections_ascend_lem}
 use Rattle.tables.proofs.Order.{marks_count}
 use Rattle.reversal.specs.Answers.{long_enough, outputs}
-use Rattle.reversal.specs.Turned.{Kept, mark_of, reversed_tables}
+use Rattle.reversal.specs.Turned.{Kept, mark_of, reversed_tables, Room}
 use Rattle.reversal.proofs.EdgeWords.{edges_are}
 use Rattle.reversal.proofs.LaneWords.{kept_at, lane_mark, lanes_are}
 use Rattle.reversal.proofs.LinkWords.{all_turned, connections_are, pairs_are}
 use Rattle.reversal.proofs.MarkLaws.{mark_is}
 use Rattle.reversal.proofs.RoadWords.{roads_are, sections_are}
+use native.Mathlib.Omega.{arith}
 
 -- ---- the lengths of what is written
 -- the counts by the lengths
@@ -189,3 +190,20 @@ enough_is t o =
     tried (leb (length t.roads) (length o.roads)) (leb (length t.sections) (length o.sections))
     (leb (length t.connections) (length o.connections)) (leb (length t.pairs) (length o.pairs))
     (leb (length t.lanes) (length o.lanes)) (leb (length t.edges) (length o.edges))
+
+-- content that fits does so output by output
+fits_at : (i : ℕ) (contents outs : List ℕ) → fits contents outs ≡ true → get_or contents i 0 ≤ get_or outs i 0
+fits_at zero [] outs fit = omega arith
+fits_at (suc i) [] outs fit = omega arith
+fits_at zero (k ∷ ks) [] fit = absurd (false≢true fit)
+fits_at (suc i) (k ∷ ks) [] fit = absurd (false≢true fit)
+fits_at zero (k ∷ ks) (n ∷ ns) fit = leb-true k n (left_on (leb k n) (fits ks ns) fit)
+fits_at (suc i) (k ∷ ks) (n ∷ ns) fit = fits_at i ks ns (right_on (leb k n) (fits ks ns) fit)
+
+pub room : (tables outs : ReversalOutputs) → fits (reversal_lengths tables) (reversal_lengths outs) ≡ true
+    → Room tables outs
+unfolding reversal_lengths
+room tables outs fit =
+    let each : (i : ℕ) → get_or (reversal_lengths tables) i 0 ≤ get_or (reversal_lengths outs) i 0 =
+    λ i. fits_at i (reversal_lengths tables) (reversal_lengths outs) fit in
+    record { roads = each 0; sections = each 1; connections = each 2; pairs = each 3; lanes = each 4; edges = each 5 }

@@ -27,10 +27,26 @@ use Rattle.reversal.specs.Turned.{reversed_connection, reversed_lane, reversed_o
 use Rattle.reversal.specs.Turned.{sign_at, target_marked, turned_edges, turned_pair}
 use Rattle.reversal.specs.declared.lanes.Lane.{Lane}
 
+-- either, by a mark
+module _ {A : Type 0} where
+  pub if_on : (b : Bool) (x y : A) {r : A} → b ≡ true → r ≡ x → r ≡ cond b x y
+  if_on b x y e f = rw e f
+
+  pub if_off : (b : Bool) (x y : A) {r : A} → b ≡ false → r ≡ y → r ≡ cond b x y
+  if_off b x y e f = rw e f
+
 -- ---- the first and the last of a part
+pub head_none : (l : List ℕ) → length l ≡ 0 → 0 ≡ head_or 0 l
+head_none [] e = refl
+head_none (x ∷ xs) e = absurd (let z : suc (length xs) ≡ 0 = e in omega arith)
+
 pub first_is : (l : List ℕ) → get_or l 0 0 ≡ head_or 0 l
 first_is [] = refl
 first_is (x ∷ xs) = refl
+
+pub last_none : (l : List ℕ) → length l ≡ 0 → 0 ≡ last_or 0 l
+last_none [] e = refl
+last_none (x ∷ xs) e = absurd (let z : suc (length xs) ≡ 0 = e in omega arith)
 
 last_at : (d x : ℕ) (xs : List ℕ) → get_or (x ∷ xs) (length xs) d ≡ last_or x xs
 last_at d x [] = refl

@@ -7,7 +7,7 @@ use native.Mathlib.Omega.{arith}
 use lib.Dec.{eqb}
 use lib.ListN.{length, get_or, take, drop, length-drop}
 use lib.Seq.{length-take-le}
-use Rattle.model.specs.Lists.{gather, map_o}
+use Rattle.model.specs.Lists.{gather, map_o, every}
 use Rattle.model.specs.Records.{Road, Span, target_at}
 use Rattle.model.specs.Reversal.{mirrored, reverse_road, reverse_target}
 use Rattle.model.specs.Rows.{part, parts_fit, rows_from, table, word}
@@ -17,7 +17,7 @@ use Rattle.laws.proofs.Basics.{gather_map}
 use Rattle.laws.proofs.Lay.{fit_first, fit_le, fit_rest}
 use Rattle.words.specs.Keys.{name_before}
 use Rattle.words.specs.Rows.{any, from, joined, tab}
-use Rattle.words.proofs.Scans.{table_tab}
+use Rattle.words.proofs.Scans.{table_tab, all_at, every_rows}
 use Rattle.rules.proofs.Fits.{part_in}
 use Rattle.rules.proofs.Forms.{numbers_at_lem, road_in_local, roads_tab}
 use Rattle.reversal.specs.Turned.{mark_of, road_turned, row, reversed_road, turned_sections}
@@ -25,6 +25,8 @@ use Rattle.words.proofs.Joins.{gather_tab, joined_same}
 use Rattle.reversal.proofs.MarkLaws.{mark_is, mark_own}
 use Rattle.reversal.proofs.Places.{mirrored_length, row_word}
 use Rattle.laws.proofs.Decoded.{name_forth}
+use Rattle.model.specs.Rules.{road_worded}
+use Rattle.rules.proofs.Locals.{road_local}
 
 -- ---- rows that keep the places of their parts
 pub rows_by : {X A : Type 0} (kf kc : ℕ) (row : ℕ → X → List ℕ) (f : X → List A) (h : List ℕ → X) (n : ℕ)
@@ -65,6 +67,13 @@ road_row_lem mk ss r count m marked = ap laid marked ∙ go m
         ++ (word r 18 ∷ (mirrored_length sections ∙ count) i ∷ [])
     go false =
         λ i. (word r 0 ∷ word r 1 ∷ []) ++ name i ++ target false ++ target true ++ (word r 18 ∷ count i ∷ [])
+
+-- the words of a road among those that all keep the rule of words
+pub worded_at : (text roads : List ℕ) → every (road_worded text) (table 20 roads) ≡ true
+    → (i : ℕ) → i < length roads / 20 → road_worded text (from 20 roads i) ≡ true
+worded_at text roads worded i h =
+    all_at (length roads / 20) i (λ i. road_worded text (from 20 roads i))
+    (sym (every_rows 20 roads (road_worded text) (road_local text)) ∙ worded) h
 
 -- ---- the tables
 module _ (text roads sections marks : List ℕ)

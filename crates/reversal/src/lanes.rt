@@ -199,10 +199,9 @@ fn turned_lane(owned: &OwnedLanes, i: usize) -> [u32; 10]
 {
     let turning = &owned.turning;
     let road = owned.road(i);
-    let r = road.0 as usize;
-    let mark = turning.mark_at(Some(r));
+    let mark = turning.is_marked(road);
     let lane = Lane::at(rows::row(owned.lanes, i));
-    lane_on(turning, lane, road, mark, turning.numbers(r)).words()
+    lane_on(turning, lane, road, mark, turning.numbers(road)).words()
 }
 
 // Writes the lanes, reversed.
@@ -243,7 +242,7 @@ fn edges_of(owned: &OwnedLanes, edges: &[f32], i: usize) -> [f32; 12]
     requires { (i < length owned.now.lanes.now / 10) × (i * 12 + 12 ≤ length edges.now) }
     ensures { result ≡ turned_edges owned.now.owner.now owned.now.turning.marks.now edges.now i }
 {
-    let mark = owned.turning.mark_at(Some(owned.road(i).0 as usize));
+    let mark = owned.turning.is_marked(owned.road(i));
     floats(turned_ends(edges, i, mark))
 }
 

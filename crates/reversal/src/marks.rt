@@ -1,5 +1,5 @@
 // Marks by row and by name, and what a mark turns.
-ghost use Rattle.std.specs.Prelude.{◌≡◌, true, ◌/◌, ◌≤◌, ◌<◌, Some, length};
+ghost use Rattle.std.specs.Prelude.{◌≡◌, true, suc, ◌/◌, ◌≤◌, ◌<◌, Some, length};
 ghost use Rattle.model.specs.Lists.{ascends, map_o};
 ghost use Rattle.model.specs.Reversal.{reverse_target, signed};
 ghost use Rattle.words.specs.Chain.{stored};
@@ -10,6 +10,7 @@ ghost use Rattle.rules.specs.ByRow.{numbers_at};
 ghost use Rattle.reversal.specs.Turned.{mark_at, mark_of, names_marked};
 
 use rules::parts::Sections;
+use tables::lookup::RoadId;
 use words::by_key::ByName;
 use words::name::Name;
 use words::target::Target;
@@ -47,14 +48,22 @@ impl<'a> Turning<'a> {
     }
 
     // The section numbers of a road.
-    pub fn numbers(&self, road: usize) -> &'a [u32]
-        requires { road < length self.now.roads.rows.now / 20 }
-        ensures { result.now ≡ numbers_at self.now.roads.rows.now self.now.sections.sections.now road }
+    pub fn numbers(&self, road: RoadId) -> &'a [u32]
+        requires { road.0 < length self.now.roads.rows.now / 20 }
+        ensures { result.now ≡ numbers_at self.now.roads.rows.now self.now.sections.sections.now road.0 }
     {
-        self.sections.numbers(road)
+        self.sections.numbers(road.0 as usize)
     }
 
-    // Whether the road of that row is marked; none is not.
+    // Whether a road is marked.
+    pub fn is_marked(&self, road: RoadId) -> bool
+        requires { road.0 < length self.now.roads.rows.now / 20 }
+        ensures { result ≡ mark_at self.now.marks.now (suc road.0) }
+    {
+        rows::flag(self.marks, road.0 as usize)
+    }
+
+    // Whether the road of a row that a search gave is marked; none is not.
     pub fn mark_at(&self, road: Option<usize>) -> bool
         requires { stored road ≤ length self.now.marks.now }
         ensures { result ≡ mark_at self.now.marks.now (stored road) }

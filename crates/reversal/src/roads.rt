@@ -28,11 +28,10 @@ fn turned_road(turning: &Turning, road: RoadId) -> [u32; 20]
     ensures { result ≡ reversed_road turning.now.roads.text.now turning.now.roads.rows.now turning.now.marks.now
         road.0 }
 {
-    let r = road.0 as usize;
-    let row = rows::row::<20>(turning.roads.rows, r);
+    let row = rows::row::<20>(turning.roads.rows, road.0 as usize);
     let before = turning.turned(Target::at(row, 4));
     let after = turning.turned(Target::at(row, 11));
-    if turning.mark_at(Some(r)) {
+    if turning.is_marked(road) {
         road_with(row, after, before)
     } else {
         road_with(row, before, after)
@@ -87,10 +86,9 @@ fn put_numbers(turning: &Turning, road: RoadId, out: &mut [u32])
         (turned_sections turning.now.roads.rows.now turning.now.sections.sections.now turning.now.marks.now road.0)
         out.old }
 {
-    let r = road.0 as usize;
-    let part = turning.numbers(r);
-    let at = rows::word(turning.roads.rows, r * 20 + 18);
-    if turning.mark_at(Some(r)) {
+    let part = turning.numbers(road);
+    let at = rows::word(turning.roads.rows, road.0 as usize * 20 + 18);
+    if turning.is_marked(road) {
         put_mirrored(part, at, out);
     } else {
         rows::put(out, at, part);

@@ -153,7 +153,7 @@ slide x (y ∷ ys) s e f = (
       (rw (f, e) at is, slide y ys j (rw e at rest) (p.0 ∙ f)),
 )
 
-lower : (x y : ℕ) (ys : List ℕ) → x < y → every (ltb y) ys ≡ true → every (ltb x) ys ≡ true
+pub lower : (x y : ℕ) (ys : List ℕ) → x < y → every (ltb y) ys ≡ true → every (ltb x) ys ≡ true
 lower x y [] h e = refl
 lower x y (z ∷ zs) h e =
     let a = ltb-true y z (left_on (ltb y z) (every (ltb y) zs) e) in

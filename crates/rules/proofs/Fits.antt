@@ -1,24 +1,29 @@
--- Parts of a table that follow one another.
+-- Parts of a table that follow one another, and the numbers in them.
 use Prim.Native.Nat.{ℕ, zero, suc, ◌+◌, ◌-◌, ◌*◌, ◌/◌, ◌<◌, ◌≤◌}
 use mathlib.Core.Path.{◌≡◌, refl, sym, ap, ap₂, ◌∙◌, subst}
-use mathlib.Core.List.{List, [], ◌++◌}
-use mathlib.Core.Bool.{Bool, true, false, ◌&&◌}
+use mathlib.Core.List.{List, [], ◌++◌, ◌∷◌}
+use mathlib.Core.Bool.{Bool, true, false, ◌&&◌, ◌||◌}
 use native.Mathlib.Numerals.{add-one}
 use native.Mathlib.Omega.{arith}
 use lib.ListN.{length, get_or, drop, drop_of_length-le}
 use lib.Seq.{drop-cons}
-use lib.Dec.{eqb}
-use borrow.Author.Tests.{eq-eqb, ne_eqb, eqb-true}
+use lib.Dec.{eqb, ltb}
+use borrow.Author.Tests.{eq-eqb, ne_eqb, eqb-true, lt-ltb, le-ltb}
 use Rattle.model.specs.Rows.{parts_fit, table}
 use Rattle.laws.proofs.Lay.{fit_le, length_table}
 use Rattle.laws.proofs.RowTests.{word_at}
 use Rattle.words.specs.Rows.{total}
 use Rattle.words.proofs.Laws.{total_le, total_more, total_none}
-use Rattle.words.proofs.Scans.{and_off, and_off_left, and_on, left_on, right_on}
+use Rattle.words.proofs.Scans.{and_off, and_off_left, and_on, left_on, right_on, and_step, row_fits}
 use Rattle.rules.specs.Parts.{Fit, counts}
-use Rattle.rules.proofs.Every.{table_end, table_more}
+use Rattle.rules.proofs.Every.{table_end, table_more, lower}
+use native.Mathlib.Nat.{le_of_suc-le-suc, not-suc-le-zero, div-add-mod'}
+use Rattle.model.specs.Lists.{ascends, every, member}
 
-fit_over : (kf kc i n : ℕ) (rs : List (List ℕ)) → n < i → parts_fit kf kc i n rs ≡ false
+pub in_row : (n w i k : ℕ) → i < n / w → k < w → i * w + k < n
+in_row n w i k h l = let a = row_fits (n / w) w i h in let b = div-add-mod' n w in omega arith
+
+pub fit_over : (kf kc i n : ℕ) (rs : List (List ℕ)) → n < i → parts_fit kf kc i n rs ≡ false
 fit_over kf kc i n rs h = go (parts_fit kf kc i n rs) refl
   where
     go : (b : Bool) → parts_fit kf kc i n rs ≡ b → parts_fit kf kc i n rs ≡ false
@@ -122,3 +127,42 @@ fit_in w kf kc ws n f r h =
 pub part_in : (w kf kc n : ℕ) (ws : List ℕ) → kf < w → kc < w → parts_fit kf kc 0 n (table w ws) ≡ true → (r : ℕ)
     → r < length ws / w → get_or ws (r * w + kf) 0 + get_or ws (r * w + kc) 0 ≤ n
 part_in w kf kc n ws lf lc e = fit_in w kf kc ws n (fit_of w kf kc n ws lf lc e)
+
+-- ---- numbers that ascend
+pub ascend_on : (ns : List ℕ) → ((k : ℕ) → k + 1 < length ns → get_or ns k 0 < get_or ns (k + 1) 0) → ascends ns ≡ true
+ascend_on [] h = refl
+ascend_on (x ∷ []) h = refl
+ascend_on (x ∷ y ∷ ys) h =
+    let ih : ascends (y ∷ ys) ≡ true = ascend_on (y ∷ ys) (λ k l. later k l) in
+    let lt : x < y = h 0 (omega arith) in
+    and_step (and_step (lt-ltb x y lt) (lower x y ys lt (left_on (every (ltb y) ys) (ascends ys) ih))) ih
+  where
+    later : (k : ℕ) → k + 1 < length (y ∷ ys) → get_or (y ∷ ys) k 0 < get_or (y ∷ ys) (k + 1) 0
+    later k l =
+        subst (λ (m : ℕ). get_or (y ∷ ys) k 0 < get_or (x ∷ y ∷ ys) m 0) (move k)
+        (h (suc k) (subst (λ (m : ℕ). m < length (x ∷ y ∷ ys)) (sym (move k)) (Prim.Native.Nat.suc-le-suc l)))
+      where
+        move : (k : ℕ) → suc k + 1 ≡ suc (k + 1)
+        move k = omega arith
+
+pub ascend_off : (ns : List ℕ) (k : ℕ) → k + 1 < length ns → get_or ns (k + 1) 0 ≤ get_or ns k 0 → ascends ns ≡ false
+ascend_off [] k h e = absurd (not-suc-le-zero h)
+ascend_off (x ∷ []) k h e = absurd (omega arith)
+ascend_off (x ∷ y ∷ ys) zero h e = ap (λ b. b && every (ltb x) ys && ascends (y ∷ ys)) (le-ltb x y e)
+ascend_off (x ∷ y ∷ ys) (suc k) h e =
+    and_off (every (ltb x) (y ∷ ys)) (ascends (y ∷ ys))
+    (ascend_off (y ∷ ys) k (le_of_suc-le-suc (subst (λ (m : ℕ). m < length (x ∷ y ∷ ys)) (move k) h))
+    (subst (λ (m : ℕ). get_or (x ∷ y ∷ ys) m 0 ≤ get_or (y ∷ ys) k 0) (move k) e))
+  where
+    move : (k : ℕ) → suc k + 1 ≡ suc (k + 1)
+    move k = omega arith
+
+-- ---- a number among others
+pub member_step : (n : ℕ) (xs : List ℕ) (k : ℕ) → k < length xs
+    → member n (drop k xs) ≡ eqb n (get_or xs k 0) || member n (drop (k + 1) xs)
+member_step n xs k h =
+    ap (member n) (drop-cons xs k 0 h)
+    ∙ ap (λ (m : ℕ). eqb n (get_or xs k 0) || member n (drop m xs)) (sym (add-one k))
+
+pub member_end : (n : ℕ) (xs : List ℕ) (k : ℕ) → length xs ≤ k → member n (drop k xs) ≡ false
+member_end n xs k h = ap (member n) (drop_of_length-le xs h)

@@ -258,7 +258,7 @@ pub road_row_le : (text roads : List ℕ) (m : Span) → road_row_of text roads 
 unfolding road_row_of
 road_row_le text roads m = last_le (length roads / 20) (bears text 20 0 roads m)
 
-listed_row : (text roads sections : List ℕ) (m : Span) (s road : ℕ)
+pub listed_row : (text roads sections : List ℕ) (m : Span) (s road : ℕ)
     → any (length roads / 20) (name_before text 20 0 roads) ≡ false → road ≡ road_row_of text roads m
     → listed_by roads sections road s ≡ known_in text roads sections m s
 unfolding road_row_of
@@ -266,7 +266,7 @@ listed_row text roads sections m s zero once e = sym (known_none text roads sect
 listed_row text roads sections m s (suc r) once e = sym (known_some text roads sections m s r once (sym e))
 
 -- an owner more
-owned_more : (text roads lanes owner : List ℕ) (i : ℕ) {f : ℕ} → Owned text roads lanes i owner → i < length owner
+pub owned_more : (text roads lanes owner : List ℕ) (i : ℕ) {f : ℕ} → Owned text roads lanes i owner → i < length owner
     → f ≡ road_row_of text roads (name_at 10 1 lanes i) → Owned text roads lanes (i + 1) (set owner i f)
 owned_more text roads lanes owner i {f} owned room found = record { at = go }
   where

@@ -1,8 +1,8 @@
 -- A target that is absent: its flag and its other six words.
 use Prim.Native.Nat.{ℕ, zero, suc, ◌+◌, ◌<◌, ◌≤◌}
-use mathlib.Core.Path.{◌≡◌, refl, sym, ap, ◌∙◌}
+use mathlib.Core.Path.{◌≡◌, refl, sym, ap, ◌∙◌, ap₂}
 use mathlib.Core.List.{List, [], ◌∷◌}
-use mathlib.Core.Bool.{Bool, true, false}
+use mathlib.Core.Bool.{Bool, true, false, ◌&&◌}
 use native.Mathlib.Nat.{add-suc, add-zero}
 use native.Mathlib.Omega.{arith}
 use lib.ListN.{length, get_or, take, drop}
@@ -13,6 +13,9 @@ use borrow.Author.Tests.{eqb-true, eqb-false, ne_eqb, le-leb, lt-leb}
 use Rattle.std.proofs.Math.Bool.{and-true, and_assoc}
 use Rattle.model.specs.Rules.{target_worded}
 use Rattle.rules.specs.ByRow.{target_fits}
+
+pub both_is : {r a b x y : Bool} → r ≡ (a && b) → a ≡ x → b ≡ y → r ≡ (x && y)
+both_is e f g = e ∙ ap₂ ◌&&◌ f g
 
 -- n words of a row, from word at + k on
 abbrev words_from : List ℕ → ℕ → ℕ → ℕ → List ℕ

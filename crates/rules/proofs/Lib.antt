@@ -6,3 +6,4 @@ pub mod OneEnd
 pub mod Places
 pub mod Counts
 pub mod Every
+pub mod Turning

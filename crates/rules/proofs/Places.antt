@@ -23,6 +23,7 @@ use Rattle.words.proofs.Laws.{any_same}
 use Rattle.words.proofs.Scans.{all_at, distinct_tab}
 use Rattle.rules.specs.ByRow.{Owned, listed_at, road_row_of}
 use Rattle.rules.proofs.Forms.{known_none, lanes_tab, last_same, name_at_lem}
+use Rattle.model.specs.Succession.{stands_at}
 
 -- names of known roads are equal just where their rows are
 module _ (text roads : List ℕ) where
@@ -38,7 +39,7 @@ module _ (text roads : List ℕ) where
   unfolding road_row_of bears
   named_so m r e = last_has (length roads / 20) r (λ q. same_in text (name_at 20 0 roads q) m) e
 
-  same_row : (a b : Span) → (road_row_of text roads a ≡ 0 → ⊥)
+  pub same_row : (a b : Span) → (road_row_of text roads a ≡ 0 → ⊥)
       → same_in text a b ≡ eqb (road_row_of text roads a) (road_row_of text roads b)
   same_row a b known = go (same_in text a b) refl
     where
@@ -93,3 +94,15 @@ module _ (text roads sections lanes owner : List ℕ)
       any_same i (λ j. same_key (same_in text) (lane_in (from 10 lanes j)) (lane_in (from 10 lanes i)))
       (is_key lanes owner (get_or owner i 0) (get_or lanes (i * 10 + 3) 0) (get_or lanes (i * 10 + 4) 0))
       (λ j lj. same_key_lem i j li (lt_trans lj li))))
+
+  -- a lane stands at a place of a known road just where its road's row, section and number are those of the place
+  pub stands_at_lem : (m : Span) (s k i : ℕ) → i < length lanes / 10
+      → stands_at (same_in text) m s k (lane_in (from 10 lanes i))
+      ≡ is_key lanes owner (road_row_of text roads m) s k i
+  unfolding stands_at lane_in is_key
+  stands_at_lem m s k i li =
+      ap₂ ◌&&◌ (ap₂ ◌&&◌ (ap (λ (n : Span). same_in text n m) (name_at_lem 10 1 lanes i)
+      ∙ same_row text roads (name_at 10 1 lanes i) m (known i li)
+      ∙ ap (λ (w : ℕ). eqb w (road_row_of text roads m)) (sym (o.at i li)))
+      (ap (λ (x : ℕ). eqb x s) (get_or-drop (i * 10) lanes 3 0)))
+      (ap (λ (x : ℕ). eqb x k) (get_or-drop (i * 10) lanes 4 0))

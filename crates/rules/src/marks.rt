@@ -78,7 +78,7 @@ pub fn one_ended(map: &MapTables, marks: &[u32]) -> bool
         (turns_twice map.now.text.now map.now.roads.now map.now.junctions.now marks.now) }
 {
     let mut chain = Chain::new();
-    by_key::link_names::<5>(&mut chain, map.text, map.junctions);
+    by_key::link_names::<5, 0>(&mut chain, map.text, map.junctions);
     let junctions = ByName::<5>::over(map.text, map.junctions, &chain);
     (0..marks.len()).all(|i| !rows::flag(marks, i) || !twice_named(map.roads, i * 20, &junctions))
 }

@@ -26,7 +26,7 @@ use Rattle.succession.specs.Finished.{finished_from, two_way_row, wants}
 use Rattle.succession.proofs.Absorbed.{length_absorb, ordered_rising, rising_ordered}
 use Rattle.succession.proofs.Absorbed.{written_front, written_take, written_twice}
 use Rattle.succession.proofs.Places.{tail_back, tail_is, tail_from}
-use Rattle.succession.proofs.Packing.{packed_more}
+use Rattle.succession.proofs.Packing.{packed_more, joined_long}
 use Rattle.succession.proofs.Turns.{own_most}
 use Rattle.laws.proofs.Sorting.{ordered_insert}
 
@@ -269,6 +269,12 @@ module _ (list : ℕ → List ℕ) (f : ℕ → ℕ) (few : (i : ℕ) → length
         ∙ packed_more list i at out₀ out (take at out ++ new) e ea
         (ap (λ (l : List ℕ). take at out ++ l) (en ∙ ap₂ written ex (tail_is at out h)))
         (let a = start_most (i + 1) in let b = upto in omega arith)
+
+    pub more_long : {new : List ℕ} → new ≡ written (joined (i + 1) list) out₀ → length new ≡ length out₀
+    more_long e =
+        ap length e
+        ∙ written_length (joined (i + 1) list) out₀
+        (let a = joined_long list (i + 1) in let b = start_most (i + 1) in let d = upto in omega arith)
 
 -- ---- all finished lists are no longer than the own lists and the finders' together
 module _ (lanes offsets ids finder_offsets finder_ids : List ℕ) (n : ℕ) where

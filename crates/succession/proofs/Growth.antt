@@ -7,7 +7,7 @@ use Rattle.words.proofs.Joins.{joined_le, joined_none}
 use Rattle.succession.specs.declared.entries.Run.{Run}
 use Rattle.succession.specs.ByRow.{Room, Took, ranged}
 use Rattle.succession.specs.Grown.{Grown}
-use Rattle.succession.proofs.Absorbed.{room_after, took_more, took_none}
+use Rattle.succession.proofs.Absorbed.{room_after, took_more, took_none, took_long}
 use Rattle.succession.proofs.Steps.{ranged_more}
 
 -- nothing taken in, whatever there was room for
@@ -64,3 +64,11 @@ module _ (a n : ℕ) (f : ℕ → List Entry) (old : Run) (room : Room old.len (
       → Grown (ranged a n f) old run
   turns_end i run g q =
       subst (λ (k : ℕ). Grown (ranged a k f) old run) (let z : i - a ≡ n = omega arith in z) g
+
+-- ---- the run is as long as before
+pub turns_long : (both : Bool) (start a n : ℕ) (f : ℕ → List Entry) (old : List ℕ) → Room start (ranged a n f) old
+    → (i m : ℕ) (run : List ℕ) → Took both start (ranged a (i - a) f) old run m → a ≤ i → i ≤ a + n
+    → length run ≡ length old
+turns_long both start a n f old room i m run t lo hi =
+    took_long both start (ranged a (i - a) f) old run m t
+    (let l = joined_le (i - a) n (λ k. f (a + k)) (omega arith) in omega (arith, room.fits))

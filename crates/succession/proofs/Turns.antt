@@ -10,7 +10,7 @@ use lib.ListN.{length, get_or, length-append}
 use Rattle.geometry.specs.declared.gap.Direction.{Direction}
 use Rattle.geometry.specs.declared.gap.Direction.TheVariants.{Backward, Both, Forward}
 use Rattle.model.specs.Lists.{pick}
-use Rattle.model.specs.Succession.{next_section}
+use Rattle.model.specs.Succession.{next_section, Entry}
 use Rattle.rules.specs.ByRow.{numbers_at}
 use Rattle.succession.specs.ByRow.{Room, Rows, cross_by_row, direction_at, exits_at_row, exits_by_row, exits_from_row}
 use Rattle.succession.specs.ByRow.{link_by_row, own_exits_by_row, own_exits_from_row, step_by_row}
@@ -54,3 +54,6 @@ module _ (R : Rows) (l : ℕ) where
   pub room_own : {old : List ℕ} → length (exits_by_row R l true) + length (exits_by_row R l false) ≤ length old
       → Room 0 (own_exits_by_row R l) old
   room_own h = record { rising = λ i j a b. absurd (not-suc-le-zero b); fits = omega (arith, own_most) }
+
+pub room_none : (es : List Entry) (old : List ℕ) → length es ≤ length old → Room 0 es old
+room_none es old h = record { rising = λ i j a b. absurd (not-suc-le-zero b); fits = omega arith }

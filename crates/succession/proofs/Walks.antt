@@ -21,7 +21,7 @@ use Rattle.succession.specs.Meeting.{meeting_hash, meets}
 use Rattle.succession.proofs.Homes.{last_past}
 use Rattle.succession.specs.declared.entries.Run.{Run}
 use Rattle.succession.specs.Grown.{Grown}
-use Rattle.succession.proofs.Growth.{grown_none, turns_on, turns_room}
+use Rattle.succession.proofs.Growth.{grown_none, turns_on, turns_room, turns_long}
 
 -- ---- ranges with nothing in some places
 module _ {A : Type 0} (g : ℕ → List A) where
@@ -175,6 +175,11 @@ module _ (R : Rows) (j w k : ℕ) (old : Run) {heads next : List ℕ} (sound : S
         subst (λ (es : List Entry). Grown es old run)
         (ap (λ (x : ℕ). joined x (meeting_at R j w k)) (let z : n - at ≡ c - 0 = omega arith in z)
         ∙ from_first (c - 0)) k'.grown
+
+    pub walk_long : length run.words.now ≡ length old.words.now
+    walk_long =
+        turns_long old.both old.len 0 n (meeting_at R j w k) old.words.now spread (n - at) run.len run.words.now
+        (so_far (n - at) refl).took (omega arith) (omega arith)
 
     pub walk_end : at ≡ 0 → Grown (junction_by_row R j w k) old run
     walk_end z =

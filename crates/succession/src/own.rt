@@ -55,7 +55,7 @@ fn link_rows(map: &MapTables, roads: &Chain, sides: &mut TwoEach, ends: &mut Two
         × Ended map.now.text.now map.now.roads.now map.now.junctions.now (length map.now.roads.now / 20) ends.new }
 {
     let mut chain = Chain::new();
-    by_key::link_names::<5>(&mut chain, map.text, map.junctions);
+    by_key::link_names::<5, 0>(&mut chain, map.text, map.junctions);
     let roads = ByName::<20>::over(map.text, map.roads, roads);
     let junctions = ByName::<5>::over(map.text, map.junctions, &chain);
     names::link_sides(&roads, map.connections, sides);

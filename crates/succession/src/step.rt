@@ -1,5 +1,6 @@
-// One step to a lane found by road, section and number: within a road, or by a pair.
-ghost use Rattle.std.specs.Prelude.{◌*◌, ◌/◌, ◌<◌, length};
+// A lane found by road, section and number; one step to it, within a road or by a pair.
+ghost use Rattle.std.specs.Prelude.{◌≡◌, ◌*◌, ◌/◌, ◌≤◌, ◌<◌, length};
+ghost use Rattle.words.specs.Chain.{stored};
 ghost use Rattle.words.specs.Fields.{number_read};
 ghost use Rattle.succession.specs.ByRow.{lane_row_of, one_at, step_by_row, pair_entry, Room};
 ghost use Rattle.succession.specs.Grown.{Grown};
@@ -8,6 +9,14 @@ use crate::entries::Run;
 use crate::walk::Walk;
 
 impl Walk<'_> {
+    // The lane of that road (row plus 1), section and number.
+    fn lookup(&self, road: u32, section: u32, number: u32) -> Option<usize>
+        ensures { (stored result ≡ lane_row_of self.now.places.lanes.now self.now.places.owner.now road section number)
+            × (stored result ≤ length self.now.places.lanes.now / 10) }
+    {
+        self.places.find(road, section, number)
+    }
+
     // Takes in the lane of that road (row plus 1), section and number, entered at its road's end, or at its start.
     pub fn enter(&self, road: u32, section: u32, number: u32, at_end: bool, run: &mut Run)
         requires { Room run.old.len (one_at self.now.places.lanes.now (lane_row_of self.now.places.lanes.now
@@ -15,7 +24,7 @@ impl Walk<'_> {
         ensures { Grown (one_at self.now.places.lanes.now (lane_row_of self.now.places.lanes.now
             self.now.places.owner.now road section number) at_end) run.old run.new }
     {
-        let row = self.places.find(road, section, number);
+        let row = self.lookup(road, section, number);
         run.enter(self.places.lanes, row, at_end);
     }
 

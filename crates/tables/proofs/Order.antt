@@ -2,14 +2,14 @@
 use Prim.Native.Nat.{ℕ, zero, suc, ◌/◌, ◌≤◌}
 use mathlib.Core.Path.{◌≡◌, refl, sym, ap, ◌∙◌}
 use mathlib.Core.List.{List, [], ◌∷◌, ◌++◌}
-use mathlib.Core.Bool.{Bool, true, false, ◌&&◌, cond, true≢false}
+use mathlib.Core.Bool.{Bool, true, false, ◌&&◌, cond, true≢false, not}
 use mathlib.Core.Option.{Option, none, some}
 use native.Mathlib.Omega.{arith}
 use lib.ListN.{drop, get_or, length, take}
 use lib.Dec.{eqb, leb}
 use borrow.Author.Tests.{eqb-true}
 use Rattle.model.specs.Calls.{gap_rules, lane_rules, rules_to5, table_rules}
-use Rattle.model.specs.Lists.{every}
+use Rattle.model.specs.Lists.{every, is_some}
 use Rattle.model.specs.Rows.{parts_fit, table}
 use Rattle.model.specs.Rules.{Rule, connections_fit, edges_sized, first_broken, lanes_sized, lists_sized, map_sized}
 use Rattle.model.specs.Rules.{marks_fit, roads_once, rule, section_parts_fit, sections_fit}
@@ -64,6 +64,19 @@ number_stays xs ys k first = first_stays xs ys (some k) (λ e. no_some k (sym e)
 pub then_first : (xs ys : List Rule) {o : Option ℕ} → none ≡ first_broken xs → o ≡ first_broken ys
     → o ≡ first_broken (xs ++ ys)
 then_first xs ys pass first = first ∙ sym (broken_append xs ys (sym pass))
+
+-- ---- a verdict
+-- a refusal is no admission
+pub refused : {A : Type 0} (k : ℕ) → some k ≡ none → A
+refused k e = absurd (no_some k (sym e))
+
+pub is_none : (o : Option ℕ) → not (is_some o) ≡ true → o ≡ none
+is_none none e = refl
+is_none (some k) e = absurd (true≢false (sym e))
+
+pub is_some_lem : (o : Option ℕ) → not (is_some o) ≡ false → o ≡ none → ⊥
+is_some_lem none e z = true≢false e
+is_some_lem (some k) e z = no_some k (sym z)
 
 -- ---- a first rule that asks more
 -- nothing more is broken

@@ -42,14 +42,14 @@ impl Links {
 }
 
 // 3 to 5, where 1 and 2 are kept. Links the roads by name.
-fn map_verdict(map: &MapTables, roads: &mut Chain) -> Result<(), Refusal>
+pub fn map_verdict(map: &MapTables, roads: &mut Chain) -> Result<(), Refusal>
     requires few { Few map.now.roads.now map.now.sections.now map.now.connections.now map.now.pairs.now }
     requires empty { Empty roads.old.heads roads.old.next }
     ensures refusal { refusal_of result ≡ first_broken (rules_to5 true true (map_read map.now)) }
     ensures chained { IfOk result (λ _. Chained (name_hash map.now.text.now 20 0 map.now.roads.now)
         (length map.now.roads.now / 20) roads.new.heads roads.new.next) }
 {
-    if by_key::link_names::<20>(roads, map.text, map.roads) {
+    if by_key::link_names::<20, 0>(roads, map.text, map.roads) {
         return Err(Refusal::RoadTwice);
     }
     if !parts::sections_fit(map.roads, map.sections) {
@@ -78,7 +78,7 @@ pub fn repair_verdict(map: &MapTables, roads: &mut Chain) -> Result<(), Refusal>
 }
 
 // 3 to 8, where 1 and 2 are kept.
-fn lane_verdict(map: &MapTables, lanes: &[u32], links: &mut Links) -> Result<(), Refusal>
+pub fn lane_verdict(map: &MapTables, lanes: &[u32], links: &mut Links) -> Result<(), Refusal>
     requires few { Few map.now.roads.now map.now.sections.now map.now.connections.now map.now.pairs.now
         × (length lanes.now / 10 ≤ 16384) }
     requires fresh { Fresh links.old }

@@ -1,8 +1,8 @@
 -- The words of a place are the part.
 use mathlib.Core.Path.{◌≡◌, refl, sym, ap, ◌∙◌}
-use mathlib.Core.Bool.{Bool, true, false, cond}
+use mathlib.Core.Bool.{Bool, true, false, cond, ◌&&◌}
 use mathlib.Core.List.{List, [], ◌∷◌}
-use Prim.Native.Nat.{ℕ, zero, suc, ◌-◌, ◌≤◌}
+use Prim.Native.Nat.{ℕ, zero, suc, ◌-◌, ◌≤◌, ◌<◌}
 use native.Mathlib.Omega.{arith}
 use lib.ListN.{length, take, drop, length-take}
 use Rattle.model.specs.Lists.{pick}
@@ -11,6 +11,9 @@ use Rattle.model.specs.Rows.{part, word}
 use Rattle.model.specs.Text.{bytes_of, name_bytes, placed}
 use Rattle.words.specs.Rows.{span}
 use Rattle.vorzhyket.specs.Places.{list_place, lookup_place, name_place, part_at, place_of}
+use lib.Dec.{leb, ltb}
+use borrow.Author.Tests.{ltb-true}
+use Rattle.words.proofs.Scans.{left_on}
 
 -- ---- a place read back
 module _ {A : Type 0} where
@@ -60,6 +63,35 @@ list_long offsets ids row = go (word offsets row) (word offsets (suc row)) (row_
     go : (begins ends : ℕ) (b : Bool) → length (cond b (part begins (ends - begins) ids) []) ≤ ends
     go begins ends false = omega arith
     go begins ends true = omega (arith, length-take (ends - begins) (drop begins ids))
+
+-- ---- what a part that is not empty says
+module _ (offsets ids : List ℕ) (row : ℕ) where
+  abbrev begins : ℕ
+  begins = word offsets row
+
+  abbrev ends : ℕ
+  ends = word offsets (suc row)
+
+  abbrev list : Bool → List ℕ
+  list listed = cond listed (part begins (ends - begins) ids) []
+
+  inside : row_listed offsets ids row ≡ true → suc row < length offsets
+  unfolding row_listed
+  inside listed =
+      let there = ltb (suc row) (length offsets) in
+      let ordered = leb begins ends in
+      ltb-true (suc row) (length offsets)
+      (left_on there ordered (left_on (there && ordered) (leb ends (length ids)) listed))
+
+  pub list_full : (length (list_part offsets ids row) ≡ 0 → ⊥)
+      → (suc row < length offsets) × (length (list_part offsets ids row) ≤ ends)
+  unfolding list_part
+  list_full = go (row_listed offsets ids row) refl
+    where
+      go : (b : Bool) → row_listed offsets ids row ≡ b → (length (list b) ≡ 0 → ⊥)
+          → (suc row < length offsets) × (length (list b) ≤ ends)
+      go false listed full = absurd (full refl)
+      go true listed full = (inside listed, omega (arith, length-take (ends - begins) (drop begins ids)))
 
 pub name_long : (text : List ℕ) (start size : ℕ) → length (name_bytes text (span start size)) ≤ size
 unfolding name_bytes bytes_of

@@ -4,25 +4,25 @@ use mathlib.Core.Path.{◌≡◌, refl, sym, ap, ap₂, ◌∙◌, subst}
 use mathlib.Core.List.{List, [], ◌∷◌}
 use mathlib.Core.Bool.{Bool, true, false, not, ◌&&◌, ◌||◌, false≢true, cond}
 use native.Mathlib.Omega.{arith}
-use native.Mathlib.Nat.{div-add-mod', le_of_lt}
+use native.Mathlib.Nat.{div-add-mod', le_of_lt, le_trans, mul-le-mul_right}
 use lib.ListN.{length, get_or, take, drop, drop_of_length-le, length-drop}
 use lib.Seq.{take_all}
 use lib.Dec.{eqb, ltb}
 use lib.Pointwise.{pointwise}
-use borrow.Author.Tests.{eq-eqb, eqb-true, eqb-false, le-leb, lt-leb, ltb-true, ltb-false}
+use borrow.Author.Tests.{eq-eqb, eqb-true, eqb-false, le-leb, lt-leb, ltb-true, ltb-false, ne_eqb}
 use Rattle.std.specs.Prelude.{Option, Some, None}
 use Rattle.std.specs.Option.{MatchOption, is_some, unwrap_or}
 use Rattle.std.specs.List.{fold, slice_range}
 use mathlib.Core.Logic.{◌⊎◌, ⊎_elim}
-use Rattle.model.specs.Records.{Span}
+use Rattle.model.specs.Records.{Span, direct, JunctionKind}
 use Rattle.model.specs.Text.{bytes_of, equal_bytes, name_bytes, placed, same_in}
-use Rattle.words.specs.Keys.{bears, hash_from, hash_name, id_hash, is_id, is_key, key_hash}
+use Rattle.words.specs.Keys.{bears, hash_from, hash_name, id_hash, is_id, is_key, key_hash, is_kind_of}
 use Rattle.words.specs.Keys.{lane_hash, name_hash}
 use Rattle.words.specs.Chain.{stored}
 use Rattle.words.specs.Rows.{any, last_of, name_at, span}
 use Rattle.words.proofs.Chains.{any_last, last_any}
 use Rattle.words.proofs.Laws.{any_more}
-use Rattle.words.proofs.Scans.{left_on, right_on}
+use Rattle.words.proofs.Scans.{left_on, right_on, row_fits}
 
 -- ---- bytes
 pub equal_refl : (a : List ℕ) → equal_bytes a a ≡ true
@@ -160,18 +160,56 @@ only_key lanes owner road s k q e =
     ∙ ap₂ (λ (x y : ℕ). key_hash road x y) (eqb-true (get_or lanes (q * 10 + 3) 0) s (right_on a b ab))
     (eqb-true (get_or lanes (q * 10 + 4) 0) k (right_on (a && b) d e))
 
+-- a junction of a kind and a name
+pub only_kind : (kind : JunctionKind) (text junctions : List ℕ) (n : Span) (q : ℕ)
+    → is_kind_of kind text junctions n q ≡ true → name_hash text 5 0 junctions q ≡ hash_name text n
+unfolding is_kind_of name_hash
+only_kind kind text junctions n q e = same_hash text (name_at 5 0 junctions q) n (right_on _ _ e)
+
+pub only_direct : (text junctions : List ℕ) (n : Span) (q : ℕ) → is_kind_of direct text junctions n q ≡ true
+    → name_hash text 5 0 junctions q ≡ hash_name text n
+only_direct = only_kind direct
+
+pub row_in : (n w k i len : ℕ) → i < n → n * w ≤ len → k < w → i * w + k < len
+row_in n w k i len h l m = let a = row_fits n w i h in omega arith
+
 pub rows_in : (n w : ℕ) → n / w * w ≤ n
 rows_in n w = let b = div-add-mod' n w in omega arith
 
+pub rows_le : (i n w len : ℕ) → i ≤ n → n * w ≤ len → i * w ≤ len
+rows_le i n w len h l = le_trans (mul-le-mul_right w h) l
+
+-- ---- a lane's key, test by test
+module _ (lanes owner : List ℕ) (w s k r : ℕ) where
+  pub key_other_road : (get_or owner r 0 ≡ w → ⊥) → false ≡ is_key lanes owner w s k r
+  unfolding is_key
+  key_other_road n =
+      sym (ap (λ b. b && eqb (get_or lanes (r * 10 + 3) 0) s && eqb (get_or lanes (r * 10 + 4) 0) k)
+      (ne_eqb (get_or owner r 0) w n))
+
+  pub key_other_section : get_or owner r 0 ≡ w → (get_or lanes (r * 10 + 3) 0 ≡ s → ⊥)
+      → false ≡ is_key lanes owner w s k r
+  unfolding is_key
+  key_other_section e n =
+      sym (ap₂ (λ a b. a && b && eqb (get_or lanes (r * 10 + 4) 0) k) (eq-eqb (get_or owner r 0) w e)
+      (ne_eqb (get_or lanes (r * 10 + 3) 0) s n))
+
+  pub key_number : get_or owner r 0 ≡ w → get_or lanes (r * 10 + 3) 0 ≡ s
+      → eqb (get_or lanes (r * 10 + 4) 0) k ≡ is_key lanes owner w s k r
+  unfolding is_key
+  key_number e f =
+      sym (ap₂ (λ a b. a && b && eqb (get_or lanes (r * 10 + 4) 0) k) (eq-eqb (get_or owner r 0) w e)
+      (eq-eqb (get_or lanes (r * 10 + 3) 0) s f))
+
 -- ---- a name's part of the text
-name_inside : (text : List ℕ) (s n : ℕ) → s + n ≤ length text
+pub name_inside : (text : List ℕ) (s n : ℕ) → s + n ≤ length text
     → take (s + n - s) (drop s text) ≡ name_bytes text (span s n)
 unfolding name_bytes placed bytes_of
 name_inside text s n h =
     ap (λ (k : ℕ). take k (drop s text)) (let e : s + n - s ≡ n = omega arith in e)
     ∙ sym (ap (λ b. cond b (take n (drop s text)) []) (le-leb (s + n) (length text) h))
 
-name_outside : (text : List ℕ) (s n : ℕ) → length text < s + n → [] ≡ name_bytes text (span s n)
+pub name_outside : (text : List ℕ) (s n : ℕ) → length text < s + n → [] ≡ name_bytes text (span s n)
 unfolding name_bytes placed
 name_outside text s n h = sym (ap (λ b. cond b (bytes_of text (span s n)) []) (lt-leb (s + n) (length text) h))
 

@@ -6,12 +6,13 @@ use mathlib.Core.Logic.{⊎_elim}
 use mathlib.Core.List.{List, [], ◌∷◌, ◌++◌, append_assoc, map, zip_with}
 use mathlib.Core.Bool.{Bool, true, false, ◌||◌}
 use borrow.Rule.Slice.PartMut.{put_mid}
-use native.Mathlib.Nat.{add_assoc, le_of_suc-le-suc, not-suc-le-zero, eq-or-lt_of_le, le_refl}
+use native.Mathlib.Nat.{add_assoc, le_of_suc-le-suc, not-suc-le-zero, eq-or-lt_of_le, le_refl, le_trans}
 use native.Mathlib.Nat.{le_step, zero-add}
 use native.Mathlib.Numerals.{add-one}
 use native.Mathlib.Omega.{arith}
-use lib.ListN.{length, get_or, take, drop, length-append, length-take, length-drop, get_or-append}
-use lib.Seq.{length-take-le, take_at, drop_at, drop-drop, drop-append-add, get_or_at}
+use lib.ListN.{length, get_or, set, take, drop, length-append, length-set, length-take, length-drop, get_or-append}
+use lib.Seq.{length-take-le, take_at, drop_at, drop-drop, drop-append-add, get_or_at, ext_get_or}
+use lib.Seq.{paste, paste-zero, paste-suc, take-length}
 use Rattle.model.specs.Rows.{written}
 use Rattle.words.specs.Rows.{any, spliced, tab, total}
 
@@ -43,6 +44,10 @@ pub any_none : (p : ℕ → Bool) → any 0 p ≡ false
 unfolding any
 any_none p = refl
 
+-- one more that p does not hold of
+pub any_step : (n : ℕ) (p : ℕ → Bool) → any n p ≡ false → p n ≡ false → any (n + 1) p ≡ false
+any_step n p e f = any_more n p ∙ or_none (any n p) (p n) e f
+
 pub any_hit : (n i : ℕ) (p : ℕ → Bool) → i < n → p i ≡ true → any n p ≡ true
 unfolding any
 any_hit zero i p h e = absurd (not-suc-le-zero h)
@@ -57,10 +62,18 @@ any_at (suc n) i p e h =
     ⊎_elim (λ q. ap p q ∙ or_false_right (any n p) (p n) e)
     (λ lt. any_at n i p (or_false_left (any n p) (p n) e) lt) (eq-or-lt_of_le (le_of_suc-le-suc h))
 
+pub any_all : (n : ℕ) (p : ℕ → Bool) → ((i : ℕ) → i < n → p i ≡ false) → any n p ≡ false
+unfolding any
+any_all zero p h = refl
+any_all (suc n) p h = or_none (any n p) (p n) (any_all n p (λ i lt. h i (le_step lt))) (h n (le_refl (suc n)))
+
 pub any_same : (n : ℕ) (p q : ℕ → Bool) → ((i : ℕ) → i < n → p i ≡ q i) → any n p ≡ any n q
 unfolding any
 any_same zero p q h = refl
 any_same (suc n) p q h = ap₂ ◌||◌ (any_same n p q (λ i lt. h i (le_step lt))) (h n (le_refl (suc n)))
+
+pub any_false_le : (n m : ℕ) (p : ℕ → Bool) → n ≤ m → any m p ≡ false → any n p ≡ false
+any_false_le n m p h e = any_all n p (λ i lt. any_at m i p e (le_trans lt h))
 
 -- ---- total
 pub total_none : (f : ℕ → ℕ) → 0 ≡ total 0 f
@@ -105,6 +118,13 @@ module _ {ℓ} {A : Type ℓ} where
       get_or-append (tab n f) (f n ∷ []) d i (subst (λ (k : ℕ). i < k) (sym (tab_length n f)) lt)
       ∙ tab_at n f i d lt)
       (eq-or-lt_of_le (le_of_suc-le-suc h))
+
+  -- a table is the tab of its rows
+  pub tab_get_d : (l : List A) (d : A) → tab (length l) (λ i. get_or l i d) ≡ l
+  tab_get_d l d =
+      let e = tab_length (length l) (λ i. get_or l i d) in
+      ext_get_or d (tab (length l) (λ i. get_or l i d)) l e
+      (λ i h. tab_at (length l) (λ k. get_or l k d) i d (rw e at h))
 
 -- map of a tab
 module _ {A B : Type 0} (g : A → B) where
@@ -180,6 +200,31 @@ module _ {B : Type 0} where
   put_part at row out is =
       let size : at + length row - at ≡ length row = omega arith in
       rw (is, size, drop-drop) (sym (append_assoc (take at out) row (drop (at + length row) out)))
+
+-- ---- what a loop that puts a row keeps before word k: the first k words of the row are in place
+pub record Putting {B : Type 0} (at : ℕ) (row old : List B) (k : ℕ) (out : List B) : Type 0 where
+  pub below : k ≤ length row
+  pub put : out ≡ paste old at row k
+  pub kept : length out ≡ length old
+
+module _ {B : Type 0} {at : ℕ} {row old : List B} where
+  pub putting_none : Putting at row old 0 old
+  putting_none = record { below = omega arith; put = paste-zero old at row; kept = refl }
+
+  module _ {k : ℕ} {out : List B} (putting : Putting at row old k out) where
+    pub putting_more : (d : B) → k < length row → at + length row ≤ length old
+        → Putting at row old (k + 1) (set out (at + k) (get_or row k d))
+    putting_more d less fits = record {
+      below = omega arith;
+      put = let room : at + k < length old = omega arith in
+          rw (putting.put, add-one, paste-suc old at row k d room less);
+      kept = simp length-set putting.kept;
+    }
+
+    -- the end
+    pub all_put : length row ≤ k → out ≡ spliced at row old
+    unfolding spliced
+    all_put past = let end : k ≡ length row = omega (arith, putting.below) in rw (putting.put, end, take-length)
 
 -- two tabs that agree below n
 module _ {A : Type 0} where

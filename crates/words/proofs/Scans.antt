@@ -51,6 +51,9 @@ pub all_more : (n : ℕ) (p : ℕ → Bool) → all (n + 1) p ≡ (all n p && p 
 unfolding all
 all_more n p = rw add-one
 
+pub all_step : (n : ℕ) (p : ℕ → Bool) → all n p ≡ true → p n ≡ true → all (n + 1) p ≡ true
+all_step n p e f = all_more n p ∙ and_step e f
+
 pub all_miss : (n i : ℕ) (p : ℕ → Bool) → i < n → p i ≡ false → all n p ≡ false
 unfolding all
 all_miss zero i p h e = absurd (not-suc-le-zero h)

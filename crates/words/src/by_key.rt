@@ -13,21 +13,21 @@ use crate::chain::{BUCKETS, Chain};
 use crate::kinds::JunctionKind;
 use crate::name::Name;
 
-// The name that row r of W words begins with.
-fn name_of<const W: usize>(rows: &[u32], r: usize) -> Name
-    requires { (1 < W) × (r < length rows.now / W) }
-    ensures { place_of result ≡ name_at W 0 rows.now r }
+// The name at word K of row r of W words.
+fn name_of<const W: usize, const K: usize>(rows: &[u32], r: usize) -> Name
+    requires { (K + 1 < W) × (r < length rows.now / W) }
+    ensures { place_of result ≡ name_at W K rows.now r }
 {
-    Name::at(rows, r * W)
+    Name::at(rows, r * W + K)
 }
 
-// Whether row r bears the name.
+// Whether row r of W words bears the name at word K.
 #[tactic(auto, unfolding(crate::specs::Keys::bears))]
-fn bears<const W: usize>(text: &[u8], rows: &[u32], name: Name, r: usize) -> bool
-    requires { (1 < W) × (r < length rows.now / W) }
-    ensures { result ≡ bears text.now W 0 rows.now (place_of name) r }
+fn bears<const W: usize, const K: usize>(text: &[u8], rows: &[u32], name: Name, r: usize) -> bool
+    requires { (K + 1 < W) × (r < length rows.now / W) }
+    ensures { result ≡ bears text.now W K rows.now (place_of name) r }
 {
-    name_of::<W>(rows, r).same(name, text)
+    name_of::<W, K>(rows, r).same(name, text)
 }
 
 // The rows of W words of a table by the name that each begins with.
@@ -67,7 +67,7 @@ impl<'a, const W: usize> ByName<'a, W> {
                 requires { (r < length rows.now / W) × (1 < W) × F.pre test r }
                 ensures { (t : Bool) × F.post test r t
                     × (result ≡ (t && bears text.entry.now W 0 rows.entry.now (place_of name) r)) }
-            { test(r) && bears::<W>(text, rows, name, r) },
+            { test(r) && bears::<W, 0>(text, rows, name, r) },
         )
     }
 
@@ -98,24 +98,28 @@ impl ByName<'_, 5> {
     }
 }
 
-// Links every row of W words by name, and returns whether two bear one name.
+// Links every row of W words by the name at its word K, and returns whether two bear one name.
 #[tactic(auto, unfolding(crate::specs::Keys::name_hash))]
-pub fn link_names<const W: usize>(chain: &mut Chain, text: &[u8], rows: &[u32]) -> bool
-    requires few { (1 < W) × (W ≤ 20) × (length rows.now / W ≤ 16384) }
+pub fn link_names<const W: usize, const K: usize>(
+    chain: &mut Chain,
+    text: &[u8],
+    rows: &[u32],
+) -> bool
+    requires few { (K + 1 < W) × (W ≤ 20) × (length rows.now / W ≤ 16384) }
     requires empty { Empty chain.old.heads chain.old.next }
-    ensures value { result ≡ any (length rows.now / W) (name_before text.now W 0 rows.now) }
-    ensures chained { Chained (name_hash text.now W 0 rows.now) (length rows.now / W) chain.new.heads chain.new.next }
+    ensures value { result ≡ any (length rows.now / W) (name_before text.now W K rows.now) }
+    ensures chained { Chained (name_hash text.now W K rows.now) (length rows.now / W) chain.new.heads chain.new.next }
 {
     chain.link_rows(
         rows.len() / W,
         |r| -> usize
-            requires { (1 < W) × (r < length rows.now / W) }
-            ensures { (result ≡ name_hash text.entry.now W 0 rows.entry.now r) × (result < 16384) }
-        { name_of::<W>(rows, r).bucket(text) },
+            requires { (K + 1 < W) × (r < length rows.now / W) }
+            ensures { (result ≡ name_hash text.entry.now W K rows.entry.now r) × (result < 16384) }
+        { name_of::<W, K>(rows, r).bucket(text) },
         |q, r| -> bool
-            requires { (1 < W) × (q < r) × (r < length rows.now / W) }
-            ensures { result ≡ bears text.entry.now W 0 rows.entry.now (name_at W 0 rows.entry.now r) q }
-        { bears::<W>(text, rows, name_of::<W>(rows, r), q) },
+            requires { (K + 1 < W) × (q < r) × (r < length rows.now / W) }
+            ensures { result ≡ bears text.entry.now W K rows.entry.now (name_at W K rows.entry.now r) q }
+        { bears::<W, K>(text, rows, name_of::<W, K>(rows, r), q) },
     )
 }
 

@@ -49,12 +49,14 @@ pub fn row<const W: usize>(table: &[u32], k: usize) -> &[u32; W]
     &rows[k]
 }
 
-// Writes a row into an output, from word `at` on.
+// Writes a row into an output, from word `at` on. (`copy_from_slice` would have the archive ask for C's `memmove`.)
 pub fn put<T: Copy>(out: &mut [T], at: usize, row: &[T])
     requires { at + length row.now ≤ length out.old }
     ensures { out.new ≡ spliced at row.now out.old }
 {
-    out[at..at + row.len()].copy_from_slice(row);
+    for k in 0..row.len() {
+        out[at + k] = row[k];
+    }
 }
 
 // Copies a table to the front of an output.

@@ -13,4 +13,4 @@ lane_on-requires-clause-within c =
 pub returns : goal.returns
 returns c =
     lane_turned _ _ _ _ _ _ _ c.road-road.result.0 c.words.ensures c.lane_on.ensures
-    (c.at-lane.ensures ∙ ap lane_in c.row.ensures) c.mark_at-mark.ensures c.numbers.ensures c.road-road.ensures
+    (c.at-lane.ensures ∙ ap lane_in c.row.ensures) c.is_marked-mark.ensures c.numbers.ensures c.road-road.ensures

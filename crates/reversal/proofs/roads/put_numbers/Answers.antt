@@ -32,14 +32,14 @@ put-requires c =
     c.requires.room in
     omega (arith, c.word-at.ensures.0, size, room)
 
-pub returns-then-mark_at : goal.returns-then-mark_at
-returns-then-mark_at c =
+pub returns-then-is_marked : goal.returns-then-is_marked
+returns-then-is_marked c =
     let t = c.args.turning.now in
     numbers_put t.roads.rows.now t.sections.sections.now t.marks.now c.args.road.0 _ true c.word-at.ensures.0
-    c.numbers-part.ensures (sym c.if-mark_at.ensures) c.put_mirrored.ensures
+    c.numbers-part.ensures (sym c.if-is_marked.ensures) c.put_mirrored.ensures
 
-pub returns-else-mark_at : goal.returns-else-mark_at
-returns-else-mark_at c =
+pub returns-else-is_marked : goal.returns-else-is_marked
+returns-else-is_marked c =
     let t = c.args.turning.now in
     numbers_put t.roads.rows.now t.sections.sections.now t.marks.now c.args.road.0 _ false c.word-at.ensures.0
-    c.numbers-part.ensures (sym c.if-mark_at.ensures) c.put.ensures
+    c.numbers-part.ensures (sym c.if-is_marked.ensures) c.put.ensures

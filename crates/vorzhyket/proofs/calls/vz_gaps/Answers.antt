@@ -5,7 +5,9 @@ use Rattle.vorzhyket.proofs.Left.{leaves}
 use Rattle.vorzhyket.proofs.calls.vz_gaps.Goals as goal
 
 pub accepted-requires : goal.accepted-requires
-accepted-requires c = (omega arith, (omega arith, rw c.in-Ok.is at (gaps_counted _ _ _ _ c.link_gaps.ensures)))
+accepted-requires c =
+    let few = rw c.in-Ok.is at (gaps_counted _ _ _ _ c.link_gaps.ensures) in
+    (omega arith, (omega arith, (omega (arith, few), tt)))
 
 pub returns-in-Ok : goal.returns-in-Ok
 returns-in-Ok c =

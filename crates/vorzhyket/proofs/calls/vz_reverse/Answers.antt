@@ -5,7 +5,9 @@ use Rattle.vorzhyket.proofs.Left.{leaves_given}
 use Rattle.vorzhyket.proofs.calls.vz_reverse.Goals as goal
 
 pub accepted-requires : goal.accepted-requires
-accepted-requires c = (omega arith, (omega arith, rw c.in-Ok.is at (reversal_counted _ _ _ c.reverse.ensures.outcome)))
+accepted-requires c =
+    let few = rw c.in-Ok.is at (reversal_counted _ _ _ c.reverse.ensures.outcome) in
+    (omega arith, (omega arith, (omega (arith, few), (omega (arith, few), (omega (arith, few), (omega (arith, few), (omega (arith, few), (omega (arith, few), tt))))))))
 
 pub returns-in-Ok : goal.returns-in-Ok
 returns-in-Ok c =

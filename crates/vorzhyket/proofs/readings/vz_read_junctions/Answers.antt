@@ -6,7 +6,8 @@ use Rattle.vorzhyket.proofs.readings.vz_read_junctions.Goals as goal
 
 pub accepted-requires : goal.accepted-requires
 accepted-requires c =
-    (omega arith, (omega arith, rw c.in-Ok.is at (junctions_counted _ _ c.read_junctions.ensures.outcome)))
+    let few = rw c.in-Ok.is at (junctions_counted _ _ c.read_junctions.ensures.outcome) in
+    (omega arith, (omega arith, (omega (arith, few), (omega (arith, few), (omega (arith, few), (omega (arith, few), tt))))))
 
 pub returns-in-Ok : goal.returns-in-Ok
 returns-in-Ok c =

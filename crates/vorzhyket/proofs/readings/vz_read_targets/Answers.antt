@@ -5,7 +5,9 @@ use Rattle.vorzhyket.proofs.Left.{leaves}
 use Rattle.vorzhyket.proofs.readings.vz_read_targets.Goals as goal
 
 pub accepted-requires : goal.accepted-requires
-accepted-requires c = (omega arith, (omega arith, rw c.in-Ok.is at (targets_counted _ _ _ c.read_targets.ensures)))
+accepted-requires c =
+    let few = rw c.in-Ok.is at (targets_counted _ _ _ c.read_targets.ensures) in
+    (omega arith, (omega arith, (omega (arith, few), (omega (arith, few), tt))))
 
 pub returns-in-Ok : goal.returns-in-Ok
 returns-in-Ok c =

@@ -8,8 +8,8 @@ unfolding name_hash name_before
 returns g c =
     let text = c.args.text.now in
     let rows = c.args.rows.now in
-    let made = c.link_rows.ensures (name_hash text g.row.W 0 rows)
-    (λ r. bears text g.row.W 0 rows (name_at g.row.W 0 rows r))
+    let made = c.link_rows.ensures (name_hash text g.row.W g.row.K rows)
+    (λ r. bears text g.row.W g.row.K rows (name_at g.row.W g.row.K rows r))
     (λ r b less answer. answer.0) (λ q r t before less answer. answer)
-    (λ r less q has. only_name text g.row.W 0 rows _ q has) in
+    (λ r less q has. only_name text g.row.W g.row.K rows _ q has) in
     record { value = made.0; chained = made.1 }

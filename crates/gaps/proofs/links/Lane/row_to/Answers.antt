@@ -12,11 +12,12 @@ pub row_of-requires : goal.row_of-requires
 row_of-requires c =
     let lanes = c.args.self.now.links.lanes.lanes.now in
     let most = last_le (length lanes / 10) (is_id lanes c.args.id.0) in
-    omega (arith, c.in_ok-find.ensures)
+    omega (arith, c.in_ok-lane_row.ensures)
 
 pub returns : goal.returns
 returns c =
     let links = c.args.self.now.links in
     subst (Gives c.row_of.result)
-    (link_row_lem links.lanes.lanes.now links.edges.now c.args.self.now.row c.args.id.0 c.in_ok-find.ensures refl refl)
+    (link_row_lem links.lanes.lanes.now links.edges.now c.args.self.now.row c.args.id.0 c.in_ok-lane_row.ensures refl
+    refl)
     c.row_of.ensures

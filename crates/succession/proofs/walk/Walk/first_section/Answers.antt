@@ -1,0 +1,12 @@
+use Rattle.std.proofs.Common.{false, ◌∙◌}
+use Rattle.std.proofs.lemmas.Option.{unwrap_or-slice_get}
+use Rattle.succession.proofs.Steps.{ends_first, ends_none}
+use Rattle.succession.proofs.walk.Walk.first_section.Goals as goal
+
+pub returns-in_default : goal.returns-in_default
+returns-in_default c = rw c.in_default.is (ends_none false)
+
+pub returns : goal.returns
+returns c =
+    let read = unwrap_or-slice_get c.numbers.result.now 0 0 ∙ ends_first c.numbers.result.now in
+    rw c.in-Some.is (cc (read, c.first.ensures.value))
